@@ -1,0 +1,101 @@
+-- Laws of the key forms: no two meet within their bounds, so that a row put at one key is a change there and nowhere else. Assumes nothing.
+use mathlib.Core.Bool.{Bool, true, false}
+use mathlib.Core.Path.{_≡_, refl, sym, _∙_, ap}
+use mathlib.Core.Logic.{_⊎_, inl, inr}
+use mathlib.Core.Option.{Option, none, some}
+use Prim.Native.Nat.{ℕ, _+_, _*_, _^_, _≤_, _<_}
+use native.Mathlib.Omega.{arith}
+use lib.Dec.{eqb, ltb, ltb→lt, lt→ltb, nltb→le}
+use Rattle.rules.specs.Basics.{if_then_else_, update}
+use Rattle.rules.specs.Keys.{tableOf, logOf}
+use Rattle.rules.proofs.Updates.{eqb-cases, T-true, true-T, update-same, update-other}
+
+abbrev EqbCases : ℕ → ℕ → Type 0
+EqbCases j k = ((j ≡ k) × (eqb j k ≡ true)) ⊎ ((j ≡ k → ⊥) × (eqb j k ≡ false))
+
+less : (m n : ℕ) → ltb m n ≡ true → m < n
+less m n e = ltb→lt m n (true-T (ltb m n) e)
+
+below : (m n : ℕ) → m < n → ltb m n ≡ true
+below m n h = T-true (ltb m n) (lt→ltb m n h)
+
+eqb-no : (j k : ℕ) → (j ≡ k → ⊥) → eqb j k ≡ false
+eqb-no j k n = go (eqb-cases j k)
+  where
+    go : EqbCases j k → eqb j k ≡ false
+    go (inl h) = absurd (n (h .0))
+    go (inr h) = h .1
+
+not-below : (j n : ℕ) → ltb j n ≡ false → n ≤ j
+not-below j n e = nltb→le j n (rw e tt)
+
+module _ (f : ℕ → Option ℕ) (v : ℕ) where
+  -- a data row put is a change of the table, and none of the log
+  module _ (k : ℕ) (h : k < 2 ^ 32) where
+    pub data-put : (j : ℕ) → tableOf (update f (2 ^ 63 + k) (some v)) j ≡ update (tableOf f) k (some v) j
+    data-put j = go (ltb j (2 ^ 32)) refl (eqb-cases j k)
+      where
+        go : (b : Bool) → ltb j (2 ^ 32) ≡ b → EqbCases j k →
+            if_then_else_ b (update f (2 ^ 63 + k) (some v) (2 ^ 63 + j)) none ≡ if_then_else_ (eqb j k) (some v) (if_then_else_ b (f (2 ^ 63 + j)) none)
+        go true e (inl c) =
+            ap (λ i. update f (2 ^ 63 + k) (some v) (2 ^ 63 + i)) (c .0) ∙ update-same f (2 ^ 63 + k) (some v)
+            ∙ ap (λ b. if_then_else_ b (some v) (f (2 ^ 63 + j))) (sym (c .1))
+        go true e (inr c) =
+            update-other f (2 ^ 63 + k) (some v) (2 ^ 63 + j) (λ p. c .0 (omega arith)) ∙ ap (λ b. if_then_else_ b (some v) (f (2 ^ 63 + j))) (sym (c .1))
+        go false e (inl c) = absurd (let l = not-below j (2 ^ 32) e in omega arith)
+        go false e (inr c) = rw (c .1) refl
+
+    pub data-put-log : (id t : ℕ) → logOf (update f (2 ^ 63 + k) (some v)) id t ≡ logOf f id t
+    data-put-log id t = go (ltb id (2 ^ 32)) (ltb t 65536) refl refl
+      where
+        go : (b c : Bool) → ltb id (2 ^ 32) ≡ b → ltb t 65536 ≡ c →
+            if_then_else_ b (if_then_else_ c (update f (2 ^ 63 + k) (some v) (id * 65536 + t)) none) none ≡
+            if_then_else_ b (if_then_else_ c (f (id * 65536 + t)) none) none
+        go true true d e =
+            let l = less id (2 ^ 32) d in
+            let l′ = less t 65536 e in
+            update-other f (2 ^ 63 + k) (some v) (id * 65536 + t) (λ p. omega arith)
+        go true false d e = refl
+        go false c d e = refl
+
+  -- a log row put is a change of the log, and none of the table
+  module _ (id t : ℕ) (h : id < 2 ^ 32) (h′ : t < 65536) where
+    log-same : logOf (update f (id * 65536 + t) (some v)) id t ≡ some v
+    log-same = rw (below id (2 ^ 32) h, below t 65536 h′) (update-same f (id * 65536 + t) (some v))
+
+    log-other : (i u : ℕ) → (i ≡ id → u ≡ t → ⊥) → logOf (update f (id * 65536 + t) (some v)) i u ≡ logOf f i u
+    log-other i u n = go (ltb i (2 ^ 32)) (ltb u 65536) refl
+      where
+        go : (b c : Bool) → ltb u 65536 ≡ c →
+            if_then_else_ b (if_then_else_ c (update f (id * 65536 + t) (some v) (i * 65536 + u)) none) none ≡
+            if_then_else_ b (if_then_else_ c (f (i * 65536 + u)) none) none
+        go true true e =
+            update-other f (id * 65536 + t) (some v) (i * 65536 + u)
+            (λ p. let l = less u 65536 e in let q : i ≡ id = omega arith in n q (omega arith))
+        go true false e = refl
+        go false c e = refl
+
+    pub log-put : (i u : ℕ) → logOf (update f (id * 65536 + t) (some v)) i u ≡ update (logOf f) id (update (logOf f id) t (some v)) i u
+    log-put i u = go (eqb-cases i id) (eqb-cases u t)
+      where
+        row : ℕ → Option ℕ
+        row = update (logOf f id) t (some v)
+
+        at-id : i ≡ id → update (logOf f) id row i u ≡ row u
+        at-id p = ap (λ x. update (logOf f) id row x u) p ∙ ap (λ g. g u) (update-same (logOf f) id row)
+
+        go : EqbCases i id → EqbCases u t → logOf (update f (id * 65536 + t) (some v)) i u ≡ update (logOf f) id row i u
+        go (inl a) (inl b) =
+            ap (λ x. logOf (update f (id * 65536 + t) (some v)) x u) (a .0) ∙ ap (logOf (update f (id * 65536 + t) (some v)) id) (b .0) ∙ log-same
+            ∙ sym (at-id (a .0) ∙ ap row (b .0) ∙ update-same (logOf f id) t (some v))
+        go (inl a) (inr b) =
+            log-other i u (λ p q. b .0 q)
+            ∙ sym (at-id (a .0) ∙ update-other (logOf f id) t (some v) u (b .0) ∙ ap (λ x. logOf f x u) (sym (a .0)))
+        go (inr a) b = log-other i u (λ p q. a .0 p) ∙ sym (ap (λ g. g u) (update-other (logOf f) id row i (a .0)))
+
+    pub log-put-data : (k : ℕ) → tableOf (update f (id * 65536 + t) (some v)) k ≡ tableOf f k
+    log-put-data k = go (ltb k (2 ^ 32))
+      where
+        go : (b : Bool) → if_then_else_ b (update f (id * 65536 + t) (some v) (2 ^ 63 + k)) none ≡ if_then_else_ b (f (2 ^ 63 + k)) none
+        go true = update-other f (id * 65536 + t) (some v) (2 ^ 63 + k) (λ p. omega arith)
+        go false = refl

@@ -1,0 +1,14 @@
+pub mod Updates
+pub mod Questions
+pub mod Each
+pub mod Keys
+pub mod Follow
+pub mod Invariant
+pub mod Core
+pub mod Turn
+pub mod Calls
+pub mod Positions
+pub mod Blocks
+pub mod Theorem
+pub mod WholeCase
+pub mod Edges

@@ -1,0 +1,161 @@
+-- Demand 3: the runtime is the plain machine. Assumes nothing.
+use mathlib.Core.Bool.{Bool, true}
+use mathlib.Core.Path.{_≡_, refl, sym, _∙_, ap, subst}
+use mathlib.Core.List.{List, [], _∷_, reverse, List·Memᴰ, List·Memᴰ·not-nil}
+use mathlib.Core.Option.{Option, none, some, Option·some-injective}
+use Prim.Native.Nat.{ℕ, suc, _<_}
+use native.Mathlib.Omega.{arith}
+use lib.ListN.{getD, length}
+use Rattle.rules.specs.Basics.{if_then_else_, isSome}
+use Rattle.rules.specs.Questions.{No}
+use Rattle.rules.specs.Instructions.{Pack, act, actAt}
+use Rattle.rules.specs.Store.{Request}
+use Rattle.rules.specs.Calls.{codeOf, State, Agent, Outcome, refusal, rule, unless, turnIn, turnOn, turn, call, History, stateAfter}
+use Rattle.rules.specs.Plain.{Reply, Run, Machine, Tallies, accepted, tallied, machineAfter, talliesAfter, repliesAfter, firstReplies}
+use Rattle.rules.specs.Checked.{Checked, CheckedPack}
+use Rattle.rules.specs.Demand3.{InTime, PlainRun, Demand3, SoundAgent}
+use Rattle.rules.proofs.Updates.{none-some, false-true, update-same}
+use Rattle.rules.proofs.Follow.{Log, finished}
+use Rattle.rules.proofs.Invariant.{followed, Live, Settled, requestOf, Inv}
+use Rattle.rules.proofs.Turn.{book-is, outcome-is, tallied-is, tallyOf}
+use Rattle.rules.proofs.Questions.{ask-none}
+use Rattle.rules.proofs.Calls.{call-keeps}
+use Rattle.rules.proofs.Positions.{follow-position}
+
+-- The invariant holds after each list of calls.
+pub invariant : (pack : Pack) (room : ℕ) (calls : History) →
+    Inv pack (stateAfter pack room calls) (machineAfter pack room calls) (talliesAfter pack room calls) (repliesAfter pack room calls)
+unfolding stateAfter machineAfter talliesAfter repliesAfter firstReplies
+invariant pack room [] =
+    record {
+      core =
+          record {
+            tables = refl;
+            book = λ id. refl;
+            valid = λ id q e. none-some q refl e;
+            progress = λ id r e. none-some r refl e;
+            unlogged = λ id e p t. refl;
+            settled = λ r h. absurd (List·Memᴰ·not-nil h);
+            firsts = refl;
+          };
+      slots = λ slot a e. none-some a refl e;
+    }
+invariant pack room (c ∷ before) =
+    call-keeps pack (stateAfter pack room before) (machineAfter pack room before) (talliesAfter pack room before) (repliesAfter pack room before)
+    (invariant pack room before) c .kept
+
+-- Two replies to one id are what its request comes to.
+settled-once : (pack : Pack) (log : Log) (runs : ℕ → Option Run) (id v v′ : ℕ) →
+    Settled pack log runs id v → Settled pack log runs id v′ → v ≡ v′
+settled-once pack log runs id v v′ h h′ = go (h′ .run) (Option·some-injective (h .run) (h′ .run) (sym (h .run-is) ∙ h′ .run-is)) (h′ .ended)
+  where
+    go : (w : Run) → h .run ≡ w → followed pack log id (w .request) (w .moveCount) ≡ some (finished v′) → v ≡ v′
+    go w p e =
+        let e₁ = h .ended in
+        let e₂ : followed pack log id (h .run .request) (h .run .moveCount) ≡ some (finished v′) =
+        subst (λ (x : Run). followed pack log id (x .request) (x .moveCount) ≡ some (finished v′)) (sym p) e in
+        cc
+
+-- An accepted turn is one of an agent, and the last that its workflow's size allows is a reply.
+module _ (pack : Pack) (checked : CheckedPack pack) (room : ℕ) (calls : History) (slot : ℕ) where
+  abbrev s : State
+  s = stateAfter pack room calls
+
+  abbrev m : Machine
+  m = machineAfter pack room calls
+
+  abbrev t : Tallies
+  t = talliesAfter pack room calls
+
+  abbrev rs : List Reply
+  rs = repliesAfter pack room calls
+
+  live-in-time : (a : Agent) → s .slots slot ≡ some a → (live : Live pack (s .store .log) (m .runs) (t slot) a) →
+      call pack s (turn slot) .answer ≡ turnIn pack s slot (some a) .answer →
+      accepted (call pack s (turn slot) .answer) ≡ true → InTime pack room calls slot
+  unfolding talliesAfter turnOn actAt act
+  live-in-time a held live same allow =
+      let inv = invariant pack room calls in
+      let code = codeOf pack (live .run .request) in
+      let own = book-is pack s m t rs inv slot a live in
+      let c : Checked code = checked (live .run .request .workflow) (inv .core .valid (a .id) (live .run .request) own) in
+      let pos = follow-position code c (s .store .log) (a .id) (live .run .request) (live .turns) (a .place) (a .step) (live .there) in
+      record {
+        agent = a;
+        turns = suc (live .turns);
+        request = live .run .request;
+        in-slot = held;
+        counted =
+            ap (λ (b : Bool). if_then_else_ b (tallied t (turn slot)) t slot) allow
+            ∙ ap (λ (f : Tallies). f slot) (tallied-is pack s m t rs inv slot a live)
+            ∙ update-same t slot (tallyOf (a .id) (suc (live .turns)));
+        booked = own;
+        at-most = omega arith;
+        last =
+            λ e.
+            let l = c .last-returns (a .place .position) (omega arith) in (
+              getD (a .place .registers) (l .0) 0,
+              same
+                  ∙ ap (λ (o : Outcome). o .answer) (outcome-is pack s m t rs inv slot a live)
+                  ∙ ap (λ x. turnOn s slot a code (act x (a .place)) .answer) (l .1),
+            );
+      }
+
+  turn-in-time : accepted (call pack s (turn slot) .answer) ≡ true → InTime pack room calls slot
+  unfolding call refusal rule unless
+  turn-in-time allow = go (refusal pack s (turn slot)) refl
+    where
+      held : (o : Option Agent) → s .slots slot ≡ o → isSome o ≡ true → refusal pack s (turn slot) ≡ none → InTime pack room calls slot
+      held none e u q = false-true refl u
+      held (some a) e u q =
+          live-in-time a e (invariant pack room calls .slots slot a e)
+          (ap (λ (o : Option No). unless o s (rule pack s (turn slot)) .answer) q ∙ ap (λ (o : Option Agent). turnIn pack s slot o .answer) e) allow
+
+      go : (o : Option No) → refusal pack s (turn slot) ≡ o → InTime pack room calls slot
+      go none q = held (s .slots slot) refl (ask-none _ _ _ (ask-none _ _ _ q .1) .0) q
+      go (some n) q = false-true refl (ap (λ (o : Option No). accepted (unless o s (rule pack s (turn slot)) .answer)) (sym q) ∙ allow)
+
+-- Rows, replies and equal replies: for any pack, checked or not.
+module _ (pack : Pack) (room : ℕ) (calls : History) where
+  pub rows-are : (p k : ℕ) → stateAfter pack room calls .store .rows p k ≡ machineAfter pack room calls .tables p k
+  rows-are p k = ap (λ (T : ℕ → ℕ → Option ℕ). T p k) (invariant pack room calls .core .tables)
+
+  pub replies-are : firstReplies (repliesAfter pack room calls) ≡ machineAfter pack room calls .replies
+  replies-are = invariant pack room calls .core .firsts
+
+  pub equal-are : (r r′ : Reply) → List·Memᴰ r (repliesAfter pack room calls) → List·Memᴰ r′ (repliesAfter pack room calls) → r .id ≡ r′ .id → r .value ≡ r′ .value
+  equal-are r r′ h h′ e =
+      let s = stateAfter pack room calls in
+      let m = machineAfter pack room calls in
+      let inv = invariant pack room calls in
+      settled-once pack (s .store .log) (m .runs) (r′ .id) (r .value) (r′ .value)
+      (subst (λ j. Settled pack (s .store .log) (m .runs) j (r .value)) e (inv .core .settled r h))
+      (inv .core .settled r′ h′)
+
+-- The theorem.
+pub plain-run : (pack : Pack) → CheckedPack pack → (room : ℕ) (calls : History) → PlainRun pack room calls
+plain-run pack checked room calls =
+    record {
+      rows = rows-are pack room calls;
+      replies = replies-are pack room calls;
+      equal = equal-are pack room calls;
+      in-time = turn-in-time pack checked room calls;
+    }
+
+pub demand3 : Demand3
+demand3 pack checked room calls = plain-run pack checked room (reverse calls)
+
+-- booked workflows are below m
+pub booked-below : (pack : Pack) (room : ℕ) (calls : History) (id : ℕ) (q : Request) → stateAfter pack room calls .store .book id ≡ some q → q .workflow < length pack
+booked-below pack room calls id q e = invariant pack room calls .core .valid id q e
+
+-- Question 14 never says no: after each list of calls, each slot is empty or holds a sound agent.
+pub sound-agents : (pack : Pack) → CheckedPack pack → (room : ℕ) (calls : History) (slot : ℕ) (a : Agent) →
+    stateAfter pack room calls .slots slot ≡ some a → SoundAgent pack (stateAfter pack room calls) a
+sound-agents pack checked room calls slot a e =
+    let inv = invariant pack room calls in
+    let live = inv .slots slot a e in
+    let book = sym (inv .core .book (a .id)) ∙ ap requestOf (live .run-is) in
+    let p = follow-position (codeOf pack (live .run .request)) (checked (live .run .request .workflow) (inv .core .valid (a .id) (live .run .request) book))
+    (stateAfter pack room calls .store .log) (a .id) (live .run .request) (live .turns) (a .place) (a .step) (live .there) in
+    record { request = live .run .request; booked = book; below = p .1; side = p .2; steps = p .3 }

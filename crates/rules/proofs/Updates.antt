@@ -1,0 +1,123 @@
+-- Functions that are changed at one number, and logs with one row more. Assumes nothing.
+use mathlib.Core.Bool.{Bool, true, false}
+use mathlib.Core.Path.{_≡_, refl, sym, _∙_, ap}
+use mathlib.Core.Logic.{_⊎_, inl, inr}
+use mathlib.Core.Option.{Option, none, some}
+use Prim.Native.Nat.{ℕ, suc, _≤_, _<_}
+use native.Mathlib.Omega.{arith}
+use lib.Dec.{T, eqb, ltb, eqb→eq, eqb-refl, ltb→lt, nltb→le}
+use Rattle.rules.specs.Basics.{if_then_else_, update}
+use Rattle.rules.specs.Store.{logged}
+
+pub none-some {ℓ} : {A : Type 0} {B : Type ℓ} {o : Option A} (x : A) → o ≡ none → o ≡ some x → B
+none-some {o} x e e′ = absurd (let z : _≡_ {A = ℕ} 0 1 = cc in omega arith)
+
+pub false-true {ℓ} : {B : Type ℓ} {b : Bool} → b ≡ false → b ≡ true → B
+false-true {b} e e′ = absurd (let z : _≡_ {A = ℕ} 0 1 = cc in omega arith)
+
+pub le-cases : (m n : ℕ) → m ≤ n → (m ≡ n) ⊎ (m < n)
+le-cases m n h = go (ltb m n) refl
+  where
+    go : (b : Bool) → ltb m n ≡ b → (m ≡ n) ⊎ (m < n)
+    go true e = inr (ltb→lt m n (rw e tt))
+    go false e = inl (let l : n ≤ m = nltb→le m n (rw e tt) in omega arith)
+
+pub T-true : (b : Bool) → T b → b ≡ true
+T-true true t = refl
+T-true false t = absurd t
+
+pub true-T : (b : Bool) → b ≡ true → T b
+true-T b e = rw e tt
+
+pub eqb-same : (k : ℕ) → eqb k k ≡ true
+eqb-same k = T-true (eqb k k) (eqb-refl k)
+
+pub eqb-cases : (j k : ℕ) → ((j ≡ k) × (eqb j k ≡ true)) ⊎ ((j ≡ k → ⊥) × (eqb j k ≡ false))
+eqb-cases j k = go (eqb j k) refl
+  where
+    go : (b : Bool) → eqb j k ≡ b → ((j ≡ k) × (eqb j k ≡ true)) ⊎ ((j ≡ k → ⊥) × (eqb j k ≡ false))
+    go true e = inl (eqb→eq j k (true-T (eqb j k) e), e)
+    go false e = inr (λ p. false-true e (rw p (eqb-same k)), e)
+
+module _ {A : Type 0} (f : ℕ → A) (k : ℕ) (v : A) where
+  pub update-same : update f k v k ≡ v
+  update-same = rw (eqb-same k) refl
+
+  pub update-other : (j : ℕ) → (j ≡ k → ⊥) → update f k v j ≡ f j
+  update-other j n = go (eqb-cases j k)
+    where
+      go : ((j ≡ k) × (eqb j k ≡ true)) ⊎ ((j ≡ k → ⊥) × (eqb j k ≡ false)) → update f k v j ≡ f j
+      go (inl h) = absurd (n (h .0))
+      go (inr h) = rw (h .1) refl
+
+  -- what is changed, and where it is as before
+  pub update-cases : (j : ℕ) → ((j ≡ k) × (update f k v j ≡ v)) ⊎ ((j ≡ k → ⊥) × (update f k v j ≡ f j))
+  update-cases j = go (eqb-cases j k)
+    where
+      go : ((j ≡ k) × (eqb j k ≡ true)) ⊎ ((j ≡ k → ⊥) × (eqb j k ≡ false)) →
+          ((j ≡ k) × (update f k v j ≡ v)) ⊎ ((j ≡ k → ⊥) × (update f k v j ≡ f j))
+      go (inl h) = inl (h .0, rw (h .1) refl)
+      go (inr h) = inr (h .0, rw (h .1) refl)
+
+-- To show something of each thing that a changed function holds: of the new one, and of those elsewhere.
+pub update-each : {A : Type 0} (f : ℕ → Option A) (k : ℕ) (o : Option A) (P : ℕ → A → Type 0) →
+    ((x : A) → o ≡ some x → P k x) → ((j : ℕ) (x : A) → (j ≡ k → ⊥) → f j ≡ some x → P j x) →
+    (j : ℕ) (x : A) → update f k o j ≡ some x → P j x
+update-each {A} f k o P new old j x e = go (update-cases f k o j)
+  where
+    go : ((j ≡ k) × (update f k o j ≡ o)) ⊎ ((j ≡ k → ⊥) × (update f k o j ≡ f j)) → P j x
+    go (inl h) = rw (h .0) (new x (sym (h .1) ∙ e))
+    go (inr h) = old j x (h .0) (sym (h .1) ∙ e)
+
+-- a changed function composed with another is the composition, changed
+pub update-after : {A B : Type 0} (g : A → B) (f : ℕ → A) (k : ℕ) (v : A) (j : ℕ) → g (update f k v j) ≡ update (λ i. g (f i)) k (g v) j
+update-after g f k v j = go (eqb j k)
+  where
+    go : (b : Bool) → g (if_then_else_ b v (f j)) ≡ if_then_else_ b (g v) (g (f j))
+    go true = refl
+    go false = refl
+
+module _ (log : (partition id step : ℕ) → Option ℕ) (p id t v : ℕ) where
+  pub logged-here : logged log p id t v p id t ≡ some v
+  logged-here = rw (eqb-same p, eqb-same id, eqb-same t) refl
+
+  -- a row of the new log is the row written, or was there before
+  pub logged-cases : (p′ id′ t′ : ℕ) → ((p′ ≡ p) × (id′ ≡ id) × (t′ ≡ t)) ⊎ (logged log p id t v p′ id′ t′ ≡ log p′ id′ t′)
+  logged-cases p′ id′ t′ = go (update-cases log p log₁ p′) (update-cases (log p) id log₂ id′) (update-cases (log p id) t (some v) t′)
+    where
+      log₂ : ℕ → Option ℕ
+      log₂ = update (log p id) t (some v)
+
+      log₁ : ℕ → ℕ → Option ℕ
+      log₁ = update (log p) id log₂
+
+      go : ((p′ ≡ p) × (update log p log₁ p′ ≡ log₁)) ⊎ ((p′ ≡ p → ⊥) × (update log p log₁ p′ ≡ log p′)) →
+          ((id′ ≡ id) × (update (log p) id log₂ id′ ≡ log₂)) ⊎ ((id′ ≡ id → ⊥) × (update (log p) id log₂ id′ ≡ log p id′)) →
+          ((t′ ≡ t) × (update (log p id) t (some v) t′ ≡ some v)) ⊎ ((t′ ≡ t → ⊥) × (update (log p id) t (some v) t′ ≡ log p id t′)) →
+          ((p′ ≡ p) × (id′ ≡ id) × (t′ ≡ t)) ⊎ (logged log p id t v p′ id′ t′ ≡ log p′ id′ t′)
+      go (inr h) b c = inr (ap (λ f. f id′ t′) (h .1))
+      go (inl h) (inr i) c = inr (ap (λ f. f id′ t′) (h .1) ∙ ap (λ f. f t′) (i .1) ∙ ap (λ r. log r id′ t′) (sym (h .0)))
+      go (inl h) (inl i) (inr j) =
+          inr (ap (λ f. f id′ t′) (h .1) ∙ ap (λ f. f t′) (i .1) ∙ j .1 ∙ ap (λ r. log p r t′) (sym (i .0)) ∙ ap (λ r. log r id′ t′) (sym (h .0)))
+      go (inl h) (inl i) (inl j) = inl (h .0, i .0, j .0)
+
+  pub logged-grows : log p id t ≡ none → (p′ id′ t′ w : ℕ) → log p′ id′ t′ ≡ some w → logged log p id t v p′ id′ t′ ≡ some w
+  logged-grows free p′ id′ t′ w e = go (logged-cases p′ id′ t′)
+    where
+      go : ((p′ ≡ p) × (id′ ≡ id) × (t′ ≡ t)) ⊎ (logged log p id t v p′ id′ t′ ≡ log p′ id′ t′) → logged log p id t v p′ id′ t′ ≡ some w
+      go (inl h) = none-some w free (ap (λ x. log x id t) (sym (h .0)) ∙ ap (λ x. log p′ x t) (sym (h .1)) ∙ ap (λ x. log p′ id′ x) (sym (h .2)) ∙ e)
+      go (inr h) = h ∙ e
+
+  pub logged-elsewhere : (p′ id′ t′ : ℕ) → (id′ ≡ id → ⊥) → logged log p id t v p′ id′ t′ ≡ log p′ id′ t′
+  logged-elsewhere p′ id′ t′ n = go (logged-cases p′ id′ t′)
+    where
+      go : ((p′ ≡ p) × (id′ ≡ id) × (t′ ≡ t)) ⊎ (logged log p id t v p′ id′ t′ ≡ log p′ id′ t′) → logged log p id t v p′ id′ t′ ≡ log p′ id′ t′
+      go (inl h) = absurd (n (h .1))
+      go (inr h) = h
+
+  pub logged-later : (p′ t′ : ℕ) → suc t ≤ t′ → log p′ id t′ ≡ none → logged log p id t v p′ id t′ ≡ none
+  logged-later p′ t′ l e = go (logged-cases p′ id t′)
+    where
+      go : ((p′ ≡ p) × (id ≡ id) × (t′ ≡ t)) ⊎ (logged log p id t v p′ id t′ ≡ log p′ id t′) → logged log p id t v p′ id t′ ≡ none
+      go (inl h) = absurd (let h₂ = h .2 in omega arith)
+      go (inr h) = h ∙ e

@@ -1,0 +1,81 @@
+-- The whole case of document 01 on the rules, by computation: MOVE, ten calls, their answers, the rows and the log. Assumes nothing.
+use mathlib.Core.Path.{_≡_, refl}
+use mathlib.Core.List.{List, [], _∷_}
+use mathlib.Core.Option.{some}
+use Prim.Native.Nat.{ℕ}
+use Rattle.rules.specs.Questions.{number, ask}
+use Rattle.rules.specs.Instructions.{Pack, Code, COPY, BEGIN, GET, SUB, PUT, END, ADD, RETURN, act, actAt}
+use Rattle.rules.specs.Blocks.{within, runFrom, runBlock, afterBlock}
+use Rattle.rules.specs.Store.{Store}
+use Rattle.rules.specs.Calls.{arrival, retry, turn, crash, Answer, done, moved, reply, refused, History, refusal, canTurn, canAct, canWrite, unless, rule, arrive, again, throughBlock, turnOn, turnIn, call, stateAfter, answerTo}
+use Rattle.rules.specs.Plain.{oneMore, tallied, fedArrival, fedRun, fedTurn, fed, moveOn, move, talliesAfter, machineAfter}
+
+-- MOVE takes the amount in register 2 from the key in register 0 of partition 0, and adds it to the key in register 1 of partition 1.
+abbrev pub MOVE : Code
+MOVE =
+    COPY 4 0
+    ∷ BEGIN 0
+    ∷ GET 5 4
+    ∷ SUB 5 2
+    ∷ PUT 4 5
+    ∷ END 5
+    ∷ BEGIN 1
+    ∷ GET 5 1
+    ∷ ADD 5 2
+    ∷ PUT 1 5
+    ∷ END 5
+    ∷ RETURN 0
+    ∷ []
+
+-- from key 100 to key 200, 30 pieces
+abbrev pub arguments : List ℕ
+arguments = 100 ∷ 200 ∷ 30 ∷ 0 ∷ []
+
+-- the ten calls, the latest first
+abbrev pub ten : History
+ten =
+    arrival 1 8 0 arguments
+    ∷ turn 1
+    ∷ turn 1
+    ∷ turn 1
+    ∷ turn 1
+    ∷ retry 1 7
+    ∷ crash 0
+    ∷ turn 0
+    ∷ turn 0
+    ∷ arrival 0 7 0 arguments
+    ∷ []
+
+-- the answers, the latest first
+abbrev pub answers : Pack → (room : ℕ) → History → List Answer
+answers pack room [] = []
+answers pack room (c ∷ before) = answerTo pack room before c ∷ answers pack room before
+
+abbrev after : Store
+after = stateAfter (MOVE ∷ []) 5 ten .store
+
+-- what the program prints for it, with the machine's reply beside
+pub record WholeCase : Type 0 where
+  pub all-answers : answers (MOVE ∷ []) 5 ten ≡ refused (number 19) ∷ reply 7 30 ∷ moved ∷ moved ∷ moved ∷ done ∷ done ∷ moved ∷ moved ∷ done ∷ []
+  pub row-0 : after .rows 0 100 ≡ some 4294967266
+  pub log-0 : after .log 0 7 0 ≡ some 4294967266
+  pub row-1 : after .rows 1 200 ≡ some 30
+  pub log-1 : after .log 1 7 1 ≡ some 30
+  -- two used rows in each partition: there are no others
+  pub used-0 : after .used 0 ≡ 2
+  pub used-1 : after .used 1 ≡ 2
+  pub plain-replies : machineAfter (MOVE ∷ []) 5 ten .replies ≡ record { id = 7; value = 30 } ∷ []
+
+pub whole-case : WholeCase
+unfolding stateAfter call unless refusal ask canTurn canAct canWrite rule arrive again turnIn turnOn throughBlock actAt act within runFrom runBlock afterBlock talliesAfter tallied oneMore machineAfter fed fedArrival fedTurn fedRun move moveOn
+whole-case =
+    record {
+      all-answers = refl;
+      row-0 = refl;
+      log-0 = refl;
+      row-1 = refl;
+      log-1 = refl;
+      used-0 = refl;
+      used-1 = refl;
+      plain-replies = refl;
+    }

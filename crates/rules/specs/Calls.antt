@@ -1,0 +1,200 @@
+-- Agents and slots, and the five calls: the questions 15 to 21 of each, then what it does. Assumes nothing: these are definitions.
+use mathlib.Core.Bool.{Bool, true, not}
+use mathlib.Core.List.{List, [], _∷_, _++_}
+use mathlib.Core.Option.{Option, none, some}
+use Prim.Native.Nat.{ℕ, suc, _+_}
+use lib.Dec.{ltb, leb}
+use lib.ListN.{length, getD}
+use Rattle.rules.specs.Basics.{update, isSome}
+use Rattle.rules.specs.Questions.{No, number, ask}
+use Rattle.rules.specs.Instructions.{Code, Pack, Place, next, Act, moves, opens, closes, reads, puts, returns, actAt}
+use Rattle.rules.specs.Blocks.{runBlock, rowsNeeded, afterBlock}
+use Rattle.rules.specs.Store.{Request, sameRequest, Store, freshStore, rowsPerRequest, booked, written}
+
+-- an agent in a slot: id, position and registers, step number
+pub record Agent : Type 0 where
+  pub id : ℕ
+  pub place : Place
+  pub step : ℕ
+
+-- the store and the slots; an empty slot holds none
+pub record State : Type 0 where
+  pub store : Store
+  pub slots : (slot : ℕ) → Option Agent
+
+-- The calls. A call that is added later and works on store or slots is a further constructor.
+pub data Call : Type 0 where
+  arrival : (slot id workflow : ℕ) (arguments : List ℕ) → Call
+  retry : (slot id : ℕ) → Call
+  turn : (slot : ℕ) → Call
+  crash : (slot : ℕ) → Call
+  restart : Call
+  -- a call of any kind to which a question before 15 says no
+  stopped : No → Call
+
+-- the answer of a call
+pub data Answer : Type 0 where
+  done : Answer
+  moved : Answer
+  reply : (id value : ℕ) → Answer
+  refused : No → Answer
+
+-- ── The questions ──
+
+-- the code of a booked request's workflow
+abbrev pub codeOf : Pack → Request → Code
+codeOf pack q = getD pack (q .workflow) []
+
+-- the code of an agent's workflow, by what the book has of its id: it is there, by question 14
+abbrev pub codeBy : Pack → Option Request → Code
+codeBy pack none = []
+codeBy pack (some q) = codeOf pack q
+
+-- If the id is known, are workflow and arguments those booked?
+abbrev pub asBooked : Request → Option Request → Bool
+asBooked q none = true
+asBooked q (some known) = sameRequest q known
+
+-- If it is new, are five book rows free?
+abbrev pub canBook : Store → Option Request → Bool
+canBook s none = leb (s .bookUsed + rowsPerRequest) (s .room)
+canBook s (some known) = true
+
+-- Has a block of partition p, by what its log row says, enough free rows, if it isn't logged?
+unfoldable pub canWrite : Store → Agent → Code → (partition : ℕ) → (log : Option ℕ) → Bool
+canWrite s a code p none = leb (s .used p + rowsNeeded (runBlock code (a .place) (s .rows p))) (s .room)
+canWrite s a code p (some v) = true
+
+-- the same of a turn, by what the agent's instruction asks for: only BEGIN opens a block
+unfoldable pub canAct : Store → Agent → Code → Act → Bool
+canAct s a code (opens p) = canWrite s a code p (s .log p (a .id) (a .step))
+canAct s a code (moves to) = true
+canAct s a code (closes v) = true
+canAct s a code (reads k to) = true
+canAct s a code (puts k v) = true
+canAct s a code (returns v) = true
+
+unfoldable pub canTurn : Pack → Store → Option Agent → Bool
+canTurn pack s none = true
+canTurn pack s (some a) = canAct s a (codeBy pack (s .book (a .id))) (actAt (codeBy pack (s .book (a .id))) (a .place))
+
+-- The questions 15 to 21 that each call puts, in order: the first no.
+unfoldable pub refusal : Pack → State → Call → Option No
+refusal pack s (arrival slot id w args) =
+    ask (number 15) (ltb slot 8)
+    (ask (number 16) (not (isSome (s .slots slot)))
+    (ask (number 17) (ltb w (length pack))
+    (ask (number 18) (asBooked (record { workflow = w; arguments = args }) (s .store .book id))
+    (ask (number 19) (canBook (s .store) (s .store .book id)) none))))
+refusal pack s (retry slot id) =
+    ask (number 15) (ltb slot 8)
+    (ask (number 16) (not (isSome (s .slots slot)))
+    (ask (number 20) (isSome (s .store .book id)) none))
+refusal pack s (turn slot) =
+    ask (number 15) (ltb slot 8)
+    (ask (number 16) (isSome (s .slots slot))
+    (ask (number 21) (canTurn pack (s .store) (s .slots slot)) none))
+refusal pack s (crash slot) =
+    ask (number 15) (ltb slot 8)
+    (ask (number 16) (isSome (s .slots slot)) none)
+refusal pack s restart = none
+refusal pack s (stopped n) = some n
+
+-- ── What the calls do ──
+
+pub record Outcome : Type 0 where
+  pub answer : Answer
+  pub state : State
+
+abbrev pub gives : Answer → State → Outcome
+gives a s = record { answer = a; state = s }
+
+-- the state with something else in one slot
+abbrev pub withSlot : State → (slot : ℕ) → Option Agent → State
+withSlot s slot a = record { store = s .store; slots = update (s .slots) slot a }
+
+-- A started agent has position 0, step 0, the arguments in registers 0 to 3, zero in 4 to 7.
+abbrev pub start : Request → Place
+start q = record { position = 0; registers = q .arguments ++ 0 ∷ 0 ∷ 0 ∷ 0 ∷ [] }
+
+abbrev pub started : State → (slot id : ℕ) → Request → State
+started s slot id q = withSlot s slot (some (record { id = id; place = start q; step = 0 }))
+
+-- Arrival, by what the book has of the id: books a new id, then starts an agent. A known id only starts an agent.
+unfoldable pub arrive : State → (slot id : ℕ) → Request → Option Request → Outcome
+arrive s slot id q none = gives done (started (record { store = booked (s .store) id q; slots = s .slots }) slot id q)
+arrive s slot id q (some known) = gives done (started s slot id known)
+
+-- Retry starts an agent from the book. (An id that isn't booked is refused, by 20.)
+unfoldable pub again : State → (slot id : ℕ) → Option Request → Outcome
+again s slot id none = gives done s
+again s slot id (some known) = gives done (started s slot id known)
+
+-- the agent stands at another place
+abbrev pub movesTo : State → (slot : ℕ) → Agent → Place → Outcome
+movesTo s slot a to = gives moved (withSlot s slot (some (record { id = a .id; place = to; step = a .step })))
+
+-- behind the block with its result, and step rises by 1
+abbrev pub passes : State → (slot : ℕ) → Agent → Code → (result : ℕ) → Outcome
+passes s slot a code v =
+    gives moved (withSlot s slot (some (record { id = a .id; place = afterBlock code (a .place) v; step = suc (a .step) })))
+
+-- A block first seeks its log row (id, step) in its own partition. If found, no row changes and the logged value is the result. If not,
+-- the block runs, and data rows and log row are written together.
+unfoldable pub throughBlock : State → (slot : ℕ) → Agent → Code → (partition : ℕ) → (log : Option ℕ) → Outcome
+throughBlock s slot a code p (some v) = passes s slot a code v
+throughBlock s slot a code p none =
+    let b = runBlock code (a .place) (s .store .rows p) in
+    passes (record { store = written (s .store) p (a .id) (a .step) b; slots = s .slots }) slot a code (b .result)
+
+-- Turn: at RETURN it replies with id and value and empties the slot; at BEGIN it does the whole block; else it does one instruction. (GET,
+-- PUT, HAS and END stand inside a block: no agent meets them, by `sound-agents`.)
+unfoldable pub turnOn : State → (slot : ℕ) → Agent → Code → Act → Outcome
+turnOn s slot a code (returns v) = gives (reply (a .id) v) (withSlot s slot none)
+turnOn s slot a code (opens p) = throughBlock s slot a code p (s .store .log p (a .id) (a .step))
+turnOn s slot a code (moves to) = movesTo s slot a to
+turnOn s slot a code (closes v) = movesTo s slot a (next (a .place))
+turnOn s slot a code (reads k to) = movesTo s slot a (next (a .place))
+turnOn s slot a code (puts k v) = movesTo s slot a (next (a .place))
+
+-- the turn of what a slot holds. (An empty slot is refused, by 16.)
+unfoldable pub turnIn : Pack → State → (slot : ℕ) → Option Agent → Outcome
+turnIn pack s slot none = gives moved s
+turnIn pack s slot (some a) =
+    turnOn s slot a (codeBy pack (s .store .book (a .id))) (actAt (codeBy pack (s .store .book (a .id))) (a .place))
+
+-- What a call does when no question says no.
+unfoldable pub rule : Pack → State → Call → Outcome
+rule pack s (arrival slot id w args) = arrive s slot id (record { workflow = w; arguments = args }) (s .store .book id)
+rule pack s (retry slot id) = again s slot id (s .store .book id)
+rule pack s (turn slot) = turnIn pack s slot (s .slots slot)
+rule pack s (crash slot) = gives done (withSlot s slot none)
+rule pack s restart = gives done (record { store = s .store; slots = λ slot. none })
+rule pack s (stopped n) = gives done s
+
+-- The first no is the answer, and nothing is changed.
+unfoldable pub unless : Option No → State → Outcome → Outcome
+unless none s o = o
+unless (some n) s o = gives (refused n) s
+
+-- A call: its questions first, then its rule.
+unfoldable pub call : Pack → State → Call → Outcome
+call pack s c = unless (refusal pack s c) s (rule pack s c)
+
+-- ── Lists of calls ──
+
+-- what an accepted create leaves, all slots empty
+abbrev pub fresh : (room : ℕ) → State
+fresh room = record { store = freshStore room; slots = λ slot. none }
+
+-- A list of calls, the latest first; each gets the store and slots that the one before left.
+abbrev pub History : Type 0
+History = List Call
+
+unfoldable pub stateAfter : Pack → (room : ℕ) → History → State
+stateAfter pack room [] = fresh room
+stateAfter pack room (c ∷ before) = call pack (stateAfter pack room before) c .state
+
+-- the answer that a call gets after those before it
+abbrev pub answerTo : Pack → (room : ℕ) → (before : History) → Call → Answer
+answerTo pack room before c = call pack (stateAfter pack room before) c .answer

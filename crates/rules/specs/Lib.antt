@@ -1,0 +1,11 @@
+pub mod Basics
+pub mod Questions
+pub mod Verdicts
+pub mod Instructions
+pub mod Blocks
+pub mod Checked
+pub mod Keys
+pub mod Store
+pub mod Calls
+pub mod Plain
+pub mod Demand3

@@ -1,0 +1,78 @@
+-- The store as rows by key: data, log and book, with the used counts and the room; without bytes. Assumes nothing: these are definitions.
+use mathlib.Core.Bool.{Bool, true, false, _&&_}
+use mathlib.Core.List.{List, [], _∷_}
+use mathlib.Core.Option.{Option, none, some}
+use Prim.Native.Nat.{ℕ, _+_}
+use lib.Dec.{eqb}
+use Rattle.rules.specs.Basics.{update}
+use Rattle.rules.specs.Blocks.{Table, Block, rowsNeeded}
+
+-- what the book has of a request: the workflow number and the arguments
+pub record Request : Type 0 where
+  pub workflow : ℕ
+  pub arguments : List ℕ
+
+-- are two lists of arguments equal?
+abbrev pub sameArguments : List ℕ → List ℕ → Bool
+sameArguments [] [] = true
+sameArguments [] (y ∷ ys) = false
+sameArguments (x ∷ xs) [] = false
+sameArguments (x ∷ xs) (y ∷ ys) = eqb x y && sameArguments xs ys
+
+-- are workflow and arguments equal?
+abbrev pub sameRequest : Request → Request → Bool
+sameRequest q r = eqb (q .workflow) (r .workflow) && sameArguments (q .arguments) (r .arguments)
+
+-- The store: C, the rows of each partition and of the book; of each partition the used count, the data rows by data key and the log rows by
+-- request and step; of the book the used count and the requests by id.
+pub record Store : Type 0 where
+  pub room : ℕ
+  pub used : (partition : ℕ) → ℕ
+  pub rows : (partition : ℕ) → Table
+  pub log : (partition id step : ℕ) → Option ℕ
+  pub bookUsed : ℕ
+  pub book : (id : ℕ) → Option Request
+
+-- Create: a fresh store, all used counts zero.
+abbrev pub freshStore : (room : ℕ) → Store
+freshStore room =
+    record {
+      room = room;
+      used = λ p. 0;
+      rows = λ p k. none;
+      log = λ p id t. none;
+      bookUsed = 0;
+      book = λ id. none;
+    }
+
+-- The book has five rows per request.
+abbrev pub rowsPerRequest : ℕ
+rowsPerRequest = 5
+
+-- a new request in the book
+abbrev pub booked : Store → (id : ℕ) → Request → Store
+booked s id q =
+    record {
+      room = s .room;
+      used = s .used;
+      rows = s .rows;
+      log = s .log;
+      bookUsed = s .bookUsed + rowsPerRequest;
+      book = update (s .book) id (some q);
+    }
+
+-- one log row more
+abbrev pub logged : (log : (partition id step : ℕ) → Option ℕ) (partition id step value : ℕ) → (partition id step : ℕ) → Option ℕ
+logged log p id t v = update log p (update (log p) id (update (log p id) t (some v)))
+
+-- a block's data rows and its log row, written together
+abbrev pub written : Store → (partition id step : ℕ) → Block → Store
+written s p id t b =
+    record {
+      room = s .room;
+      used = update (s .used) p (s .used p + rowsNeeded b);
+      rows = update (s .rows) p (b .table);
+      log = logged (s .log) p id t (b .result);
+      bookUsed = s .bookUsed;
+      book = s .book;
+    }

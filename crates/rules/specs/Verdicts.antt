@@ -1,0 +1,15 @@
+-- The code's verdict on questions, in the document's numbers. Assumes nothing: these are definitions.
+use mathlib.Core.Option.{Option, none, some}
+use Rattle.rules.specs.Questions.{No, no}
+use Rattle.rules.specs.declared.Verdict.{Verdict}
+use Rattle.rules.specs.declared.Verdict.the-variants.{Accepted, Refused}
+
+-- the verdict of a row of questions: the first no, with its number, workflow and instruction
+abbrev pub verdictOf : Option No → Verdict
+verdictOf none = Accepted
+verdictOf (some n) = Refused (n .question) (n .workflow) (n .instruction)
+
+-- and back: what a verdict says, number and place
+abbrev pub refusalOf : Verdict → Option No
+refusalOf Accepted = none
+refusalOf (Refused question workflow instruction) = some (no question workflow instruction)
