@@ -1,14 +1,67 @@
--- Laws of the key forms: no two meet within their bounds, so that a row put at one key is a change there and nowhere else. Assumes nothing.
+-- The key forms: each passes its test and no other's, no two meet within their bounds, and so a row put at one key is a change of the table or
+-- of the log there and nowhere else. Assumes nothing.
 use mathlib.Core.Bool.{Bool, true, false}
 use mathlib.Core.Path.{_≡_, refl, sym, _∙_, ap}
 use mathlib.Core.Logic.{_⊎_, inl, inr}
 use mathlib.Core.Option.{Option, none, some}
-use Prim.Native.Nat.{ℕ, _+_, _*_, _^_, _≤_, _<_}
+use Prim.Native.Nat.{ℕ, _+_, _*_, _%_, _^_, _≤_, _<_}
 use native.Mathlib.Omega.{arith}
-use lib.Dec.{eqb, ltb, ltb→lt, lt→ltb, nltb→le}
+use borrow.Author.Tests.{lt-ltb, le-leb, lt-leb, leb-true, ltb-true}
+use lib.Dec.{eqb, ltb, leb, ltb→lt, lt→ltb, nltb→le}
 use Rattle.rules.specs.Basics.{if_then_else_, update}
-use Rattle.rules.specs.Keys.{tableOf, logOf}
+use Rattle.rules.specs.Keys.{dataKey, logKey, bookKey, isDataKey, isLogKey, isBookKey, tableOf, logOf}
+use Rattle.rules.proofs.Tests.{and-left, and-right}
 use Rattle.rules.proofs.Updates.{eqb-cases, T-true, true-T, update-same, update-other}
+
+-- ── Each form passes its test ──
+
+pub data-is : (k : ℕ) → k < 2 ^ 32 → isDataKey (dataKey k) ≡ true
+unfolding isDataKey
+data-is k h = rw (le-leb (2 ^ 63) (dataKey k) (omega arith), lt-ltb (dataKey k) (2 ^ 63 + 2 ^ 32) (omega arith)) refl
+
+pub log-is : (id t : ℕ) → id < 2 ^ 32 → t < 65536 → isLogKey (logKey id t) ≡ true
+unfolding isLogKey
+log-is id t h g = lt-ltb (logKey id t) (2 ^ 48) (omega arith)
+
+pub book-is : (id j : ℕ) → id < 2 ^ 32 → j ≤ 4 → isBookKey (bookKey id j) ≡ true
+unfolding isBookKey
+book-is id j h g = rw (lt-ltb (bookKey id j) (2 ^ 35) (omega arith), le-leb (bookKey id j % 8) 4 (omega arith)) refl
+
+-- ── And is within its bounds ──
+
+pub data-bounds : (k : ℕ) → isDataKey k ≡ true → (2 ^ 63 ≤ k) × (k < 2 ^ 63 + 2 ^ 32)
+unfolding isDataKey
+data-bounds k e = (leb-true (2 ^ 63) k (and-left (leb (2 ^ 63) k) _ e), ltb-true k (2 ^ 63 + 2 ^ 32) (and-right (leb (2 ^ 63) k) _ e))
+
+pub log-bounds : (k : ℕ) → isLogKey k ≡ true → k < 2 ^ 48
+unfolding isLogKey
+log-bounds k e = ltb-true k (2 ^ 48) e
+
+pub book-bounds : (k : ℕ) → isBookKey k ≡ true → (k < 2 ^ 35) × (k % 8 ≤ 4)
+unfolding isBookKey
+book-bounds k e = (ltb-true k (2 ^ 35) (and-left (ltb k (2 ^ 35)) _ e), leb-true (k % 8) 4 (and-right (ltb k (2 ^ 35)) _ e))
+
+-- ── Data keys and log keys never meet ──
+
+pub log-no-data : (k : ℕ) → isLogKey k ≡ true → isDataKey k ≡ false
+unfolding isDataKey
+log-no-data k e = let l = log-bounds k e in rw (lt-leb (2 ^ 63) k (omega arith)) refl
+
+pub data-log : (k id t : ℕ) → id < 2 ^ 32 → t < 65536 → dataKey k ≡ logKey id t → ⊥
+data-log k id t h g e = omega arith
+
+-- ── No two of one form meet ──
+
+pub data-one : (k k′ : ℕ) → dataKey k ≡ dataKey k′ → k ≡ k′
+data-one k k′ e = omega arith
+
+pub log-one : (id id′ t t′ : ℕ) → t < 65536 → t′ < 65536 → logKey id t ≡ logKey id′ t′ → (id ≡ id′) × (t ≡ t′)
+log-one id id′ t t′ h g e = (omega arith, omega arith)
+
+pub book-one : (id id′ j j′ : ℕ) → j < 8 → j′ < 8 → bookKey id j ≡ bookKey id′ j′ → (id ≡ id′) × (j ≡ j′)
+book-one id id′ j j′ h g e = (omega arith, omega arith)
+
+-- ── A row put ──
 
 abbrev EqbCases : ℕ → ℕ → Type 0
 EqbCases j k = ((j ≡ k) × (eqb j k ≡ true)) ⊎ ((j ≡ k → ⊥) × (eqb j k ≡ false))

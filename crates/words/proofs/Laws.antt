@@ -107,11 +107,11 @@ put-comm (suc m) n xs at to x y h =
     ap (λ l. put m l (at + 1) (x / 256)) (set-put n xs to y at (x % 256) (λ p q. ⊎-elim (λ l. omega arith) (λ l. omega arith) h))
     ∙ put-comm m n (set xs at (x % 256)) (at + 1) to (x / 256) y (⊎-elim (λ l. inl (omega arith)) (λ l. inr (omega arith)) h)
 
--- zero bytes are the number 0
-pub le-zero : (w : ℕ) (xs : List ℕ) (at : ℕ) → ((j : ℕ) → getD xs j 0 ≡ 0) → le w xs at ≡ 0
+-- where all bytes from `at` on are zero, there stands 0
+pub le-zero : (w : ℕ) (xs : List ℕ) (at : ℕ) → ((j : ℕ) → at ≤ j → getD xs j 0 ≡ 0) → le w xs at ≡ 0
 unfolding le
 le-zero zero xs at h = refl
-le-zero (suc w) xs at h = omega (arith, h at, le-zero w xs (at + 1) h)
+le-zero (suc w) xs at h = omega (arith, h at (omega arith), le-zero w xs (at + 1) (λ j l. h j (omega arith)))
 
 -- equal numbers have equal bytes
 pub le-bytes : (w : ℕ) (xs ys : List ℕ) (at : ℕ) → ((j : ℕ) → getD xs j 0 < 256) → ((j : ℕ) → getD ys j 0 < 256) → le w xs at ≡ le w ys at
@@ -182,12 +182,12 @@ fields-part w xs from n a m at h e =
     long : length (take m (drop a (fields w xs from n))) ≡ m
     long = simp (length-take, length-drop, length-fields) (omega arith)
 
--- zero bytes are numbers 0
-pub fields-zero : (w : ℕ) (xs : List ℕ) (from n i : ℕ) → ((j : ℕ) → getD xs j 0 ≡ 0) → getD (fields w xs from n) i 0 ≡ 0
+-- where all bytes from there on are zero, each of them is 0
+pub fields-zero : (w : ℕ) (xs : List ℕ) (from n i : ℕ) → ((j : ℕ) → from ≤ j → getD xs j 0 ≡ 0) → getD (fields w xs from n) i 0 ≡ 0
 unfolding fields
 fields-zero w xs from zero i h = refl
 fields-zero w xs from (suc n) zero h = le-zero w xs from h
-fields-zero w xs from (suc n) (suc i) h = fields-zero w xs (from + w) n i h
+fields-zero w xs from (suc n) (suc i) h = fields-zero w xs (from + w) n i (λ j l. h j (omega arith))
 
 -- equal numbers in a row have equal bytes
 pub fields-bytes : (w n : ℕ) (xs ys : List ℕ) (from : ℕ) → ((j : ℕ) → getD xs j 0 < 256) → ((j : ℕ) → getD ys j 0 < 256) → fields w xs from n ≡ fields w ys from n

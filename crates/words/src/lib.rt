@@ -52,7 +52,7 @@ pub fn write16(s: &mut [u8], at: usize, x: u16)
     ensures { λ _. ⌜ now (s .exit) ≡ put 2 (now (s .entry)) at x ⌝ }
 {
     s[at] = (x % 256) as u8;
-    s[at + 1] = (x / 256 % 256) as u8;
+    s[at + 1] = (x / 256) as u8;
 }
 
 // Puts `x` into the 4 bytes from `at` on.
@@ -63,7 +63,7 @@ pub fn write32(s: &mut [u8], at: usize, x: u32)
     s[at] = (x % 256) as u8;
     s[at + 1] = (x / 256 % 256) as u8;
     s[at + 2] = (x / 65_536 % 256) as u8;
-    s[at + 3] = (x / 16_777_216 % 256) as u8;
+    s[at + 3] = (x / 16_777_216) as u8;
 }
 
 // Puts `x` into the 8 bytes from `at` on.
@@ -78,5 +78,5 @@ pub fn write64(s: &mut [u8], at: usize, x: u64)
     s[at + 4] = (x / 4_294_967_296 % 256) as u8;
     s[at + 5] = (x / 1_099_511_627_776 % 256) as u8;
     s[at + 6] = (x / 281_474_976_710_656 % 256) as u8;
-    s[at + 7] = (x / 72_057_594_037_927_936 % 256) as u8;
+    s[at + 7] = (x / 72_057_594_037_927_936) as u8;
 }

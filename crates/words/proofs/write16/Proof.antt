@@ -1,6 +1,7 @@
 -- `words::write16` meets its contract, by computation. Assumes nothing.
 use borrow.Author.Needs.{needs}
-use mathlib.Core.Path.{refl}
+use mathlib.Core.Path.{_≡_}
+use Prim.Native.Nat.{_/_, _%_}
 use native.Mathlib.Omega.{arith}
 use lib.ListN.{length-set}
 use Rattle.words.specs.Words.{put}
@@ -18,4 +19,4 @@ write16-spec =
     (λ c. search needs)
     (λ c. simp length-set (omega arith))
     (λ c. search needs)
-    (λ c. refl))
+    (λ c. let high : c .args .x / 256 % 256 ≡ c .args .x / 256 = omega arith in rw high))

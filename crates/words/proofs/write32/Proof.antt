@@ -1,7 +1,8 @@
 -- `words::write32` meets its contract, by computation. Assumes nothing.
 use borrow.Author.Needs.{needs}
-use mathlib.Core.Path.{refl}
 use native.Mathlib.Nat.{add-assoc, div-div-eq-div-mul}
+use mathlib.Core.Path.{_≡_}
+use Prim.Native.Nat.{_/_, _%_}
 use native.Mathlib.Omega.{arith}
 use lib.ListN.{length-set}
 use Rattle.words.specs.Words.{put}
@@ -25,4 +26,4 @@ write32-spec =
     (λ c. search needs)
     (λ c. simp length-set (omega arith))
     (λ c. search needs)
-    (λ c. simp (add-assoc, div-div-eq-div-mul)))
+    (λ c. let high : c .args .x / 16777216 % 256 ≡ c .args .x / 16777216 = omega arith in simp (add-assoc, div-div-eq-div-mul, high)))

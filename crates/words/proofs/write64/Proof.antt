@@ -1,7 +1,8 @@
 -- `words::write64` meets its contract, by computation. Assumes nothing.
 use borrow.Author.Needs.{needs}
-use mathlib.Core.Path.{refl}
 use native.Mathlib.Nat.{add-assoc, div-div-eq-div-mul}
+use mathlib.Core.Path.{_≡_}
+use Prim.Native.Nat.{_/_, _%_}
 use native.Mathlib.Omega.{arith}
 use lib.ListN.{length-set}
 use Rattle.words.specs.Words.{put}
@@ -37,4 +38,4 @@ write64-spec =
     (λ c. search needs)
     (λ c. simp length-set (omega arith))
     (λ c. search needs)
-    (λ c. simp (add-assoc, div-div-eq-div-mul)))
+    (λ c. let high : c .args .x / 72057594037927936 % 256 ≡ c .args .x / 72057594037927936 = omega arith in simp (add-assoc, div-div-eq-div-mul, high)))

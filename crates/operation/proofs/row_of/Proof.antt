@@ -1,0 +1,30 @@
+-- The table's entry, taken apart. Assumes nothing.
+use borrow.Author.Needs.{needs}
+use mathlib.Core.Path.{_∙_, ap}
+use Rattle.operation.specs.Parts.{operationOf}
+use Rattle.operation.specs.Operations.{sideOf, operandOf, fixedOf}
+use Rattle.operation.specs.Packed.{entryOf}
+use Rattle.operation.proofs.row_of.Statement.{statement}
+use Rattle.operation.proofs.row_of.Tie as tie
+
+pub row-of-spec : {M : Type 1} → statement M
+unfolding entryOf
+row-of-spec =
+    tie.close
+    (tie.spec
+    (λ c κs. search needs)
+    (λ c. search needs)
+    (λ c κs. search needs)
+    (λ c κs. search needs)
+    (λ c κs. search needs)
+    (λ c κs. search needs)
+    (λ c.
+    let o = c .before .before .before .before in
+    let op = operationOf (o .before .args .b) in
+    let e = c .before .before .before .entry-of .ensures ∙ ap entryOf (o .operation-of .ensures) in
+    λ i.
+    record {
+      side = c .before .before .side-in .ensures (sideOf op) (operandOf op) (fixedOf op) e i;
+      operand = c .before .operand-in .ensures (sideOf op) (operandOf op) (fixedOf op) e i;
+      fixed = c .fixed-in .ensures (sideOf op) (operandOf op) (fixedOf op) e i;
+    }))

@@ -1,0 +1,67 @@
+-- The table of operations: where an operation stands, what its operand w may be, and whether its register d is fixed.
+-- Assumes nothing: these are definitions.
+use mathlib.Core.Bool.{Bool, false, _||_}
+use mathlib.Core.List.{List, [], _∷_}
+use Prim.Native.Nat.{ℕ}
+use lib.Dec.{eqb}
+use Rattle.rules.specs.Basics.{if_then_else_}
+use Rattle.operation.specs.declared.Side.{Side}
+use Rattle.operation.specs.declared.Side.the-variants.{Anywhere, Inside, Outside}
+use Rattle.operation.specs.declared.Operand.{Operand}
+use Rattle.operation.specs.declared.Operand.the-variants.{Any, Below8, Jump, Zero}
+use Rattle.operation.specs.declared.Row.{Row}
+
+-- operations by number: 0 SET, 1 COPY, 2 ADD, 3 SUB, 4 JLT, 5 JEQ, 6 BEGIN, 7 END, 8 GET, 9 PUT, A HAS, B RETURN
+abbrev pub set : ℕ
+set = 0
+
+abbrev pub jlt : ℕ
+jlt = 4
+
+abbrev pub jeq : ℕ
+jeq = 5
+
+abbrev pub begin : ℕ
+begin = 6
+
+abbrev pub end : ℕ
+end = 7
+
+abbrev pub get : ℕ
+get = 8
+
+abbrev pub put : ℕ
+put = 9
+
+abbrev pub has : ℕ
+has = 10
+
+abbrev pub return : ℕ
+return = 11
+
+-- is it one of these?
+abbrev pub among : ℕ → List ℕ → Bool
+among op [] = false
+among op (x ∷ xs) = eqb op x || among op xs
+
+-- GET, PUT, HAS and END stand inside; BEGIN and RETURN stand outside; the rest anywhere.
+unfoldable pub sideOf : (operation : ℕ) → Side
+sideOf op =
+    if among op (get ∷ put ∷ has ∷ end ∷ []) then Inside
+    else if among op (begin ∷ return ∷ []) then Outside
+    else Anywhere
+
+-- Of SET w is any, of JLT and JEQ 16 × target + s, of END and RETURN 0; of the rest a register or a partition, 0 to 7.
+unfoldable pub operandOf : (operation : ℕ) → Operand
+operandOf op =
+    if among op (set ∷ []) then Any
+    else if among op (jlt ∷ jeq ∷ []) then Jump
+    else if among op (end ∷ return ∷ []) then Zero
+    else Below8
+
+-- Of BEGIN d is 0.
+unfoldable pub fixedOf : (operation : ℕ) → Bool
+fixedOf op = among op (begin ∷ [])
+
+abbrev pub rowOf : (operation : ℕ) → Row
+rowOf op = record { side = sideOf op; operand = operandOf op; fixed = fixedOf op }

@@ -1,0 +1,165 @@
+// An operation byte and a packed jump operand taken apart by shifts and masks, sums and differences that keep the remainder by 2^32,
+// and the table of operations.
+ghost use mathlib.Core.Path.{_≡_};
+ghost use mathlib.Core.Bool.{Bool};
+ghost use Prim.Native.Nat.{_+_, _-_, _%_, _^_, _<_};
+ghost use lib.Dec.{eqb};
+ghost use Rattle.operation.specs.Parts.{operationOf, registerOf, bit3Of, targetOf, sourceOf};
+ghost use Rattle.operation.specs.Operations.{rowOf};
+ghost use Rattle.operation.specs.Packed.{packed, entryOf};
+
+// The high four bits: the operation.
+pub fn operation_of(b: u8) -> u8
+    ensures { λ r. ⌜ r ≡ operationOf b ⌝ }
+{
+    b >> 4
+}
+
+// The low three bits: the register d.
+pub fn register_of(b: u8) -> u8
+    ensures { λ r. ⌜ r ≡ registerOf b ⌝ }
+{
+    b & 7
+}
+
+// Is bit 3 clear?
+pub fn bit3_clear(b: u8) -> bool
+    ensures { λ r. ⌜ r ≡ eqb (bit3Of b) 0 ⌝ }
+{
+    b & 8 == 0
+}
+
+// A jump's operand is 16 × target + s.
+pub fn target_of(w: u32) -> u32
+    ensures { λ r. ⌜ r ≡ targetOf w ⌝ }
+{
+    w >> 4
+}
+
+pub fn source_of(w: u32) -> u32
+    ensures { λ r. ⌜ r ≡ sourceOf w ⌝ }
+{
+    w & 15
+}
+
+// ADD, as the rules' table of operations has it.
+pub fn add32(x: u32, y: u32) -> u32
+    ensures { λ r. ⌜ r ≡ (x + y) % 2 ^ 32 ⌝ }
+{
+    std::num::wrapping_add_u32(x, y)
+}
+
+// SUB, likewise.
+pub fn sub32(x: u32, y: u32) -> u32
+    ensures { λ r. ⌜ r ≡ (x + 2 ^ 32 - y) % 2 ^ 32 ⌝ }
+{
+    std::num::wrapping_sub_u32(x, y)
+}
+
+// The operations that open and close a block, and those that a question names.
+pub const BEGIN: u8 = 6;
+
+pub const END: u8 = 7;
+
+pub const PUT: u8 = 9;
+
+pub const RETURN: u8 = 11;
+
+// Where an operation stands.
+pub enum Side {
+    Anywhere,
+    Inside,
+    Outside,
+}
+
+// What its operand w may be.
+pub enum Operand {
+    Any,
+    Below8,
+    Jump,
+    Zero,
+}
+
+// What the table says of an operation; `fixed`: its register d is 0.
+pub struct Row {
+    pub side: Side,
+    pub operand: Operand,
+    pub fixed: bool,
+}
+
+// The table of operations, one packed byte for each: bits 0 and 1 are the side, bits 2 and 3 the operand, bit 4 is set where d is fixed.
+const TABLE: [u8; 16] = [
+    0x00, // SET
+    0x04, // COPY
+    0x04, // ADD
+    0x04, // SUB
+    0x08, // JLT
+    0x08, // JEQ
+    0x16, // BEGIN
+    0x0D, // END
+    0x05, // GET
+    0x05, // PUT
+    0x05, // HAS
+    0x0E, // RETURN
+    0x04, // none
+    0x04, // none
+    0x04, // none
+    0x04, // none
+];
+
+fn side_in(entry: u8) -> Side
+    ensures { λ r. ⌜ ((s : Side) (o : Operand) (f : Bool) → entry ≡ packed s o f → r ≡ s) ⌝ }
+{
+    let bits = entry & 3;
+    if bits == 1 {
+        return Side::Inside;
+    }
+    if bits == 2 {
+        return Side::Outside;
+    }
+    Side::Anywhere
+}
+
+fn operand_in(entry: u8) -> Operand
+    ensures { λ r. ⌜ ((s : Side) (o : Operand) (f : Bool) → entry ≡ packed s o f → r ≡ o) ⌝ }
+{
+    let bits = entry >> 2 & 3;
+    if bits == 1 {
+        return Operand::Below8;
+    }
+    if bits == 2 {
+        return Operand::Jump;
+    }
+    if bits == 3 {
+        return Operand::Zero;
+    }
+    Operand::Any
+}
+
+fn fixed_in(entry: u8) -> bool
+    ensures { λ r. ⌜ ((s : Side) (o : Operand) (f : Bool) → entry ≡ packed s o f → r ≡ f) ⌝ }
+{
+    entry >> 4 == 1
+}
+
+// The packed byte of an operation.
+fn entry_of(op: usize) -> u8
+    requires { ⌜ op < 16 ⌝ }
+    ensures { λ r. ⌜ r ≡ entryOf op ⌝ }
+{
+    TABLE[op]
+}
+
+// What the table says of the operation of a byte. The table is looked up once.
+pub fn row_of(b: u8) -> Row
+    ensures { λ r. ⌜ r ≡ rowOf (operationOf b) ⌝ }
+{
+    let entry = entry_of(operation_of(b) as usize);
+    let side = side_in(entry);
+    let operand = operand_in(entry);
+    Row {
+        side,
+        operand,
+        fixed: fixed_in(entry),
+    }
+}

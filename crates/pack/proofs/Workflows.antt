@@ -1,0 +1,97 @@
+-- From an instruction's no to a workflow's, to a pack's and to an opening's. Assumes nothing.
+use mathlib.Core.Path.{_≡_, refl, _∙_, ap}
+use mathlib.Core.Bool.{Bool, true, false}
+use mathlib.Core.List.{List, []}
+use mathlib.Core.Option.{Option, none, some}
+use Prim.Native.Nat.{ℕ, _+_, _-_, _*_, _≤_, _<_}
+use native.Mathlib.Omega.{arith}
+use borrow.Author.Tests.{ltb-true, lt-ltb, le-ltb}
+use lib.ListN.{length, take, drop}
+use Rattle.rules.specs.declared.Verdict.{Verdict}
+use Rattle.rules.specs.declared.Verdict.the-variants.{Accepted, Refused}
+use Rattle.rules.specs.Questions.{No, no, number, ask, firstNo}
+use Rattle.rules.specs.Verdicts.{verdictOf}
+use Rattle.rules.proofs.Questions.{ask-none, orElse-none}
+use Rattle.pack.specs.Layout.{count, sizeOf, firstOf, total, operationsOf, operandsOf}
+use Rattle.pack.specs.Laid.{Laid}
+use Rattle.pack.specs.Questions.{question8, question17}
+use Rattle.pack.specs.Refusal.{instructionNo, codeNo, workflowNo, layoutNo, packRefusal, openRefusal, opened}
+use Rattle.pack.proofs.Chains.{or-yes, accepted, refused-first, first-all}
+use Rattle.pack.proofs.Sizes.{laid}
+
+-- the walk from the start, then 8
+module _ (w : ℕ) (ops ws : List ℕ) (v : Verdict) (p : v ≡ verdictOf (firstNo (instructionNo w ops ws) (length ops - 0) 0)) where
+  walked : v ≡ verdictOf (firstNo (instructionNo w ops ws) (length ops) 0)
+  walked = p ∙ ap verdictOf (first-all (instructionNo w ops ws) (length ops))
+
+  pub code-refused : (q w′ i : ℕ) → v ≡ Refused q w′ i → v ≡ verdictOf (codeNo w ops ws)
+  unfolding codeNo
+  code-refused q w′ i r = refused-first v _ _ q w′ i walked r
+
+  pub code-walked : (t : Bool) → v ≡ Accepted → question8 ops ≡ t → codeNo w ops ws ≡ ask (no 8 w (length ops - 1)) t none
+  unfolding codeNo
+  code-walked t a e = or-yes _ _ (accepted v _ walked a) ∙ rw e
+
+-- the parts in hand are the workflow's, `first` being the number of instructions before it
+module _ (p : List ℕ) (w first size : ℕ) (e : first ≡ firstOf p w) (s : size ≡ sizeOf p w) where
+  pub operations-are : (a : ℕ) (xs : List ℕ) → a ≡ 1 + 2 * count p → xs ≡ take size (drop (a + first) p) → xs ≡ operationsOf p w
+  unfolding operationsOf
+  operations-are a xs f g = rw (f, e, s) at g
+
+  pub operands-are : (a : ℕ) (xs : List ℕ) → a ≡ 1 + 2 * count p + total p → xs ≡ take (4 * size) (drop (a + 4 * first) p) → xs ≡ operandsOf p w
+  unfolding operandsOf
+  operands-are a xs f g = rw (f, e, s) at g
+
+pub parts-of : (p : List ℕ) (w : ℕ) (ops ws : List ℕ) → ops ≡ operationsOf p w → ws ≡ operandsOf p w → codeNo w ops ws ≡ workflowNo p w
+parts-of p w ops ws e f = rw (e, f)
+
+module _ (p : List ℕ) where
+  pub pack-laid : packRefusal p ≡ none → Laid p
+  unfolding packRefusal
+  pack-laid e = laid p (orElse-none _ _ e .0)
+
+  pub layout-refused : (v : Verdict) (q w i : ℕ) → v ≡ verdictOf (layoutNo p) → v ≡ Refused q w i → v ≡ verdictOf (packRefusal p)
+  unfolding packRefusal
+  layout-refused v q w i e r = refused-first v _ _ q w i e r
+
+  pub layout-fine : (v : Verdict) → v ≡ verdictOf (layoutNo p) → v ≡ Accepted → packRefusal p ≡ firstNo (workflowNo p) (count p) 0
+  unfolding packRefusal
+  layout-fine v e a = or-yes _ _ (accepted v _ e a)
+
+  -- question 17, with the count in hand
+  pub is-below : (w m : ℕ) → m ≡ count p → w < m → question17 p w ≡ true
+  is-below w m e h = lt-ltb w (count p) (omega arith)
+
+  pub not-below : (w m : ℕ) → m ≡ count p → m ≤ w → question17 p w ≡ false
+  not-below w m e h = le-ltb w (count p) (omega arith)
+
+  module _ (w : ℕ) where
+    pub pack-refused : (v : Verdict) (q w′ i : ℕ) → v ≡ verdictOf (packRefusal p) → v ≡ Refused q w′ i → v ≡ verdictOf (openRefusal p w)
+    unfolding openRefusal
+    pack-refused v q w′ i e r = refused-first v _ _ q w′ i e r
+
+    pub pack-fine : (v : Verdict) (t : Bool) → v ≡ verdictOf (packRefusal p) → v ≡ Accepted → question17 p w ≡ t → openRefusal p w ≡ ask (number 17) t none
+    unfolding openRefusal
+    pack-fine v t e a f = or-yes _ _ (accepted v _ e a) ∙ rw f
+
+    module _ (e : openRefusal p w ≡ none) where
+      pub open-accepted : packRefusal p ≡ none
+      unfolding openRefusal
+      open-accepted = orElse-none _ _ e .0
+
+      pub open-laid : Laid p
+      open-laid = pack-laid open-accepted
+
+      pub open-below : w < count p
+      unfolding openRefusal
+      open-below = ltb-true w (count p) (ask-none (number 17) (question17 p w) none (orElse-none (packRefusal p) _ e .1) .0)
+
+-- what an opening hands out
+pub opened-part : (o : Option No) (part : List ℕ) → o ≡ none → opened o part ≡ part
+unfolding opened
+opened-part o part e = rw e
+
+pub opened-none : (o : Option No) (part : List ℕ) (v : Verdict) (q w i : ℕ) → v ≡ verdictOf o → v ≡ Refused q w i → opened o part ≡ []
+unfolding opened
+opened-none none part v q w i p r = let z : _≡_ {A = ℕ} 0 1 = cc in absurd (omega arith)
+opened-none (some n) part v q w i p r = refl

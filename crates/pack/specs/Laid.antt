@@ -1,0 +1,14 @@
+-- What a yes to questions 1 to 3 says, as facts. Assumes nothing: these are definitions.
+use mathlib.Core.Path.{_≡_}
+use mathlib.Core.List.{List}
+use Prim.Native.Nat.{ℕ, _+_, _*_, _≤_, _<_}
+use lib.ListN.{length}
+use Rattle.pack.specs.Layout.{count, sizeOf, total}
+
+-- m is 1 to 16, a size 1 to 256, T at most 2,048, and the length 1 + 2m + 5T
+pub record Laid (p : List ℕ) : Type 0 where
+  pub some-workflow : 1 ≤ count p
+  pub few : count p ≤ 16
+  pub sizes : (w : ℕ) → w < count p → (1 ≤ sizeOf p w) × (sizeOf p w ≤ 256)
+  pub short : total p ≤ 2048
+  pub whole : length p ≡ 1 + 2 * count p + 5 * total p

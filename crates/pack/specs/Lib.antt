@@ -1,0 +1,5 @@
+pub mod Layout
+pub mod Laid
+pub mod Questions
+pub mod Refusal
+pub mod Meaning

@@ -1,0 +1,291 @@
+-- What the tests of questions 9 to 12 mean: bytes that pass them are sound, and sound bytes pass them. A put keeps good keys good. Assumes
+-- nothing.
+use mathlib.Core.Bool.{Bool, true, false, not, _&&_, _||_}
+use mathlib.Core.List.{List, [], _∷_}
+use mathlib.Core.Logic.{_≢_}
+use mathlib.Core.Option.{Option, none, some}
+use mathlib.Core.Path.{_≡_, refl, sym, ap, ap₂, subst, _∙_}
+use Prim.Native.Nat.{ℕ, zero, suc, _+_, _-_, _/_, _^_, _≤_, _<_}
+use native.Mathlib.Omega.{arith}
+use native.Mathlib.Decide.{ℕ-discrete}
+use borrow.Author.Tests.{leb-true, eqb-true, le-leb, lt-leb, eq-eqb, ne-eqb, not-true}
+use lib.Dec.{eqb, leb}
+use lib.ListN.{length, getD}
+use Rattle.words.specs.Words.{le}
+use Rattle.rules.specs.Basics.{eachFrom}
+use Rattle.rules.specs.Keys.{dataKey, logKey, bookKey}
+use Rattle.rules.specs.Questions.{number}
+use Rattle.rules.proofs.Each.{each-at, each-all}
+use Rattle.rules.proofs.Keys.{data-is, log-is, log-no-data, book-is}
+use Rattle.rules.proofs.Tests.{yes-no, and-left, and-right, and-both}
+use Rattle.rules.proofs.Questions.{ask-none, ask-yes, ask-no}
+use Rattle.store.specs.Layout.{partsOf, capOf, sizeOf, keyAt, valueAt, usedOf}
+use Rattle.store.specs.Rows.{Row, Store, pairs, keysIn, rowsOf, storeOf, putRow, putAll, newRows, countNew, alter}
+use Rattle.store.specs.Questions.{numbersRight, question9, question10, isForm, member, unlike, keysOk, blankRow, partOk, question11, allIn, five, bookOk, question12, storeRefusal, createRefusal}
+use Rattle.store.specs.Sound.{Shape, Filled, KeysGood, Sound, Changed, Stored}
+use Rattle.store.proofs.Lists.{length-put, lookup-put-other, alter-here, alter-there}
+
+-- ---- questions 9 and 10
+
+pub numbers-mean : (P C : ℕ) → numbersRight P C ≡ true → (1 ≤ P) × (P ≤ 8) × (5 ≤ C) × (C ≤ 256)
+unfolding numbersRight
+numbers-mean P C e =
+    let a = and-left (leb 1 P && leb P 8 && leb 5 C) (leb C 256) e in
+    let b = and-left (leb 1 P && leb P 8) (leb 5 C) a in (
+      leb-true 1 P (and-left (leb 1 P) (leb P 8) b),
+      leb-true P 8 (and-right (leb 1 P) (leb P 8) b),
+      leb-true 5 C (and-right (leb 1 P && leb P 8) (leb 5 C) a),
+      leb-true C 256 (and-right (leb 1 P && leb P 8 && leb 5 C) (leb C 256) e),
+    )
+
+pub numbers-pass : (P C : ℕ) → 1 ≤ P → P ≤ 8 → 5 ≤ C → C ≤ 256 → numbersRight P C ≡ true
+unfolding numbersRight
+numbers-pass P C a b c d = rw (le-leb 1 P a, le-leb P 8 b, le-leb 5 C c, le-leb C 256 d) refl
+
+-- question 9 by its parts
+module _ (xs : List ℕ) where
+  pub nine-short : length xs < 3 → question9 xs ≡ false
+  unfolding question9
+  nine-short h = rw (lt-leb 3 (length xs) h) refl
+
+  pub nine-numbers : (b : Bool) → 3 ≤ length xs → numbersRight (partsOf xs) (capOf xs) ≡ b → question9 xs ≡ b
+  unfolding question9
+  nine-numbers b h e = rw (le-leb 3 (length xs) h, e) refl
+
+  pub ten-no : (length xs ≡ sizeOf (partsOf xs) (capOf xs) → ⊥) → question10 xs ≡ false
+  unfolding question10
+  ten-no n = ne-eqb (length xs) (sizeOf (partsOf xs) (capOf xs)) n
+
+pub shape-of : (xs : List ℕ) → numbersRight (partsOf xs) (capOf xs) ≡ true → length xs ≡ sizeOf (partsOf xs) (capOf xs) → Shape xs
+shape-of xs e z =
+    let n = numbers-mean (partsOf xs) (capOf xs) e in
+    record { parts-low = n .0; parts-high = n .1; cap-low = n .2; cap-high = n .3; size = z }
+
+pub shape-ok : (xs : List ℕ) → question9 xs ≡ true → question10 xs ≡ true → Shape xs
+unfolding question9 question10
+shape-ok xs a b = shape-of xs (and-right (leb 3 (length xs)) _ a) (eqb-true (length xs) (sizeOf (partsOf xs) (capOf xs)) b)
+
+pub shape-passes : (xs : List ℕ) → Shape xs → (question9 xs ≡ true) × (question10 xs ≡ true)
+unfolding question9 question10
+shape-passes xs s = (
+  nine-numbers xs true (omega (arith, s .size)) (numbers-pass (partsOf xs) (capOf xs) (s .parts-low) (s .parts-high) (s .cap-low) (s .cap-high)),
+  eq-eqb (length xs) (sizeOf (partsOf xs) (capOf xs)) (s .size),
+)
+
+-- ---- question 11
+
+-- the three tests of a partition
+module _ (xs : List ℕ) (p : ℕ) (e : partOk xs p ≡ true) where
+  fits : leb (usedOf xs p) (capOf xs) && keysOk (eqb p (partsOf xs)) (keysIn (rowsOf xs p)) ≡ true
+  unfolding partOk
+  fits = and-left _ (eachFrom (blankRow xs p) (capOf xs - usedOf xs p) (usedOf xs p)) e
+
+  blanks : (i : ℕ) → usedOf xs p ≤ i → i < capOf xs → blankRow xs p i ≡ true
+  unfolding partOk
+  blanks i a b = each-at (blankRow xs p) (capOf xs - usedOf xs p) (usedOf xs p) (and-right (leb (usedOf xs p) (capOf xs) && keysOk (eqb p (partsOf xs)) (keysIn (rowsOf xs p))) _ e) i a (omega arith)
+
+  part-filled : Filled xs p
+  unfolding blankRow
+  part-filled =
+      record {
+        fit = leb-true (usedOf xs p) (capOf xs) (and-left (leb (usedOf xs p) (capOf xs)) _ fits);
+        blank-keys = λ i a b. eqb-true (le 8 xs (keyAt xs p i)) 0 (and-left (eqb (le 8 xs (keyAt xs p i)) 0) _ (blanks i a b));
+        blank-values = λ i a b. eqb-true (le 4 xs (valueAt xs p i)) 0 (and-right (eqb (le 8 xs (keyAt xs p i)) 0) _ (blanks i a b));
+      }
+
+  part-keys : keysOk (eqb p (partsOf xs)) (keysIn (rowsOf xs p)) ≡ true
+  part-keys = and-right (leb (usedOf xs p) (capOf xs)) _ fits
+
+part-passes : (xs : List ℕ) (p : ℕ) → Filled xs p → keysOk (eqb p (partsOf xs)) (keysIn (rowsOf xs p)) ≡ true → partOk xs p ≡ true
+unfolding partOk blankRow
+part-passes xs p f k =
+    and-both (leb (usedOf xs p) (capOf xs) && keysOk (eqb p (partsOf xs)) (keysIn (rowsOf xs p))) _ (and-both (leb (usedOf xs p) (capOf xs)) _ (le-leb (usedOf xs p) (capOf xs) (f .fit)) k)
+    (each-all (blankRow xs p) (capOf xs - usedOf xs p) (usedOf xs p)
+    (λ i a b.
+    let l : i < capOf xs = omega (arith, f .fit) in
+    and-both (eqb (le 8 xs (keyAt xs p i)) 0) _ (eq-eqb (le 8 xs (keyAt xs p i)) 0 (f .blank-keys i a l)) (eq-eqb (le 4 xs (valueAt xs p i)) 0 (f .blank-values i a l))))
+
+-- bytes of the right shape that pass question 11 are sound, and back
+pub sound-of : (xs : List ℕ) → Shape xs → question11 xs ≡ true → Sound xs
+unfolding question11 KeysGood
+sound-of xs s e =
+    let one : (p : ℕ) → p ≤ partsOf xs → partOk xs p ≡ true = λ p l. each-at (partOk xs) (partsOf xs + 1) 0 e p (omega arith) (omega arith) in
+    record { formed = record { shape = s; filled = λ p l. part-filled xs p (one p l) }; keys = λ p l. part-keys xs p (one p l) }
+
+pub rows-pass : (xs : List ℕ) → Sound xs → question11 xs ≡ true
+unfolding question11 KeysGood
+rows-pass xs s = each-all (partOk xs) (partsOf xs + 1) 0 (λ p a b. part-passes xs p (s .formed .filled p (omega arith)) (s .keys p (omega arith)))
+
+-- ---- questions 9 to 12 together
+
+pub store-ok : (xs : List ℕ) → storeRefusal xs ≡ none → Sound xs × (question12 xs ≡ true)
+unfolding storeRefusal
+store-ok xs e =
+    let a = ask-none (number 9) (question9 xs) _ e in
+    let b = ask-none (number 10) (question10 xs) _ (a .1) in
+    let c = ask-none (number 11) (question11 xs) _ (b .1) in
+    (sound-of xs (shape-ok xs (a .0) (b .0)) (c .0), ask-none (number 12) (question12 xs) none (c .1) .0)
+
+pub store-passes : (xs : List ℕ) → Sound xs → question12 xs ≡ true → storeRefusal xs ≡ none
+unfolding storeRefusal
+store-passes xs s t =
+    let q = shape-passes xs (s .formed .shape) in
+    ask-yes (number 9) (question9 xs) _ (q .0)
+    ∙ ask-yes (number 10) (question10 xs) _ (q .1)
+    ∙ ask-yes (number 11) (question11 xs) _ (rows-pass xs s)
+    ∙ ask-yes (number 12) (question12 xs) none t
+
+-- and each no, in order
+pub refusal-9 : (xs : List ℕ) → question9 xs ≡ false → storeRefusal xs ≡ some (number 9)
+unfolding storeRefusal
+refusal-9 xs e = ask-no (number 9) (question9 xs) _ e
+
+pub refusal-10 : (xs : List ℕ) → question9 xs ≡ true → question10 xs ≡ false → storeRefusal xs ≡ some (number 10)
+unfolding storeRefusal
+refusal-10 xs a e = ask-yes (number 9) (question9 xs) _ a ∙ ask-no (number 10) (question10 xs) _ e
+
+pub refusal-11 : (xs : List ℕ) → Shape xs → question11 xs ≡ false → storeRefusal xs ≡ some (number 11)
+unfolding storeRefusal
+refusal-11 xs s e =
+    let q = shape-passes xs s in
+    ask-yes (number 9) (question9 xs) _ (q .0) ∙ ask-yes (number 10) (question10 xs) _ (q .1) ∙ ask-no (number 11) (question11 xs) _ e
+
+pub refusal-12 : (xs : List ℕ) → Sound xs → question12 xs ≡ false → storeRefusal xs ≡ some (number 12)
+unfolding storeRefusal
+refusal-12 xs s e =
+    let q = shape-passes xs (s .formed .shape) in
+    ask-yes (number 9) (question9 xs) _ (q .0)
+    ∙ ask-yes (number 10) (question10 xs) _ (q .1)
+    ∙ ask-yes (number 11) (question11 xs) _ (rows-pass xs s)
+    ∙ ask-no (number 12) (question12 xs) none e
+
+-- create's
+pub create-ok : (P C n : ℕ) → createRefusal P C n ≡ none → (numbersRight P C ≡ true) × (n ≡ sizeOf P C)
+unfolding createRefusal
+create-ok P C n e =
+    let a = ask-none (number 9) (numbersRight P C) _ e in
+    (a .0, eqb-true n (sizeOf P C) (ask-none (number 10) (eqb n (sizeOf P C)) none (a .1) .0))
+
+-- ---- a put keeps good keys good
+
+pub member-put : (k v j : ℕ) (rs : List Row) → j ≢ k → member j (keysIn (putRow k v rs)) ≡ member j (keysIn rs)
+unfolding member keysIn putRow
+member-put k v j [] n = rw (ne-eqb k j (λ e. n (sym e))) refl
+member-put k v j (r ∷ rs) n = go (member-put k v j rs n) (eqb (r .0) k) refl
+  where
+    go : member j (keysIn (putRow k v rs)) ≡ member j (keysIn rs) → (t : Bool) → eqb (r .0) k ≡ t → member j (keysIn (putRow k v (r ∷ rs))) ≡ member j (keysIn (r ∷ rs))
+    go ih true e = rw e refl
+    go ih false e = rw e (ap (λ (o : Bool). eqb (r .0) j || o) ih)
+
+-- the keys after a put
+pub keys-put : (b : Bool) (k v : ℕ) (rs : List Row) → isForm b k ≡ true → keysOk b (keysIn rs) ≡ true → keysOk b (keysIn (putRow k v rs)) ≡ true
+unfolding keysOk keysIn putRow member
+keys-put b k v [] f h = and-both (isForm b k) true f refl
+keys-put b k v (r ∷ rs) f h = go (keys-put b k v rs f) (eqb (r .0) k) refl
+  where
+    go : (keysOk b (keysIn rs) ≡ true → keysOk b (keysIn (putRow k v rs)) ≡ true) → (t : Bool) → eqb (r .0) k ≡ t → keysOk b (keysIn (putRow k v (r ∷ rs))) ≡ true
+    go ih true e = rw e h
+    go ih false e =
+        let h1 = and-right (isForm b (r .0)) _ h in
+        rw e
+        (and-both (isForm b (r .0)) _ (and-left (isForm b (r .0)) _ h)
+        (and-both (not (member (r .0) (keysIn (putRow k v rs)))) _
+        (ap not (member-put k v (r .0) rs (λ q. yes-no (sym (eq-eqb (r .0) k q) ∙ e))) ∙ and-left (not (member (r .0) (keysIn rs))) _ h1)
+        (ih (and-right (not (member (r .0) (keysIn rs))) _ h1))))
+
+pub good-put : (st : Store) (p k v : ℕ) → KeysGood st → isForm (eqb p (st .parts)) k ≡ true → KeysGood (alter p (putRow k v) st)
+unfolding KeysGood
+good-put st p k v g f q l = go (ℕ-discrete q p)
+  where
+    same : alter p (putRow k v) st .parts ≡ st .parts
+    same = unfold alter in refl
+
+    go : Dec (q ≡ p) → keysOk (eqb q (alter p (putRow k v) st .parts)) (keysIn (alter p (putRow k v) st .rows q)) ≡ true
+    go (yes e) =
+        rw (same, e, alter-here p (putRow k v) st)
+        (keys-put (eqb p (st .parts)) k v (st .rows p) f (g p (subst (λ (n : ℕ). n ≤ st .parts) e (subst (λ (n : ℕ). q ≤ n) same l))))
+    go (no n) = rw (same, alter-there p q (putRow k v) st n) (g q (subst (λ (n : ℕ). q ≤ n) same l))
+
+-- a put to sound bytes leaves sound bytes
+pub stored-put : (xs ys : List ℕ) (p k v : ℕ) → Sound xs → isForm (eqb p (partsOf xs)) k ≡ true → Changed xs ys p (putRow k v) → Stored xs ys p (putRow k v)
+stored-put xs ys p k v s f c =
+    record { sound = record { formed = c .formed; keys = subst KeysGood (sym (c .is)) (good-put (storeOf xs) p k v (s .keys) f) }; is = c .is }
+
+-- ---- tests of every key
+
+-- what holds of every key holds of one of them
+pub in-all : (f : ℕ → Bool) (ks : List ℕ) (k : ℕ) → allIn f ks ≡ true → member k ks ≡ true → f k ≡ true
+unfolding allIn member
+in-all f [] k a m = yes-no (sym m)
+in-all f (x ∷ ks) k a m = go (in-all f ks k (and-right (f x) (allIn f ks) a)) (eqb x k) refl
+  where
+    go : (member k ks ≡ true → f k ≡ true) → (t : Bool) → eqb x k ≡ t → f k ≡ true
+    go ih true e = ap f (sym (eqb-true x k e)) ∙ and-left (f x) (allIn f ks) a
+    go ih false e = ih (rw e at m)
+
+pub all-at : (f : ℕ → Bool) (ks : List ℕ) (i : ℕ) → allIn f ks ≡ true → i < length ks → f (getD ks i 0) ≡ true
+unfolding allIn
+all-at f [] i a h = absurd (omega arith)
+all-at f (k ∷ ks) zero a h = and-left (f k) (allIn f ks) a
+all-at f (k ∷ ks) (suc i) a h = all-at f ks i (and-right (f k) (allIn f ks) a) (omega arith)
+
+-- and back
+pub all-members : (f : ℕ → Bool) (ks : List ℕ) → ((k : ℕ) → member k ks ≡ true → f k ≡ true) → allIn f ks ≡ true
+unfolding allIn member
+all-members f [] h = refl
+all-members f (x ∷ ks) h =
+    and-both (f x) (allIn f ks) (h x (rw (eq-eqb x x refl) refl)) (all-members f ks (λ k m. h k (go (eqb x k) m)))
+  where
+    go : {m : Bool} (b : Bool) → m ≡ true → (b || m) ≡ true
+    go true e = refl
+    go false e = e
+
+-- ---- question 12
+
+-- a booked id has all five rows
+pub book-five : (ks : List ℕ) (k j : ℕ) → bookOk ks ≡ true → member k ks ≡ true → j < 5 → member (bookKey (k / 8) j) ks ≡ true
+unfolding bookOk five
+book-five ks k j b m h = each-at (λ i. member (bookKey (k / 8) i) ks) 5 0 (in-all (λ i. five ks (i / 8)) ks k b m) j (omega arith) (omega arith)
+
+-- and back
+pub five-all : (ks : List ℕ) (id : ℕ) → ((j : ℕ) → j < 5 → member (bookKey id j) ks ≡ true) → five ks id ≡ true
+unfolding five
+five-all ks id h = each-all (λ i. member (bookKey id i) ks) 5 0 (λ j a b. h j (omega arith))
+
+-- ---- question 21: the rows that a run of puts adds
+
+count-other : (ks : List ℕ) (k v : ℕ) (rs : List Row) → member k ks ≡ false → countNew ks (putRow k v rs) ≡ countNew ks rs
+unfolding countNew member
+count-other [] k v rs m = refl
+count-other (j ∷ ks) k v rs m = go (count-other ks k v rs) (eqb j k) refl
+  where
+    go : (member k ks ≡ false → countNew ks (putRow k v rs) ≡ countNew ks rs) → (t : Bool) → eqb j k ≡ t → countNew (j ∷ ks) (putRow k v rs) ≡ countNew (j ∷ ks) rs
+    go ih true e = yes-no (rw e at m)
+    go ih false e = ap₂ (λ (o : Option ℕ) (n : ℕ). newRows o + n) (lookup-put-other k v j rs (λ q. yes-no (sym (eq-eqb j k q) ∙ e))) (ih (rw e at m))
+
+pub length-put-all : (book : Bool) (ks vs : List ℕ) (rs : List Row) → length ks ≡ length vs → unlike ks ≡ true → allIn (isForm book) ks ≡ true → keysOk book (keysIn rs) ≡ true
+    → length (putAll (pairs ks vs) rs) ≡ length rs + countNew ks rs
+unfolding putAll pairs countNew unlike allIn
+length-put-all book [] vs rs e u a h = omega arith
+length-put-all book (k ∷ ks) [] rs e u a h = absurd (omega arith)
+length-put-all book (k ∷ ks) (v ∷ vs) rs e u a h =
+    omega (
+      arith,
+      length-put-all book ks vs (putRow k v rs) (omega arith) (and-right (not (member k ks)) (unlike ks) u) (and-right (isForm book k) (allIn (isForm book) ks) a) (keys-put book k v rs (and-left (isForm book k) (allIn (isForm book) ks) a) h),
+      length-put book k v rs h,
+      count-other ks k v rs (not-true (member k ks) (and-left (not (member k ks)) (unlike ks) u)),
+    )
+
+-- ---- the keys that callers make are of a form of their partition
+
+pub data-form : (P p k : ℕ) → p < P → k < 2 ^ 32 → isForm (eqb p P) (dataKey k) ≡ true
+unfolding isForm
+data-form P p k l h = rw (ne-eqb p P (omega arith), data-is k h) refl
+
+pub log-form : (P p id t : ℕ) → p < P → id < 2 ^ 32 → t < 65536 → isForm (eqb p P) (logKey id t) ≡ true
+unfolding isForm
+log-form P p id t l h g = rw (ne-eqb p P (omega arith), log-no-data (logKey id t) (log-is id t h g), log-is id t h g) refl
+
+pub book-form : (P id j : ℕ) → id < 2 ^ 32 → j ≤ 4 → isForm (eqb P P) (bookKey id j) ≡ true
+unfolding isForm
+book-form P id j h g = rw (eq-eqb P P refl, book-is id j h g) refl

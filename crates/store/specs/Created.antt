@@ -1,0 +1,23 @@
+-- What create leaves. Assumes nothing: these are definitions.
+use mathlib.Core.List.{List, _∷_}
+use mathlib.Core.Path.{_≡_}
+use Prim.Native.Nat.{ℕ, _+_, _*_, _/_, _%_}
+use lib.ListN.{length, replicate}
+use Rattle.rules.specs.Verdicts.{verdictOf}
+use Rattle.rules.specs.declared.Verdict.{Verdict}
+use Rattle.rules.specs.declared.Verdict.the-variants.{Accepted}
+use Rattle.store.specs.Rows.{storeOf, emptyStore}
+use Rattle.store.specs.Questions.{createRefusal}
+use Rattle.store.specs.Sound.{Sound}
+
+-- the bytes of a fresh store: P, the two of C, and zeros
+unfoldable pub freshBytes : (P C : ℕ) → List ℕ
+freshBytes P C = P ∷ C % 256 ∷ C / 256 ∷ replicate (2 * (P + 1) + 12 * ((P + 1) * C)) 0
+
+-- Create on the buffer xs leaves ys and answers r: accepted, every byte is that of a fresh store, which is sound and has no row; refused, no
+-- byte is changed.
+pub record Created (xs ys : List ℕ) (P C : ℕ) (r : Verdict) : Type 0 where
+  pub answer : r ≡ verdictOf (createRefusal P C (length xs))
+  pub bytes : r ≡ Accepted → ys ≡ freshBytes P C
+  pub made : r ≡ Accepted → Sound ys × (storeOf ys ≡ emptyStore P C)
+  pub kept : (r ≡ Accepted → ⊥) → ys ≡ xs

@@ -1,0 +1,6 @@
+pub mod Layout
+pub mod Rows
+pub mod Answers
+pub mod Questions
+pub mod Sound
+pub mod Created

@@ -1,0 +1,92 @@
+-- Questions 9 to 12, each a computed test, and the first no among them. Assumes nothing: these are definitions.
+use mathlib.Core.Bool.{Bool, true, false, not, _&&_, _||_}
+use mathlib.Core.List.{List, [], _∷_}
+use mathlib.Core.Option.{Option, none}
+use Prim.Native.Nat.{ℕ, _+_, _-_, _/_}
+use lib.Dec.{eqb, leb}
+use lib.ListN.{length}
+use Rattle.words.specs.Words.{le}
+use Rattle.rules.specs.Basics.{if_then_else_, eachFrom, each}
+use Rattle.rules.specs.Questions.{No, number, ask}
+use Rattle.rules.specs.Keys.{bookKey, isDataKey, isLogKey, isBookKey}
+use Rattle.store.specs.Layout.{partsOf, capOf, sizeOf, keyAt, valueAt, usedOf}
+use Rattle.store.specs.Rows.{keysIn, rowsOf}
+
+-- P is 1 to 8, C is 5 to 256
+unfoldable pub numbersRight : (P C : ℕ) → Bool
+numbersRight P C = leb 1 P && leb P 8 && leb 5 C && leb C 256
+
+-- 9. Are there three bytes, P 1 to 8, C 5 to 256?
+unfoldable pub question9 : (xs : List ℕ) → Bool
+question9 xs = leb 3 (length xs) && numbersRight (partsOf xs) (capOf xs)
+
+-- 10. Is the store's length right?
+unfoldable pub question10 : (xs : List ℕ) → Bool
+question10 xs = eqb (length xs) (sizeOf (partsOf xs) (capOf xs))
+
+-- is k a key of a form of its partition? The book has book keys, each other partition data keys and log keys.
+unfoldable pub isForm : (book : Bool) (k : ℕ) → Bool
+isForm book k = if book then isBookKey k else (isDataKey k || isLogKey k)
+
+-- k is one of ks
+unfoldable pub member : (k : ℕ) → List ℕ → Bool
+member k [] = false
+member k (x ∷ ks) = eqb x k || member k ks
+
+-- no key stands twice
+unfoldable pub unlike : List ℕ → Bool
+unlike [] = true
+unlike (k ∷ ks) = not (member k ks) && unlike ks
+
+-- each key is of a form and unlike the others
+unfoldable pub keysOk : (book : Bool) → List ℕ → Bool
+keysOk b [] = true
+keysOk b (k ∷ ks) = isForm b k && (not (member k ks) && keysOk b ks)
+
+-- row i of partition p is zero, its key and its value
+unfoldable pub blankRow : (xs : List ℕ) (p i : ℕ) → Bool
+blankRow xs p i = eqb (le 8 xs (keyAt xs p i)) 0 && eqb (le 4 xs (valueAt xs p i)) 0
+
+-- 11 of partition p
+unfoldable pub partOk : (xs : List ℕ) (p : ℕ) → Bool
+partOk xs p =
+    leb (usedOf xs p) (capOf xs)
+    && keysOk (eqb p (partsOf xs)) (keysIn (rowsOf xs p))
+    && eachFrom (blankRow xs p) (capOf xs - usedOf xs p) (usedOf xs p)
+
+-- 11. Is each used count at most C, each used key of a form of its partition and unlike the others there, each unused row zero?
+unfoldable pub question11 : (xs : List ℕ) → Bool
+question11 xs = each (partsOf xs + 1) (partOk xs)
+
+-- f holds at each of ks
+unfoldable pub allIn : (ℕ → Bool) → (ks : List ℕ) → Bool
+allIn f [] = true
+allIn f (k ∷ ks) = f k && allIn f ks
+
+-- the five keys of an id in the book are among ks
+unfoldable pub five : (ks : List ℕ) (id : ℕ) → Bool
+five ks id = each 5 (λ j. member (bookKey id j) ks)
+
+-- each id that has a key among ks has all five there
+unfoldable pub bookOk : (ks : List ℕ) → Bool
+bookOk ks = allIn (λ k. five ks (k / 8)) ks
+
+-- 12. Has each booked id all five rows? An id is booked as soon as it has any row in the book, which is partition P.
+unfoldable pub question12 : (xs : List ℕ) → Bool
+question12 xs = bookOk (keysIn (rowsOf xs (partsOf xs)))
+
+-- the first no among 9 to 12
+unfoldable pub storeRefusal : (xs : List ℕ) → Option No
+storeRefusal xs =
+    ask (number 9) (question9 xs)
+    (ask (number 10) (question10 xs)
+    (ask (number 11) (question11 xs)
+    (ask (number 12) (question12 xs)
+    none)))
+
+-- Create puts 9 to the numbers given and 10 to the lent buffer, by its length.
+unfoldable pub createRefusal : (P C length : ℕ) → Option No
+createRefusal P C n =
+    ask (number 9) (numbersRight P C)
+    (ask (number 10) (eqb n (sizeOf P C))
+    none)

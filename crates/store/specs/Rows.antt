@@ -1,0 +1,90 @@
+-- What a store holds: for each partition its used rows, each a key with its value. What is said of rows is said by key; their order is
+-- open. Assumes nothing: these are definitions.
+use mathlib.Core.List.{List, [], _∷_, _++_, map}
+use mathlib.Core.Option.{Option, none, some}
+use Prim.Native.Nat.{ℕ, zero, suc, _+_}
+use lib.Dec.{eqb}
+use Rattle.words.specs.Words.{fields}
+use Rattle.rules.specs.Basics.{if_then_else_}
+use Rattle.store.specs.Layout.{partsOf, capOf, keyAt, valueAt, usedOf}
+
+-- a key and its value
+abbrev pub Row : Type 0
+Row = ℕ × ℕ
+
+-- keys and values side by side
+unfoldable pub pairs : (keys values : List ℕ) → List Row
+pairs [] vs = []
+pairs (k ∷ ks) [] = []
+pairs (k ∷ ks) (v ∷ vs) = (k, v) ∷ pairs ks vs
+
+-- the keys of rows
+unfoldable pub keysIn : List Row → List ℕ
+keysIn rs = map (λ (r : Row). r .0) rs
+
+-- P, C and the rows of each partition and of the book, which is numbered P; past it there are none
+pub record Store : Type 0 where
+  pub parts : ℕ
+  pub cap : ℕ
+  pub rows : ℕ → List Row
+
+-- what the bytes hold in partition p: its used rows, which come first
+unfoldable pub rowsOf : (xs : List ℕ) (p : ℕ) → List Row
+rowsOf xs p = pairs (fields 8 xs (keyAt xs p 0) (usedOf xs p)) (fields 4 xs (valueAt xs p 0) (usedOf xs p))
+
+-- what the bytes hold
+abbrev pub storeOf : (xs : List ℕ) → Store
+storeOf xs = record { parts = partsOf xs; cap = capOf xs; rows = rowsOf xs }
+
+-- a store with no row
+abbrev pub emptyStore : (P C : ℕ) → Store
+emptyStore P C = record { parts = P; cap = C; rows = λ p. [] }
+
+-- the store with partition p's rows changed by f
+unfoldable pub alter : (p : ℕ) → (List Row → List Row) → Store → Store
+alter p f st = record { parts = st .parts; cap = st .cap; rows = λ q. if eqb q p then f (st .rows q) else st .rows q }
+
+-- the value at key k, if it has a row
+unfoldable pub lookup : (k : ℕ) → List Row → Option ℕ
+lookup k [] = none
+lookup k (r ∷ rs) = if eqb (r .0) k then some (r .1) else lookup k rs
+
+-- value v at key k: in k's row, or in one row more
+unfoldable pub putRow : (k v : ℕ) → List Row → List Row
+putRow k v [] = (k, v) ∷ []
+putRow k v (r ∷ rs) = if eqb (r .0) k then (r .0, v) ∷ rs else r ∷ putRow k v rs
+
+-- the puts of ps, one after the other
+unfoldable pub putAll : (ps : List Row) → List Row → List Row
+putAll [] rs = rs
+putAll (r ∷ ps) rs = putAll ps (putRow (r .0) (r .1) rs)
+
+-- how many rows a put adds, by what stood at its key
+unfoldable pub newRows : Option ℕ → ℕ
+newRows none = 1
+newRows (some v) = 0
+
+-- how many of the keys ks have no row
+unfoldable pub countNew : (ks : List ℕ) → List Row → ℕ
+countNew [] rs = 0
+countNew (k ∷ ks) rs = newRows (lookup k rs) + countNew ks rs
+
+-- the place of k's row, or the number of rows where it has none
+unfoldable pub placeOf : (k : ℕ) → List Row → ℕ
+placeOf k [] = 0
+placeOf k (r ∷ rs) = if eqb (r .0) k then 0 else suc (placeOf k rs)
+
+-- the place of k among keys, or their number where it is not there
+unfoldable pub indexOf : (k : ℕ) → List ℕ → ℕ
+indexOf k [] = 0
+indexOf k (x ∷ xs) = if eqb x k then 0 else suc (indexOf k xs)
+
+-- the rows with value v in row i
+unfoldable pub setValue : List Row → (i v : ℕ) → List Row
+setValue [] i v = []
+setValue (r ∷ rs) zero v = (r .0, v) ∷ rs
+setValue (r ∷ rs) (suc i) v = r ∷ setValue rs i v
+
+-- the rows and one more
+unfoldable pub addRow : (k v : ℕ) → List Row → List Row
+addRow k v rs = rs ++ (k, v) ∷ []
