@@ -28,7 +28,7 @@ create-spec =
     (λ c. let n = c .before .before in
     let a = n .before .before .args in
     created-9 (a .s .now) (a .parts) (a .cap) (c .refused .result) (sym (n .numbers-right .ensures) ∙ not-true _ (c .before .if1 .taken)) (c .refused .ensures))
-    (λ c κs. let n = right c in (n .1, n .3))
+    (λ c κs. (omega (arith, right c), omega (arith, right c)))
     (λ c κs. search needs)
     (λ c. let z = c .before .before in
     let n = z .before .before in
