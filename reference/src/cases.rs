@@ -1,0 +1,298 @@
+//! The file `cases.bin`: schedules and single calls on any bytes, and their print.
+
+use std::fmt::Write;
+
+use crate::agents::{Agent, Slots, ALL_EMPTY};
+use crate::bytes::{hex, Reader};
+use crate::calls::{Answer, Call, Outcome};
+use crate::pack::{self, Workflow};
+use crate::refusal::Refusal;
+use crate::schedule;
+use crate::store::{self, Request, Store};
+
+/// What a case of kind 1 calls.
+#[derive(Clone, Copy, Debug, PartialEq, Eq)]
+pub enum Order {
+    Check,
+    Open { workflow: u32 },
+    Create { partitions: u32, rows: u32 },
+    Call(Call),
+}
+
+#[derive(Clone, Debug, PartialEq, Eq)]
+pub struct CallCase {
+    pub pack: Vec<u8>,
+    pub store: Vec<u8>,
+    pub slots: Slots,
+    pub order: Order,
+}
+
+#[derive(Clone, Debug, PartialEq, Eq)]
+pub enum Case {
+    Schedule { pack: Vec<u8>, schedule: Vec<u8> },
+    Call(Box<CallCase>),
+}
+
+impl Order {
+    /// From the call byte and its seven words; words that it has no use for are not read.
+    fn read(code: u8, words: [u32; 7]) -> Option<Self> {
+        let [first, second, third, a, b, c, d] = words;
+        Some(match code {
+            0 => Self::Check,
+            1 => Self::Open { workflow: first },
+            2 => Self::Create {
+                partitions: first,
+                rows: second,
+            },
+            3 => Self::Call(Call::Arrival {
+                slot: first,
+                request: Request {
+                    id: second,
+                    workflow: third,
+                    arguments: [a, b, c, d],
+                },
+            }),
+            4 => Self::Call(Call::Retry {
+                slot: first,
+                id: second,
+            }),
+            5 => Self::Call(Call::Turn { slot: first }),
+            6 => Self::Call(Call::Crash { slot: first }),
+            7 => Self::Call(Call::Restart),
+            _ => return None,
+        })
+    }
+
+    /// The call byte and its seven words.
+    fn encode(&self) -> (u8, [u32; 7]) {
+        match *self {
+            Self::Check => (0, [0; 7]),
+            Self::Open { workflow } => (1, [workflow, 0, 0, 0, 0, 0, 0]),
+            Self::Create { partitions, rows } => (2, [partitions, rows, 0, 0, 0, 0, 0]),
+            Self::Call(Call::Arrival { slot, request }) => {
+                let [a, b, c, d] = request.arguments;
+                (3, [slot, request.id, request.workflow, a, b, c, d])
+            }
+            Self::Call(Call::Retry { slot, id }) => (4, [slot, id, 0, 0, 0, 0, 0]),
+            Self::Call(Call::Turn { slot }) => (5, [slot, 0, 0, 0, 0, 0, 0]),
+            Self::Call(Call::Crash { slot }) => (6, [slot, 0, 0, 0, 0, 0, 0]),
+            Self::Call(Call::Restart) => (7, [0; 7]),
+        }
+    }
+}
+
+fn read_agent(reader: &mut Reader) -> Option<Agent> {
+    let [in_use, id, position, step] = reader.words()?;
+    let registers = reader.words()?;
+    (in_use <= 1).then_some(Agent {
+        in_use: in_use == 1,
+        id,
+        position,
+        step,
+        registers,
+    })
+}
+
+fn agent_words(agent: &Agent) -> impl Iterator<Item = u32> {
+    let head = [
+        u32::from(agent.in_use),
+        agent.id,
+        agent.position,
+        agent.step,
+    ];
+    head.into_iter().chain(agent.registers)
+}
+
+impl Case {
+    /// The next case of a file; `None` if it is cut short or has a number out of range.
+    pub fn read(reader: &mut Reader) -> Option<Self> {
+        let kind = reader.byte()?;
+        let pack_length = reader.word()? as usize;
+        let second_length = reader.word()? as usize;
+        let pack = reader.take(pack_length)?.to_vec();
+        let second = reader.take(second_length)?.to_vec();
+        match kind {
+            0 => Some(Self::Schedule {
+                pack,
+                schedule: second,
+            }),
+            1 => {
+                let mut slots = ALL_EMPTY;
+                for slot in &mut slots {
+                    *slot = read_agent(reader)?;
+                }
+                let code = reader.byte()?;
+                let order = Order::read(code, reader.words()?)?;
+                Some(Self::Call(Box::new(CallCase {
+                    pack,
+                    store: second,
+                    slots,
+                    order,
+                })))
+            }
+            _ => None,
+        }
+    }
+
+    /// Appends the case to a file.
+    pub fn write(&self, file: &mut Vec<u8>) {
+        let (kind, pack, second) = match self {
+            Self::Schedule { pack, schedule } => (0, pack, schedule),
+            Self::Call(call) => (1, &call.pack, &call.store),
+        };
+        file.push(kind);
+        file.extend((pack.len() as u32).to_le_bytes());
+        file.extend((second.len() as u32).to_le_bytes());
+        file.extend(pack);
+        file.extend(second);
+        if let Self::Call(call) = self {
+            let records = call.slots.iter().flat_map(agent_words);
+            file.extend(records.flat_map(u32::to_le_bytes));
+            let (code, words) = call.order.encode();
+            file.push(code);
+            file.extend(words.iter().flat_map(|word| word.to_le_bytes()));
+        }
+    }
+
+    /// All that is printed for the case, below its `case N`.
+    pub fn print(&self) -> String {
+        match self {
+            Self::Schedule { pack, schedule } => schedule::program(pack, schedule),
+            Self::Call(call) => call.print(),
+        }
+    }
+}
+
+/// What a single call came to.
+#[derive(Clone, Debug)]
+pub struct Performed<'a> {
+    pub outcome: Outcome,
+    /// The parts that an opening answered with.
+    pub opened: Option<Workflow<'a>>,
+    pub store: Vec<u8>,
+    pub slots: Slots,
+}
+
+impl CallCase {
+    /// Does the call; the case itself stays as it is.
+    pub fn perform(&self) -> Performed<'_> {
+        let mut store = self.store.clone();
+        let mut slots = self.slots;
+        let done = |result: Result<(), Refusal>| result.map(|()| Answer::Done);
+        let mut opened = None;
+        let outcome = match self.order {
+            Order::Check => done(pack::check(&self.pack)),
+            Order::Open { workflow } => {
+                done(pack::open(&self.pack, workflow).map(|parts| opened = Some(parts)))
+            }
+            Order::Create { partitions, rows } => done(store::create(&mut store, partitions, rows)),
+            Order::Call(call) => call.perform(&self.pack, &mut store, &mut slots),
+        };
+        Performed {
+            outcome,
+            opened,
+            store,
+            slots,
+        }
+    }
+
+    fn print(&self) -> String {
+        let result = self.perform();
+        let mut text = format!("answer {}\n", answer_words(&result.outcome));
+        match self.order {
+            Order::Check => {}
+            Order::Open { .. } => print_parts(result.opened, &mut text),
+            _ => {
+                print_store(&result.store, &mut text);
+                print_slots(&result.slots, &mut text);
+            }
+        }
+        text
+    }
+}
+
+/// A single call's answer: a refusal has its place here.
+fn answer_words(outcome: &Outcome) -> String {
+    match outcome {
+        Ok(_) => schedule::words(outcome),
+        Err(refusal) => format!(
+            "refused {} {} {}",
+            refusal.question, refusal.workflow, refusal.instruction
+        ),
+    }
+}
+
+/// The opened parts; a refusal comes with empty ones.
+fn print_parts(opened: Option<Workflow>, text: &mut String) {
+    let (operations, operands) = opened.map_or((&[][..], &[][..]), |parts| {
+        (parts.operations, parts.operands)
+    });
+    // Writing to a String cannot fail, here and below.
+    let _ = writeln!(text, "ops {}", hex(operations));
+    let _ = writeln!(text, "operands {}", hex(operands));
+}
+
+fn print_store(bytes: &[u8], text: &mut String) {
+    let Ok(store) = Store::lay_out(bytes) else {
+        let _ = writeln!(text, "store {}", hex(bytes));
+        return;
+    };
+    let partitions = 0..=store.shape().book();
+    for partition in partitions.clone() {
+        let _ = writeln!(text, "used {partition} {}", store.used(partition));
+    }
+    for partition in partitions {
+        for (key, value) in store.sorted_rows(partition) {
+            let _ = writeln!(text, "row {partition} {key} {value}");
+        }
+    }
+}
+
+fn print_slots(slots: &Slots, text: &mut String) {
+    for (slot, agent) in slots.iter().enumerate() {
+        if !agent.is_empty() {
+            let words: Vec<String> = agent_words(agent).map(|word| word.to_string()).collect();
+            let _ = writeln!(text, "agent {slot} {}", words.join(" "));
+        }
+    }
+}
+
+/// The cases of a file in order; the last item is `None` if the file is malformed there.
+pub fn read_all(file: &[u8]) -> Vec<Option<Case>> {
+    let mut reader = Reader::new(file);
+    let mut cases = Vec::new();
+    while !reader.is_at_end() {
+        let case = Case::read(&mut reader);
+        let malformed = case.is_none();
+        cases.push(case);
+        if malformed {
+            break;
+        }
+    }
+    cases
+}
+
+/// The bytes of a file of cases.
+pub fn write_all(cases: &[Case]) -> Vec<u8> {
+    let mut file = Vec::new();
+    for case in cases {
+        case.write(&mut file);
+    }
+    file
+}
+
+/// All that is printed for a file of cases.
+pub fn print_all(file: &[u8]) -> String {
+    let mut text = String::new();
+    for (number, case) in read_all(file).iter().enumerate() {
+        match case {
+            Some(case) => {
+                let _ = write!(text, "case {number}\n{}", case.print());
+            }
+            None => {
+                let _ = writeln!(text, "malformed case {number}");
+            }
+        }
+    }
+    text
+}

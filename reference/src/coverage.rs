@@ -1,0 +1,132 @@
+//! How often each question and each kind of answer occurs in a file of cases.
+
+use std::fmt::Write;
+
+use crate::calls::{Answer, Call, Outcome};
+use crate::cases::{read_all, CallCase, Case, Order};
+use crate::refusal::QUESTIONS;
+use crate::schedule;
+
+/// The things that can be called, in the order of their call bytes.
+pub const ORDERS: [&str; 8] = [
+    "check", "open", "create", "arrival", "retry", "turn", "crash", "restart",
+];
+
+#[derive(Clone, Debug, Default, PartialEq, Eq)]
+pub struct Coverage {
+    pub schedules: usize,
+    pub calls: usize,
+    pub malformed: usize,
+    /// The events of schedules that ran.
+    pub events: usize,
+    /// By question number, in schedules and in single calls; 0 is not used.
+    pub schedule_refusals: [usize; QUESTIONS.len() + 1],
+    pub call_refusals: [usize; QUESTIONS.len() + 1],
+    pub done: usize,
+    pub moved: usize,
+    pub replied: usize,
+    /// Single calls by what was called: accepted and refused.
+    pub orders: [(usize, usize); ORDERS.len()],
+}
+
+impl Coverage {
+    pub fn of_file(file: &[u8]) -> Self {
+        let mut coverage = Self::default();
+        for case in read_all(file) {
+            match case {
+                Some(Case::Schedule { pack, schedule }) => {
+                    coverage.count_schedule(&pack, &schedule)
+                }
+                Some(Case::Call(call)) => coverage.count_call(&call),
+                None => coverage.malformed += 1,
+            }
+        }
+        coverage
+    }
+
+    /// How often a question was the first no.
+    pub fn question(&self, number: usize) -> usize {
+        self.schedule_refusals[number] + self.call_refusals[number]
+    }
+
+    fn count_schedule(&mut self, pack: &[u8], schedule: &[u8]) {
+        self.schedules += 1;
+        match schedule::run(pack, schedule) {
+            Ok(run) => {
+                self.events += run.calls.len();
+                for (_, outcome) in &run.calls {
+                    self.count(outcome, true);
+                }
+            }
+            Err(refusal) => self.count(&Err(refusal), true),
+        }
+    }
+
+    fn count_call(&mut self, case: &CallCase) {
+        self.calls += 1;
+        let outcome = case.perform().outcome;
+        let (accepted, refused) = &mut self.orders[order_index(&case.order)];
+        match outcome {
+            Ok(_) => *accepted += 1,
+            Err(_) => *refused += 1,
+        }
+        self.count(&outcome, false);
+    }
+
+    fn count(&mut self, outcome: &Outcome, in_schedule: bool) {
+        match outcome {
+            Ok(Answer::Done) => self.done += 1,
+            Ok(Answer::Moved) => self.moved += 1,
+            Ok(Answer::Reply { .. }) => self.replied += 1,
+            Err(refusal) => {
+                let refusals = match in_schedule {
+                    true => &mut self.schedule_refusals,
+                    false => &mut self.call_refusals,
+                };
+                refusals[usize::from(refusal.question)] += 1;
+            }
+        }
+    }
+
+    pub fn print(&self) -> String {
+        let mut text = format!(
+            "cases {}\nschedules {}\nevents {}\ncalls {}\nmalformed {}\n",
+            self.schedules + self.calls + self.malformed,
+            self.schedules,
+            self.events,
+            self.calls,
+            self.malformed
+        );
+        for number in 1..=QUESTIONS.len() {
+            let (events, calls) = (self.schedule_refusals[number], self.call_refusals[number]);
+            // Writing to a String cannot fail, here and below.
+            let _ = writeln!(
+                text,
+                "question {number} {} schedules {events} calls {calls}",
+                self.question(number)
+            );
+        }
+        let refused: usize = (1..=QUESTIONS.len()).map(|n| self.question(n)).sum();
+        let _ = writeln!(text, "answer done {}", self.done);
+        let _ = writeln!(text, "answer moved {}", self.moved);
+        let _ = writeln!(text, "answer reply {}", self.replied);
+        let _ = writeln!(text, "answer refused {refused}");
+        for (name, (accepted, refused)) in ORDERS.iter().zip(self.orders) {
+            let _ = writeln!(text, "call {name} accepted {accepted} refused {refused}");
+        }
+        text
+    }
+}
+
+fn order_index(order: &Order) -> usize {
+    match order {
+        Order::Check => 0,
+        Order::Open { .. } => 1,
+        Order::Create { .. } => 2,
+        Order::Call(Call::Arrival { .. }) => 3,
+        Order::Call(Call::Retry { .. }) => 4,
+        Order::Call(Call::Turn { .. }) => 5,
+        Order::Call(Call::Crash { .. }) => 6,
+        Order::Call(Call::Restart) => 7,
+    }
+}

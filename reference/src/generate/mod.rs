@@ -1,0 +1,197 @@
+//! Seeded cases: each case depends on the seed and its own number only, so that a
+//! longer file starts with the shorter one.
+
+mod calls;
+mod damage;
+mod large;
+mod near_miss;
+mod packs;
+mod schedules;
+mod turns;
+mod world;
+
+use crate::cases::{write_all, Case};
+use crate::random::Random;
+
+pub use near_miss::near_miss;
+pub use packs::{encoded_pack, Bounds};
+pub use schedules::any_schedule;
+pub use world::World;
+
+/// What a case is after. A number is the question that it is aimed at; some miss their
+/// aim, because an earlier question says no or the pack has nothing to aim at.
+#[derive(Clone, Copy, Debug, PartialEq, Eq)]
+enum Family {
+    /// A schedule on a right pack.
+    Schedule,
+    /// A schedule that questions 9, 22 or 23 refuse.
+    BadSchedule(u8),
+    /// A schedule whose pack is not right.
+    BadPackSchedule,
+    /// A pack check of a right pack.
+    Check,
+    Open,
+    Create,
+    /// A pack check or another call on a pack that is nearly right.
+    NearMiss(u8),
+    NearMissCall,
+    /// A call on what a run left.
+    AfterRun,
+    /// A call on rows and records that no run left, but that are right.
+    Odd,
+    /// A call on a state damaged in one place.
+    Damaged(u8),
+    DamagedTwice,
+    /// A call that questions 15 to 20 refuse.
+    Wrong(u8),
+    /// A turn at an instruction outside a block, on any registers.
+    OneInstruction,
+    /// A block with exactly enough room, one row too few, or on the log.
+    ExactRoom,
+    OneRowShort,
+    Logged,
+    /// Restart on any state.
+    Restart,
+    /// Bytes without sense.
+    Noise,
+    Large,
+}
+
+use Family::*;
+
+/// Taken in turn. What is likely to find a difference stands more than once.
+const FAMILIES: [Family; 83] = [
+    Schedule,
+    NearMiss(1),
+    Damaged(9),
+    Check,
+    Schedule,
+    NearMiss(2),
+    Wrong(15),
+    AfterRun,
+    Schedule,
+    NearMiss(3),
+    Damaged(10),
+    Open,
+    Schedule,
+    NearMiss(4),
+    Wrong(16),
+    AfterRun,
+    Schedule,
+    NearMiss(5),
+    Damaged(11),
+    Create,
+    Schedule,
+    NearMiss(6),
+    Wrong(17),
+    AfterRun,
+    Schedule,
+    NearMiss(7),
+    Damaged(12),
+    Odd,
+    Schedule,
+    NearMiss(8),
+    Wrong(18),
+    AfterRun,
+    Schedule,
+    BadSchedule(22),
+    Damaged(13),
+    ExactRoom,
+    Schedule,
+    BadSchedule(23),
+    Wrong(19),
+    OneRowShort,
+    Schedule,
+    BadSchedule(9),
+    Damaged(14),
+    Logged,
+    Schedule,
+    NearMiss(6),
+    Wrong(20),
+    AfterRun,
+    Schedule,
+    NearMissCall,
+    Damaged(11),
+    Odd,
+    Schedule,
+    BadPackSchedule,
+    Damaged(14),
+    Create,
+    Schedule,
+    NearMiss(5),
+    DamagedTwice,
+    OneRowShort,
+    Schedule,
+    NearMiss(2),
+    Wrong(18),
+    Open,
+    Schedule,
+    Noise,
+    Damaged(11),
+    AfterRun,
+    Schedule,
+    NearMiss(6),
+    Large,
+    AfterRun,
+    Schedule,
+    Odd,
+    NearMiss(5),
+    Damaged(14),
+    Schedule,
+    Restart,
+    NearMiss(6),
+    ExactRoom,
+    OneInstruction,
+    BadSchedule(22),
+    OneInstruction,
+];
+
+/// How many cases of the same family come before, counted on from the seed: what a
+/// family has of several sorts it takes in turn, so that a small file has them all.
+fn lane(seed: u64, number: usize) -> usize {
+    let place = number % FAMILIES.len();
+    let is_same = |family: &&Family| **family == FAMILIES[place];
+    let before = FAMILIES[..place].iter().filter(is_same).count();
+    let in_a_round = FAMILIES.iter().filter(is_same).count();
+    let rounds = number / FAMILIES.len();
+    (seed as usize % 1_000) + rounds * in_a_round + before
+}
+
+/// Case `number` of a seed.
+pub fn case(seed: u64, number: usize) -> Case {
+    let mut random = Random::of_item(seed, number as u64);
+    let random = &mut random;
+    let lane = lane(seed, number);
+    match FAMILIES[number % FAMILIES.len()] {
+        Schedule => schedules::right(random),
+        BadSchedule(question) => schedules::refused(random, question, lane),
+        BadPackSchedule => schedules::bad_pack(random),
+        Check => calls::check(random),
+        Open => calls::open(random),
+        Create => calls::create(random),
+        NearMiss(question) => calls::near_miss_check(random, question, lane),
+        NearMissCall => calls::near_miss_call(random),
+        AfterRun => calls::after_run(random),
+        Odd => calls::odd(random),
+        Damaged(question) => calls::damaged(random, question, lane),
+        DamagedTwice => calls::damaged_twice(random),
+        Wrong(question) => calls::wrong(random, question, lane),
+        OneInstruction => turns::one_instruction(random, lane),
+        ExactRoom => turns::at_block(random, turns::Room::Exact),
+        OneRowShort => turns::at_block(random, turns::Room::OneShort),
+        Logged => turns::at_block(random, turns::Room::Logged),
+        Restart => calls::restart(random),
+        Noise => calls::noise(random),
+        Large => large::any(random, lane),
+    }
+}
+
+/// The first `count` cases of a seed.
+pub fn cases(seed: u64, count: usize) -> Vec<Case> {
+    (0..count).map(|number| case(seed, number)).collect()
+}
+
+/// The same as the bytes of a file.
+pub fn file(seed: u64, count: usize) -> Vec<u8> {
+    write_all(&cases(seed, count))
+}

@@ -1,0 +1,300 @@
+//! The plain machine, and a witness that holds a list of calls to demand 3.
+
+use std::collections::BTreeMap;
+
+use crate::agents::{Agent, SLOTS};
+use crate::calls::{Answer, Call, Outcome};
+use crate::operations::{do_one, run_block, Registers};
+use crate::pack::{Operation, Pack};
+use crate::refusal::QUESTIONS;
+use crate::store::{Key, Request, Store, MOST_PARTITIONS};
+
+/// A booked request's agent in the plain machine.
+#[derive(Clone, Debug)]
+struct PlainAgent {
+    workflow: u32,
+    position: usize,
+    registers: Registers,
+    moves: usize,
+}
+
+/// Tables, one agent for each booked request, and a list of replies. No log, no slots.
+pub struct Machine<'a> {
+    pack: Pack<'a>,
+    tables: [BTreeMap<u32, u32>; MOST_PARTITIONS],
+    agents: BTreeMap<u32, PlainAgent>,
+    replies: Vec<(u32, u32)>,
+}
+
+impl<'a> Machine<'a> {
+    pub fn new(pack: Pack<'a>) -> Self {
+        Self {
+            pack,
+            tables: Default::default(),
+            agents: BTreeMap::new(),
+            replies: Vec::new(),
+        }
+    }
+
+    pub fn has_booked(&self, id: u32) -> bool {
+        self.agents.contains_key(&id)
+    }
+
+    pub fn moves(&self, id: u32) -> usize {
+        self.agents.get(&id).map_or(0, |agent| agent.moves)
+    }
+
+    pub fn replies(&self) -> &[(u32, u32)] {
+        &self.replies
+    }
+
+    pub fn table(&self, partition: usize) -> &BTreeMap<u32, u32> {
+        &self.tables[partition]
+    }
+
+    /// The size of the workflow that an id is booked with.
+    pub fn size(&self, id: u32) -> Option<usize> {
+        let agent = self.agents.get(&id)?;
+        let workflow = self.pack.workflow(agent.workflow)?;
+        Some(workflow.size())
+    }
+
+    /// Booking: adds the request with a started agent and no moves.
+    pub fn book(&mut self, request: &Request) {
+        let agent = PlainAgent {
+            workflow: request.workflow,
+            position: 0,
+            registers: Agent::started(request.id, request.arguments).registers,
+            moves: 0,
+        };
+        self.agents.insert(request.id, agent);
+    }
+
+    /// Move: the id's agent does what a turn does. `None` if there is no such agent.
+    pub fn move_on(&mut self, id: u32) -> Option<()> {
+        let agent = self.agents.get_mut(&id)?;
+        let workflow = self.pack.workflow(agent.workflow)?;
+        let instruction = workflow.instruction(agent.position)?;
+        match instruction.operation {
+            Operation::Return => self.replies.push((id, agent.registers[instruction.d])),
+            Operation::Begin => {
+                let table = &mut self.tables[instruction.w as usize];
+                let find = |key: u32| table.get(&key).copied();
+                let run = run_block(&workflow, agent.position, agent.registers, find);
+                table.extend(run.puts);
+                agent.registers[0] = run.result;
+                agent.position = workflow.behind_block(agent.position);
+            }
+            _ => agent.position = do_one(instruction, agent.position, &mut agent.registers),
+        }
+        agent.moves += 1;
+        Some(())
+    }
+}
+
+/// What was counted while a list of calls was watched.
+#[derive(Clone, Debug, Default, PartialEq, Eq)]
+pub struct Tally {
+    pub calls: usize,
+    pub arrivals: usize,
+    pub bookings: usize,
+    pub retries: usize,
+    pub turns: usize,
+    pub moves: usize,
+    pub crashes: usize,
+    pub restarts: usize,
+    pub first_replies: usize,
+    pub later_replies: usize,
+    pub full_lives: usize,
+    pub data_rows: usize,
+    /// Refused calls by question number.
+    pub refused: [usize; QUESTIONS.len() + 1],
+}
+
+impl Tally {
+    pub fn add(&mut self, other: &Tally) {
+        self.calls += other.calls;
+        self.arrivals += other.arrivals;
+        self.bookings += other.bookings;
+        self.retries += other.retries;
+        self.turns += other.turns;
+        self.moves += other.moves;
+        self.crashes += other.crashes;
+        self.restarts += other.restarts;
+        self.first_replies += other.first_replies;
+        self.later_replies += other.later_replies;
+        self.full_lives += other.full_lives;
+        self.data_rows += other.data_rows;
+        for (own, more) in self.refused.iter_mut().zip(other.refused) {
+            *own += more;
+        }
+    }
+}
+
+/// The last accepted arrival or retry on a slot, and the accepted turns since.
+#[derive(Clone, Copy, Debug)]
+struct Life {
+    id: u32,
+    turns: usize,
+}
+
+/// Watches a list of calls from its start, feeds the plain machine, and says at the
+/// end whether demand 3 holds of the list.
+pub struct Witness<'a> {
+    machine: Machine<'a>,
+    lives: [Option<Life>; SLOTS],
+    replied: BTreeMap<u32, u32>,
+    first_replies: Vec<(u32, u32)>,
+    violation: Option<String>,
+    tally: Tally,
+}
+
+impl<'a> Witness<'a> {
+    pub fn new(pack: Pack<'a>) -> Self {
+        Self {
+            machine: Machine::new(pack),
+            lives: [None; SLOTS],
+            replied: BTreeMap::new(),
+            first_replies: Vec::new(),
+            violation: None,
+            tally: Tally::default(),
+        }
+    }
+
+    /// The next call of the list, and what came of it.
+    pub fn see(&mut self, call: &Call, outcome: &Outcome) {
+        self.tally.calls += 1;
+        let answer = match outcome {
+            Ok(answer) => *answer,
+            Err(refusal) => {
+                self.tally.refused[usize::from(refusal.question)] += 1;
+                return;
+            }
+        };
+        match *call {
+            Call::Arrival { slot, request } => self.see_arrival(slot, &request),
+            Call::Retry { slot, id } => {
+                self.tally.retries += 1;
+                self.start_life(slot, id);
+            }
+            Call::Turn { slot } => self.see_turn(slot, answer),
+            Call::Crash { .. } => self.tally.crashes += 1,
+            Call::Restart => self.tally.restarts += 1,
+        }
+    }
+
+    fn see_arrival(&mut self, slot: u32, request: &Request) {
+        self.tally.arrivals += 1;
+        if !self.machine.has_booked(request.id) {
+            self.tally.bookings += 1;
+            self.machine.book(request);
+        }
+        self.start_life(slot, request.id);
+    }
+
+    fn start_life(&mut self, slot: u32, id: u32) {
+        match self.lives.get_mut(slot as usize) {
+            Some(life) => *life = Some(Life { id, turns: 0 }),
+            None => self.blame(format!("an agent was started in slot {slot}")),
+        }
+    }
+
+    fn see_turn(&mut self, slot: u32, answer: Answer) {
+        self.tally.turns += 1;
+        let life = self.lives.get_mut(slot as usize).and_then(Option::as_mut);
+        let Some(life) = life else {
+            return self.blame(format!("a turn in slot {slot} had no agent"));
+        };
+        life.turns += 1;
+        let Life { id, turns } = *life;
+        if self.machine.moves(id) < turns {
+            self.tally.moves += 1;
+            if self.machine.move_on(id).is_none() {
+                self.blame(format!("id {id} turned and is not booked"));
+            }
+        }
+        let full = self.machine.size(id) == Some(turns);
+        self.tally.full_lives += usize::from(full);
+        match answer {
+            Answer::Reply { id, value } => self.see_reply(id, value),
+            _ if full => self.blame(format!("id {id} had {turns} turns and no reply")),
+            _ => {}
+        }
+    }
+
+    fn see_reply(&mut self, id: u32, value: u32) {
+        match self.replied.get(&id) {
+            None => {
+                self.tally.first_replies += 1;
+                self.replied.insert(id, value);
+                self.first_replies.push((id, value));
+            }
+            Some(first) => {
+                let first = *first;
+                self.tally.later_replies += 1;
+                if first != value {
+                    self.blame(format!("id {id} replied {first}, later {value}"));
+                }
+            }
+        }
+    }
+
+    /// Keeps the first thing that was wrong.
+    fn blame(&mut self, what: String) {
+        self.violation.get_or_insert(what);
+    }
+
+    /// The end of the list: what it left must be what the machine has.
+    pub fn close(mut self, store: &[u8]) -> Result<Tally, String> {
+        if self.first_replies != self.machine.replies() {
+            let (ours, theirs) = (&self.first_replies, self.machine.replies());
+            self.blame(format!("first replies {ours:?}, machine {theirs:?}"));
+        }
+        match Store::lay_out(store) {
+            Ok(store) => self.compare_tables(&store),
+            Err(refusal) => self.blame(format!("the store is refused: {}", refusal.question)),
+        }
+        match self.violation {
+            Some(violation) => Err(violation),
+            None => Ok(self.tally),
+        }
+    }
+
+    fn compare_tables(&mut self, store: &Store<&[u8]>) {
+        for partition in 0..MOST_PARTITIONS {
+            let rows = match partition < store.shape().partitions {
+                true => data_rows(store, partition),
+                false => Vec::new(),
+            };
+            self.tally.data_rows += rows.len();
+            let table = self.machine.table(partition);
+            if !rows.iter().copied().eq(table.iter().map(|(k, v)| (*k, *v))) {
+                let what = format!("partition {partition} has {rows:?}, machine {table:?}");
+                self.blame(what);
+            }
+        }
+    }
+}
+
+/// The data rows of a partition by rising key; a key that stands twice is there twice.
+fn data_rows(store: &Store<&[u8]>, partition: usize) -> Vec<(u32, u32)> {
+    let rows = store.sorted_rows(partition).into_iter();
+    rows.filter_map(|(key, value)| match Key::of_stored(key) {
+        Some(Key::Data(key)) => Some((key, value)),
+        _ => None,
+    })
+    .collect()
+}
+
+/// Demand 3 of a schedule's run. A schedule that is refused has no list to speak of.
+pub fn check_run(pack: &[u8], schedule: &[u8]) -> Result<Tally, String> {
+    let Ok(run) = crate::schedule::run(pack, schedule) else {
+        return Ok(Tally::default());
+    };
+    let pack = Pack::read(pack).map_err(|_| "a refused pack ran".to_string())?;
+    let mut witness = Witness::new(pack);
+    for (call, outcome) in &run.calls {
+        witness.see(call, outcome);
+    }
+    witness.close(&run.store)
+}

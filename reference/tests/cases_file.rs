@@ -1,0 +1,254 @@
+//! The file of cases: its bytes, what is printed, and files that are cut short.
+
+mod common;
+
+use common::*;
+use reference::agents::ALL_EMPTY;
+use reference::cases::{print_all, read_all, write_all, CallCase, Case, Order};
+use reference::coverage::Coverage;
+use reference::generate;
+use reference::store::Request;
+use reference::Call;
+
+fn on_state(state: &State, order: Order) -> Case {
+    Case::Call(Box::new(CallCase {
+        pack: state.pack.clone(),
+        store: state.store.clone(),
+        slots: state.slots,
+        order,
+    }))
+}
+
+fn print(case: Case) -> String {
+    print_all(&write_all(&[case]))
+}
+
+#[test]
+fn a_schedule_prints_what_the_program_prints() {
+    let (pack, schedule) = (move_pack(), whole_schedule().encode());
+    let expected = reference::schedule::program(&pack, &schedule);
+    let text = print(Case::Schedule { pack, schedule });
+    assert_eq!(text, format!("case 0\n{expected}"));
+}
+
+#[test]
+fn a_check_prints_its_answer_only() {
+    let mut state = State::with_move();
+    assert_eq!(
+        print(on_state(&state, Order::Check)),
+        "case 0\nanswer done\n"
+    );
+    state.pack[3] = 0x18;
+    let text = print(on_state(&state, Order::Check));
+    assert_eq!(text, "case 0\nanswer refused 4 0 0\n");
+}
+
+#[test]
+fn an_opening_prints_its_parts() {
+    let pack = reference::pack::encode(&[vec![RETURN], vec![(0x01, 0x0102_03FF), (0xB1, 0)]]);
+    let state = State::new(pack, 1, 5);
+    let open = |workflow| print(on_state(&state, Order::Open { workflow }));
+    assert_eq!(
+        open(1),
+        "case 0\nanswer done\nops 01b1\noperands ff03020100000000\n"
+    );
+    assert_eq!(
+        open(2),
+        "case 0\nanswer refused 17 0 0\nops -\noperands -\n"
+    );
+}
+
+#[test]
+fn a_turn_prints_the_state_afterwards() {
+    let mut state = State::with_move();
+    state.turn(0).expect("COPY");
+    let text = print(on_state(&state, Order::Call(Call::Turn { slot: 0 })));
+    let expected = "\
+case 0
+answer moved
+used 0 2
+used 1 0
+used 2 5
+row 0 458752 4294967266
+row 0 9223372036854775908 4294967266
+row 2 56 0
+row 2 57 100
+row 2 58 200
+row 2 59 30
+row 2 60 0
+agent 0 1 7 6 1 4294967266 200 30 0 100 0 0 0
+";
+    assert_eq!(text, expected);
+}
+
+#[test]
+fn a_store_that_is_not_laid_out_is_printed_in_hexadecimal() {
+    let mut state = State::with_move();
+    state.store = vec![1, 5, 0, 0xAB];
+    let turn = Order::Call(Call::Turn { slot: 8 });
+    let agent = "agent 0 1 7 0 0 100 200 30 0 0 0 0 0\n";
+    let text = print(on_state(&state, turn));
+    assert_eq!(
+        text,
+        format!("case 0\nanswer refused 10 0 0\nstore 010500ab\n{agent}")
+    );
+    state.store.clear();
+    let text = print(on_state(&state, turn));
+    assert_eq!(
+        text,
+        format!("case 0\nanswer refused 9 0 0\nstore -\n{agent}")
+    );
+    let text = print(on_state(&state, Order::Call(Call::Restart)));
+    assert_eq!(text, "case 0\nanswer done\nstore -\n");
+}
+
+#[test]
+fn used_counts_are_printed_as_they_stand() {
+    let mut state = State::new(move_pack(), 1, 5);
+    state.store[3] = 6;
+    let text = print(on_state(&state, Order::Call(Call::Crash { slot: 0 })));
+    let rows = "row 0 0 0\n".repeat(5);
+    assert_eq!(
+        text,
+        format!("case 0\nanswer refused 11 0 0\nused 0 6\nused 1 0\n{rows}")
+    );
+}
+
+#[test]
+fn create_prints_the_store_and_the_slots() {
+    let mut state = State::with_move();
+    let create = Order::Create {
+        partitions: 1,
+        rows: 5,
+    };
+    state.store = vec![9; 127];
+    let agent = "agent 0 1 7 0 0 100 200 30 0 0 0 0 0\n";
+    let text = print(on_state(&state, create));
+    assert_eq!(
+        text,
+        format!("case 0\nanswer done\nused 0 0\nused 1 0\n{agent}")
+    );
+}
+
+/// Every order, so that each has been through bytes and back.
+fn all_orders() -> Vec<Case> {
+    let request = Request {
+        id: 1,
+        workflow: 2,
+        arguments: [3, 4, 5, u32::MAX],
+    };
+    let state = State::with_move();
+    let orders = [
+        Order::Check,
+        Order::Open { workflow: 9 },
+        Order::Create {
+            partitions: 1,
+            rows: 70_000,
+        },
+        Order::Call(Call::Arrival { slot: 3, request }),
+        Order::Call(Call::Retry { slot: 4, id: 5 }),
+        Order::Call(Call::Turn { slot: 6 }),
+        Order::Call(Call::Crash { slot: 7 }),
+        Order::Call(Call::Restart),
+    ];
+    orders.map(|order| on_state(&state, order)).to_vec()
+}
+
+#[test]
+fn cases_come_back_from_their_bytes() {
+    let cases = all_orders();
+    let read: Option<Vec<Case>> = read_all(&write_all(&cases)).into_iter().collect();
+    assert_eq!(read, Some(cases));
+}
+
+#[test]
+fn the_bytes_of_a_call_case() {
+    let mut slots = ALL_EMPTY;
+    slots[1].id = 0x0403_0201;
+    let case = Case::Call(Box::new(CallCase {
+        pack: vec![0xAA],
+        store: vec![0xBB, 0xCC],
+        slots,
+        order: Order::Call(Call::Retry { slot: 4, id: 5 }),
+    }));
+    let bytes = write_all(&[case]);
+    assert_eq!(bytes.len(), 9 + 3 + 8 * 48 + 1 + 28);
+    assert_eq!(bytes[..12], [1, 1, 0, 0, 0, 2, 0, 0, 0, 0xAA, 0xBB, 0xCC]);
+    assert_eq!(bytes[12 + 48 + 4..][..4], [1, 2, 3, 4]);
+    assert_eq!(bytes[12 + 384..][..9], [4, 4, 0, 0, 0, 5, 0, 0, 0]);
+}
+
+#[test]
+fn an_empty_file_prints_nothing() {
+    assert_eq!(print_all(&[]), "");
+}
+
+#[test]
+fn a_file_cut_anywhere_ends_with_malformed() {
+    let first = write_all(&all_orders()[..1]);
+    let file = write_all(&all_orders()[..2]);
+    let whole = print_all(&first);
+    assert_eq!(print_all(&file[..first.len()]), whole);
+    for length in first.len() + 1..file.len() {
+        let text = print_all(&file[..length]);
+        assert_eq!(
+            text,
+            format!("{whole}malformed case 1\n"),
+            "length {length}"
+        );
+    }
+    for length in 1..first.len() {
+        assert_eq!(print_all(&file[..length]), "malformed case 0\n");
+    }
+}
+
+#[test]
+fn numbers_out_of_range_are_malformed() {
+    let file = write_all(&all_orders()[..1]);
+    let with = |place: usize, byte: u8| {
+        let mut file = file.clone();
+        file[place] = byte;
+        print_all(&file)
+    };
+    let records = file.len() - 1 - 28 - 384;
+    assert_eq!(with(0, 2), "malformed case 0\n", "no such kind");
+    assert_eq!(with(records, 2), "malformed case 0\n", "in use is 0 or 1");
+    assert_eq!(
+        with(file.len() - 29, 8),
+        "malformed case 0\n",
+        "no such call"
+    );
+    assert_eq!(
+        with(4, 0xFF),
+        "malformed case 0\n",
+        "a length beyond the file"
+    );
+    assert_eq!(Coverage::of_file(&file[..9]).malformed, 1);
+}
+
+#[test]
+fn coverage_counts_answers_and_questions() {
+    let mut file = write_all(&all_orders());
+    let (pack, schedule) = (move_pack(), whole_schedule().encode());
+    Case::Schedule { pack, schedule }.write(&mut file);
+    let coverage = Coverage::of_file(&file);
+    assert_eq!(
+        (coverage.schedules, coverage.calls, coverage.events),
+        (1, 8, 10)
+    );
+    assert_eq!((coverage.done, coverage.moved, coverage.replied), (5, 5, 1));
+    assert_eq!(
+        [9, 16, 17, 19].map(|number| coverage.question(number)),
+        [1, 2, 2, 1]
+    );
+    assert!(coverage
+        .print()
+        .contains("question 19 1 schedules 1 calls 0\n"));
+}
+
+#[test]
+fn generated_cases_come_back_from_their_bytes() {
+    let cases = generate::cases(5, 400);
+    let read: Option<Vec<Case>> = read_all(&write_all(&cases)).into_iter().collect();
+    assert_eq!(read, Some(cases));
+}

@@ -1,0 +1,85 @@
+//! The generator: the same seed the same bytes, small files, and nothing left out.
+
+use reference::cases::{Case, Order};
+use reference::coverage::Coverage;
+use reference::generate::{self, encoded_pack, near_miss, Bounds};
+use reference::pack::{check, MOST_INSTRUCTIONS};
+use reference::random::Random;
+use reference::refusal::QUESTIONS;
+use reference::Operation;
+
+#[test]
+fn a_seed_names_its_cases() {
+    assert_eq!(generate::file(3, 200), generate::file(3, 200));
+    assert_ne!(generate::file(3, 20), generate::file(4, 20));
+}
+
+#[test]
+fn a_longer_file_starts_with_the_shorter() {
+    assert!(generate::file(6, 90).starts_with(&generate::file(6, 60)));
+}
+
+#[test]
+fn a_small_file_covers_every_question_answer_and_call() {
+    for seed in 0..20 {
+        let file = generate::file(seed, 300);
+        assert!(file.len() < 300 * 1_024, "seed {seed}: {}", file.len());
+        let coverage = Coverage::of_file(&file);
+        for number in 1..=QUESTIONS.len() {
+            assert!(
+                coverage.question(number) > 0,
+                "seed {seed}, question {number}"
+            );
+        }
+        assert!(coverage.done > 0 && coverage.moved > 0 && coverage.replied > 0);
+        for number in 1..=21 {
+            assert!(
+                coverage.call_refusals[number] > 0,
+                "seed {seed}, call {number}"
+            );
+        }
+        let called = |(accepted, refused): &(usize, usize)| accepted + refused > 0;
+        assert!(coverage.orders.iter().all(called), "seed {seed}");
+    }
+}
+
+#[test]
+fn right_packs_pass_the_check_and_have_every_operation() {
+    let mut random = Random::new(11);
+    let mut seen = [false; 16];
+    for _ in 0..3_000 {
+        let bounds = Bounds::any(&mut random);
+        let pack = encoded_pack(&mut random, bounds);
+        assert_eq!(check(&pack), Ok(()));
+        for instruction in reference::Pack::read(&pack).expect("right").instructions() {
+            seen[usize::from(instruction.operation.code())] = true;
+        }
+    }
+    assert!(Operation::ALL.iter().all(|op| seen[usize::from(op.code())]));
+}
+
+#[test]
+fn near_misses_mostly_hit_their_question() {
+    let mut random = Random::new(12);
+    for question in 1..=8 {
+        let hits = (0..400)
+            .filter(|lane| {
+                let refusal = check(&near_miss(&mut random, question, *lane));
+                refusal.is_err_and(|refusal| refusal.question == question)
+            })
+            .count();
+        assert!(hits > 250, "question {question}: {hits} of 400");
+    }
+}
+
+#[test]
+fn records_stay_within_what_both_suppliers_can_hold() {
+    for case in generate::cases(13, 3_000) {
+        let Case::Call(call) = case else { continue };
+        let fits = |number: u32| number < 65_536;
+        assert!(call.slots.iter().all(|a| fits(a.position) && fits(a.step)));
+        if let Order::Open { .. } = call.order {
+            assert!(call.pack.len() <= 1 + 32 + 5 * MOST_INSTRUCTIONS + 5);
+        }
+    }
+}

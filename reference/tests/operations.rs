@@ -1,0 +1,114 @@
+//! What blocks and operations do, beyond the document's own examples.
+
+mod common;
+
+use common::*;
+use reference::pack::encode;
+use reference::store::{Key, Store};
+use reference::Answer;
+
+/// Runs one block on arguments 100, 200, 30, 0; answers with its result.
+fn result_of(body: &[(u8, u32)]) -> u32 {
+    let mut workflow = vec![BEGIN];
+    workflow.extend(body);
+    workflow.extend([(0x77, 0), RETURN]);
+    let mut state = State::new(encode(&[workflow]), 1, 12);
+    state.arrival(0, request(7)).expect("an arrival");
+    assert_eq!(state.turn(0), Ok(Answer::Moved));
+    let agent = state.slots[0];
+    assert_eq!(
+        agent.registers[1..],
+        [200, 30, 0, 0, 0, 0, 0],
+        "only register 0 changes"
+    );
+    assert_eq!(agent.position as usize, 2 + body.len());
+    assert_eq!(agent.step, 1);
+    agent.registers[0]
+}
+
+#[test]
+fn get_and_has_see_earlier_puts() {
+    assert_eq!(result_of(&[(0x87, 0)]), 0, "absent");
+    assert_eq!(result_of(&[(0xA7, 0)]), 0);
+    assert_eq!(result_of(&[(0x90, 2), (0x87, 0)]), 30);
+    assert_eq!(result_of(&[(0x90, 2), (0x90, 1), (0x87, 0)]), 200);
+    assert_eq!(
+        result_of(&[(0x90, 3), (0xA7, 0)]),
+        1,
+        "a PUT of 0 is present"
+    );
+    assert_eq!(result_of(&[(0x90, 2), (0xA7, 1)]), 0);
+}
+
+#[test]
+fn jumps_compare_unsigned_numbers() {
+    // r5 = 2^32 − 1, r6 = 1; the jump passes the SET of r7.
+    let with =
+        |byte: u8, s: u32| result_of(&[(0x05, u32::MAX), (0x06, 1), (byte, 16 * 5 + s), (0x07, 9)]);
+    assert_eq!(with(0x45, 6), 9);
+    assert_eq!(with(0x46, 5), 0);
+    assert_eq!(with(0x46, 6), 9, "not below itself");
+    assert_eq!(with(0x56, 6), 0);
+    assert_eq!(with(0x55, 6), 9);
+}
+
+#[test]
+fn get_and_copy_into_their_own_register() {
+    assert_eq!(result_of(&[(0x17, 0), (0x97, 2), (0x87, 7)]), 30);
+    assert_eq!(result_of(&[(0x07, 3), (0x27, 7)]), 6);
+    assert_eq!(result_of(&[(0x07, 3), (0x37, 7)]), 0);
+}
+
+#[test]
+fn steps_count_by_request_and_not_by_partition() {
+    let mut state = State::with_move();
+    for _ in 0..3 {
+        assert_eq!(state.turn(0), Ok(Answer::Moved));
+    }
+    let store = Store::read(state.store.as_slice()).expect("right");
+    assert_eq!(
+        store.find(0, Key::Log { id: 7, step: 0 }.stored()),
+        Some(0xFFFF_FFE2)
+    );
+    assert_eq!(
+        store.find(1, Key::Log { id: 7, step: 1 }.stored()),
+        Some(30)
+    );
+    assert_eq!(store.find(1, Key::Log { id: 7, step: 0 }.stored()), None);
+}
+
+#[test]
+fn a_log_row_is_sought_in_its_own_partition_by_id_and_step() {
+    let mut state = State::with_move();
+    state.turn(0).expect("COPY");
+    let mut store = Store::read(state.store.as_mut_slice()).expect("right");
+    for (partition, id, step) in [(1, 7, 0), (0, 7, 1), (0, 8, 0)] {
+        assert!(store.put(partition, Key::Log { id, step }.stored(), 5));
+    }
+    assert_eq!(state.turn(0), Ok(Answer::Moved));
+    assert_eq!(state.slots[0].registers[0], 0xFFFF_FFE2, "the block ran");
+    assert_eq!(state.turn(0), Ok(Answer::Moved));
+    assert_eq!(state.slots[0].registers[0], 30, "so did the second");
+}
+
+#[test]
+fn two_agents_of_one_id_do_a_block_once() {
+    let mut state = State::with_move();
+    state.retry(4, 7).expect("a second agent");
+    for slot in [0, 4] {
+        state.turn(slot).expect("COPY");
+        state.turn(slot).expect("the block");
+    }
+    assert_eq!(state.slots[0], state.slots[4]);
+    let store = Store::read(state.store.as_slice()).expect("right");
+    assert_eq!(store.find(0, Key::Data(100).stored()), Some(0xFFFF_FFE2));
+}
+
+#[test]
+fn a_reply_empties_the_slot() {
+    let mut state = State::new(encode(&[vec![(0xB2, 0)]]), 1, 5);
+    state.arrival(6, request(7)).expect("an arrival");
+    assert_eq!(state.turn(6), Ok(Answer::Reply { id: 7, value: 30 }));
+    assert!(state.slots[6].is_empty());
+    assert_eq!(question(state.turn(6)), 16);
+}
