@@ -12,4 +12,3 @@ pub mod Positions
 pub mod Blocks
 pub mod Theorem
 pub mod WholeCase
-pub mod Edges

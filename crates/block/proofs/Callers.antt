@@ -1,0 +1,221 @@
+-- Laws for callers: an accepted pack has what a block requires, and what a block comes to is what the rules say of the turn. Assumes nothing.
+use mathlib.Core.Bool.{Bool, true, false}
+use mathlib.Core.List.{List}
+use mathlib.Core.Logic.{_≢_}
+use mathlib.Core.Option.{Option, none, some}
+use mathlib.Core.Path.{_≡_, refl, sym, ap, ap₂, _∙_, subst, fun-ext}
+use Prim.Native.Nat.{ℕ, _+_, _*_, _<_}
+use native.Mathlib.Omega.{arith}
+use native.Mathlib.Decide.{ℕ-discrete}
+use borrow.Author.Tests.{lt-ltb}
+use lib.Dec.{ltb, leb}
+use lib.ListN.{length}
+use Rattle.rules.specs.Basics.{if_then_else_, update}
+use Rattle.rules.specs.Instructions.{Instruction, Code, Place, opens, act, actAt}
+use Rattle.rules.specs.Instructions as Instructions
+use Rattle.rules.specs.Blocks.{Block, runBlock, rowsNeeded}
+use Rattle.rules.specs.Store.{Request, Store, written}
+use Rattle.rules.specs.Calls.{Agent, State, canWrite, passes, throughBlock}
+use Rattle.rules.specs.Calls as Calls
+use Rattle.rules.proofs.Updates.{update-same, update-other}
+use Rattle.store.specs.Rows.{Row, rowsOf}
+use Rattle.store.specs.Layout.{partsOf, capOf}
+use Rattle.store.specs.Sound.{Sound}
+use Rattle.operation.specs.Operations.{begin}
+use Rattle.pack.specs.Layout.{count, operationsOf, operandsOf, operationAt, wordAt}
+use Rattle.pack.specs.Refusal.{packRefusal}
+use Rattle.pack.specs.Meaning.{codeOf}
+use Rattle.pack.specs.Meaning as Meaning
+use Rattle.pack.proofs.Sizes.{length-operations, length-operands}
+use Rattle.pack.proofs.Laws.{accepted-laid, accepted-workflow}
+use Rattle.pack.proofs.Decoded.{instruction-at}
+use Rattle.block.specs.declared.write.BlockOutcome.{BlockOutcome}
+use Rattle.block.specs.declared.write.BlockOutcome.the-variants.{Result, NoRoom}
+use Rattle.block.specs.Run.{Right}
+use Rattle.block.specs.Through.{tableIn, logIn, hasRoom, Committed, Through}
+use Rattle.block.specs.Store.{storeIn, hadRoom}
+
+-- ---- the pack
+
+pub accepted-right : (p : List ℕ) → packRefusal p ≡ none → (w : ℕ) → w < count p → Right (operationsOf p w) (operandsOf p w)
+accepted-right p e w h =
+    let l = accepted-laid p e in
+    record {
+      sized = length-operands p l w h ∙ ap (λ (n : ℕ). 4 * n) (sym (length-operations p l w h));
+      workflow = w;
+      yes = accepted-workflow p e w h;
+    }
+
+-- an instruction with operation 6 opens the block of the partition that its operand names
+pub begin-opens : (ops ws : List ℕ) (at : Place) → at .position < length ops → operationAt ops (at .position) ≡ begin → actAt (codeOf ops ws) at ≡ opens (wordAt ws (at .position))
+unfolding Instructions.actAt Instructions.act Meaning.decode
+begin-opens ops ws at h e = ap (λ (i : Instruction). act i at) (instruction-at ops ws (at .position) h) ∙ rw e refl
+
+-- ---- the store
+
+changed : {A : Type 0} (f g : ℕ → A) (p : ℕ) (v : A) → g p ≡ v → ((q : ℕ) → q ≢ p → g q ≡ f q) → g ≡ update f p v
+changed f g p v here there = fun-ext {f = g} {g = update f p v} (λ q. go q (ℕ-discrete q p))
+  where
+    go : (q : ℕ) → Dec (q ≡ p) → g q ≡ update f p v q
+    go q (yes e) = ap g e ∙ here ∙ sym (ap (update f p v) e ∙ update-same f p v)
+    go q (no n) = there q n ∙ sym (update-other f p v q n)
+
+module _ (book : List Row → ℕ → Option Request) where
+  -- a partition of the rules' store is what its rows stand for
+  module _ (xs : List ℕ) (p : ℕ) (h : p < partsOf xs) where
+    pub used-in : storeIn book xs .used p ≡ length (rowsOf xs p)
+    used-in = λ i. if_then_else_ (lt-ltb p (partsOf xs) h i) (length (rowsOf xs p)) 0
+
+    pub rows-in : storeIn book xs .rows p ≡ tableIn (rowsOf xs p)
+    rows-in = λ i k. if_then_else_ (lt-ltb p (partsOf xs) h i) (tableIn (rowsOf xs p) k) none
+
+    pub log-in : storeIn book xs .log p ≡ logIn (rowsOf xs p)
+    log-in = λ i id t. if_then_else_ (lt-ltb p (partsOf xs) h i) (logIn (rowsOf xs p) id t) none
+
+  -- the rules' rows, and no others
+  module _ (xs ys : List ℕ) (p id t : ℕ) (b : Block) (h : p < partsOf xs) (c : Committed xs ys p id t b) where
+    still : p < partsOf ys
+    still = subst (λ (n : ℕ). p < n) (sym (c .parts)) h
+
+    pub same-book : rowsOf ys (partsOf ys) ≡ rowsOf xs (partsOf xs)
+    same-book = ap (rowsOf ys) (c .parts) ∙ c .others (partsOf xs) (λ e. omega arith)
+
+    more-used : storeIn book ys .used p ≡ storeIn book xs .used p + rowsNeeded b
+    more-used = used-in ys p still ∙ c .used ∙ ap (λ (n : ℕ). n + rowsNeeded b) (sym (used-in xs p h))
+
+    abbrev with-row : (ℕ → ℕ → Option ℕ) → ℕ → ℕ → Option ℕ
+    with-row l = update l id (update (l id) t (some (b .result)))
+
+    pub committed-store : storeIn book ys ≡ written (storeIn book xs) p id t b
+    committed-store =
+        λ i.
+        record {
+          room = c .cap i;
+          used =
+              changed (storeIn book xs .used) (storeIn book ys .used) p (storeIn book xs .used p + rowsNeeded b) more-used
+              (λ q n j. if_then_else_ (ltb q (c .parts j)) (length (c .others q n j)) 0) i;
+          rows =
+              changed (storeIn book xs .rows) (storeIn book ys .rows) p (b .table) (rows-in ys p still ∙ c .table)
+              (λ q n j k. if_then_else_ (ltb q (c .parts j)) (tableIn (c .others q n j) k) none) i;
+          log =
+              changed (storeIn book xs .log) (storeIn book ys .log) p (with-row (storeIn book xs .log p)) (log-in ys p still ∙ c .log ∙ ap with-row (sym (log-in xs p h)))
+              (λ q n j m u. if_then_else_ (ltb q (c .parts j)) (logIn (c .others q n j) m u) none) i;
+          bookUsed = length (same-book i);
+          book = book (same-book i);
+        }
+
+-- ---- what a block comes to
+
+-- the three ways through a block
+data Came (xs ys : List ℕ) (p id t : ℕ) (b : Block) (r : BlockOutcome) (o : Option ℕ) : Type 0 where
+  found : (v : ℕ) → o ≡ some v → r ≡ Result v → ys ≡ xs → Came xs ys p id t b r o
+  wrote : o ≡ none → hasRoom xs p b ≡ true → r ≡ Result (b .result) → Committed xs ys p id t b → Came xs ys p id t b r o
+  full : o ≡ none → hasRoom xs p b ≡ false → r ≡ NoRoom → ys ≡ xs → Came xs ys p id t b r o
+
+came : (xs ys : List ℕ) (p id t : ℕ) (b : Block) (r : BlockOutcome) (o : Option ℕ) → Through xs ys p id t b r o → Came xs ys p id t b r o
+unfolding Through
+came xs ys p id t b r (some v) (e, q) = found v refl e q
+came xs ys p id t b r none q = go (hasRoom xs p b) refl q
+  where
+    go : (m : Bool) → hasRoom xs p b ≡ m → if_then_else_ m ((r ≡ Result (b .result)) × Committed xs ys p id t b) ((r ≡ NoRoom) × (ys ≡ xs)) → Came xs ys p id t b r none
+    go true m (e, c) = wrote refl m e c
+    go false m (e, c) = full refl m e c
+
+same-result : {v w : ℕ} {r : BlockOutcome} → r ≡ Result v → r ≡ Result w → v ≡ w
+same-result {v} {w} {r} e f = cc
+
+never-both : {A : Type 0} {v : ℕ} {r : BlockOutcome} → r ≡ Result v → r ≡ NoRoom → A
+never-both {v} {r} e f = let z : _≡_ {A = ℕ} 0 1 = cc in absurd (omega arith)
+
+-- Agent a stands at BEGIN of a block of partition p: xs are the bytes before, ys those that the block leaves, r is what it comes to, o what
+-- its log row says.
+module _ (book : List Row → ℕ → Option Request) (xs ys : List ℕ) (p : ℕ) (h : p < partsOf xs) (a : Agent) (code : Code) (r : BlockOutcome) (o : Option ℕ)
+    (through : Through xs ys p (a .id) (a .step) (runBlock code (a .place) (tableIn (rowsOf xs p))) r o) where
+  abbrev block : Block
+  block = runBlock code (a .place) (tableIn (rowsOf xs p))
+
+  abbrev way : Came xs ys p (a .id) (a .step) block r o
+  way = came xs ys p (a .id) (a .step) block r o through
+
+  abbrev holding : (ℕ → Option Agent) → List ℕ → State
+  holding slots zs = record { store = storeIn book zs; slots = slots }
+
+  same-block : runBlock code (a .place) (storeIn book xs .rows p) ≡ block
+  same-block = ap (runBlock code (a .place)) (rows-in book xs p h)
+
+  room-as : canWrite (storeIn book xs) a code p none ≡ hasRoom xs p block
+  unfolding Calls.canWrite
+  room-as = ap₂ (λ (n : ℕ) (b : Block). leb (n + rowsNeeded b) (capOf xs)) (used-in book xs p h) same-block
+
+  -- question 21 says yes exactly where the code had room
+  pub can-write : canWrite (storeIn book xs) a code p o ≡ hadRoom r
+  unfolding Calls.canWrite
+  can-write = go way
+    where
+      go : Came xs ys p (a .id) (a .step) block r o → canWrite (storeIn book xs) a code p o ≡ hadRoom r
+      go (found v e f q) = ap (canWrite (storeIn book xs) a code p) e ∙ sym (ap hadRoom f)
+      go (wrote e m f c) = ap (canWrite (storeIn book xs) a code p) e ∙ room-as ∙ m ∙ sym (ap hadRoom f)
+      go (full e m f q) = ap (canWrite (storeIn book xs) a code p) e ∙ room-as ∙ m ∙ sym (ap hadRoom f)
+
+  -- and then the rules pass the block with the code's result, in a state that holds the bytes left
+  pub passes-block : (slots : ℕ → Option Agent) (slot v : ℕ) → r ≡ Result v → throughBlock (holding slots xs) slot a code p o ≡ passes (holding slots ys) slot a code v
+  unfolding Calls.throughBlock
+  passes-block slots slot v z = go way
+    where
+      go : Came xs ys p (a .id) (a .step) block r o → throughBlock (holding slots xs) slot a code p o ≡ passes (holding slots ys) slot a code v
+      go (found w e f q) = ap (throughBlock (holding slots xs) slot a code p) e ∙ ap₂ (λ zs n. passes (holding slots zs) slot a code n) (sym q) (same-result f z)
+      go (wrote e m f c) =
+          ap (throughBlock (holding slots xs) slot a code p) e
+          ∙ ap (λ (b : Block). passes (record { store = written (storeIn book xs) p (a .id) (a .step) b; slots = slots }) slot a code (b .result)) same-block
+          ∙ ap₂ (λ (s : Store) (n : ℕ). passes (record { store = s; slots = slots }) slot a code n) (sym (committed-store book xs ys p (a .id) (a .step) block h c)) (same-result f z)
+      go (full e m f q) = never-both z f
+
+  -- a no to question 21 changes nothing
+  pub no-room-same : r ≡ NoRoom → ys ≡ xs
+  no-room-same z = go way
+    where
+      go : Came xs ys p (a .id) (a .step) block r o → ys ≡ xs
+      go (found v e f q) = q
+      go (wrote e m f c) = never-both f z
+      go (full e m f q) = q
+
+  -- P, C and the book stay, and the store is sound
+  pub record Stays : Type 0 where
+    pub parts : partsOf ys ≡ partsOf xs
+    pub cap : capOf ys ≡ capOf xs
+    pub book-rows : rowsOf ys (partsOf ys) ≡ rowsOf xs (partsOf xs)
+    pub sound : Sound xs → Sound ys
+
+  pub stays : Stays
+  stays = go way
+    where
+      same : ys ≡ xs → Stays
+      same q =
+          record {
+            parts = ap partsOf q;
+            cap = ap capOf q;
+            book-rows = ap (λ zs. rowsOf zs (partsOf zs)) q;
+            sound = subst Sound (sym q);
+          }
+
+      go : Came xs ys p (a .id) (a .step) block r o → Stays
+      go (found v e f q) = same q
+      go (wrote e m f c) =
+          record {
+            parts = c .parts;
+            cap = c .cap;
+            book-rows = same-book book xs ys p (a .id) (a .step) block h c;
+            sound = λ s. c .sound;
+          }
+      go (full e m f q) = same q
+
+  -- where the rules' store stays the same, no byte changes: a block that is written adds a row
+  pub same-bytes : storeIn book xs ≡ storeIn book ys → ys ≡ xs
+  same-bytes z = go way
+    where
+      go : Came xs ys p (a .id) (a .step) block r o → ys ≡ xs
+      go (found v e f q) = q
+      go (wrote e m f c) =
+          let u : storeIn book xs .used p ≡ storeIn book ys .used p = ap (λ (s : Store). s .used p) z in
+          absurd (omega (arith, u, more-used book xs ys p (a .id) (a .step) block h c))
+      go (full e m f q) = q

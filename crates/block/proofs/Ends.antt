@@ -1,0 +1,57 @@
+-- The index behind a block: the search for END, from an instruction on. Assumes nothing.
+use mathlib.Core.List.{List, _∷_}
+use mathlib.Core.Path.{_≡_, refl, ap, _∙_}
+use Prim.Native.Nat.{ℕ, suc, _+_, _≤_, _<_}
+use native.Mathlib.Numerals.{add-one}
+use native.Mathlib.Omega.{arith}
+use native.Mathlib.Decide.{decLt}
+use borrow.Author.Tests.{eq-eqb, ne-eqb}
+use lib.Dec.{eqb}
+use lib.ListN.{length, drop, drop-of-length-le, List·getD-eq-default}
+use lib.Seq.{drop-cons}
+use Rattle.rules.specs.Instructions.{RETURN, instructionAt}
+use Rattle.rules.specs.Blocks.{isEnd, throughEnd, behindEnd}
+use Rattle.operation.specs.Operations.{end}
+use Rattle.pack.specs.Layout.{operationAt, registerAt, wordAt}
+use Rattle.pack.specs.Meaning.{decode, codeOf}
+use Rattle.pack.specs.Meaning as Meaning
+use Rattle.pack.proofs.Decoded.{by-operation, length-code, instruction-at}
+
+is-end : (op d w : ℕ) → isEnd (decode op d w) ≡ eqb op end
+unfolding Meaning.decode
+is-end op d w = go (decLt op 12)
+  where
+    go : Dec (op < 12) → isEnd (decode op d w) ≡ eqb op end
+    go (yes h) = by-operation (λ (n : ℕ). isEnd (decode n d w) ≡ eqb n end) refl refl refl refl refl refl refl refl refl refl refl refl op h
+    go (no n) = let g : 12 ≤ op = omega arith in rw (List·getD-eq-default, ne-eqb op end (λ e. n (omega arith))) refl
+
+-- what is left gives the whole
+module _ (ops : List ℕ) (begin i : ℕ) where
+  abbrev pub Left : Type 0
+  Left = (ws : List ℕ) → behindEnd (codeOf ops ws) begin ≡ i + throughEnd (drop i (codeOf ops ws))
+
+  module _ (ws : List ℕ) (h : i < length ops) where
+    code-at : drop i (codeOf ops ws) ≡ _∷_ (instructionAt (codeOf ops ws) i) (drop (suc i) (codeOf ops ws))
+    code-at = drop-cons (codeOf ops ws) i (RETURN 0) (omega (arith, length-code ops ws))
+
+    end-at : isEnd (instructionAt (codeOf ops ws) i) ≡ eqb (operationAt ops i) end
+    end-at = ap isEnd (instruction-at ops ws i h) ∙ is-end (operationAt ops i) (registerAt ops i) (wordAt ws i)
+
+  pub end-hit : Left → i < length ops → operationAt ops i ≡ end → (ws : List ℕ) → i + 1 ≡ behindEnd (codeOf ops ws) begin
+  end-hit l h e ws =
+      let q : throughEnd (drop i (codeOf ops ws)) ≡ 1 = rw (code-at ws h, end-at ws h, eq-eqb (operationAt ops i) end e) refl in
+      omega (arith, l ws)
+
+  pub end-none : Left → length ops ≤ i → (ws : List ℕ) → i ≡ behindEnd (codeOf ops ws) begin
+  end-none l h ws =
+      let q : throughEnd (drop i (codeOf ops ws)) ≡ 0 = rw (drop-of-length-le (codeOf ops ws) {i = i} (omega (arith, length-code ops ws))) refl in
+      omega (arith, l ws)
+
+pub end-start : (ops : List ℕ) (begin : ℕ) → Left ops begin (begin + 1)
+end-start ops begin ws = rw (add-one begin) refl
+
+pub end-miss : (ops : List ℕ) (begin i : ℕ) → Left ops begin i → i < length ops → (operationAt ops i ≡ end → ⊥) → Left ops begin (i + 1)
+end-miss ops begin i l h n ws =
+    let q : throughEnd (drop i (codeOf ops ws)) ≡ suc (throughEnd (drop (i + 1) (codeOf ops ws))) =
+    rw (add-one i, code-at ops begin i ws h, end-at ops begin i ws h, ne-eqb (operationAt ops i) end n) refl in
+    omega (arith, l ws)

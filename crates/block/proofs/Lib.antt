@@ -1,0 +1,8 @@
+pub mod Rows
+pub mod Steps
+pub mod Ahead
+pub mod Inside
+pub mod Onward
+pub mod Writes
+pub mod Ends
+pub mod Callers

@@ -1,0 +1,109 @@
+-- `block::run_on` meets its contract. The loop's invariant: the run stands inside the block, and what the rules make of it from here is what
+-- they make of it from the start. Assumes nothing.
+use mathlib.Core.Path.{_≡_, refl, sym, _∙_}
+use Prim.Native.Nat.{_-_}
+use native.Mathlib.Omega.{arith}
+use borrow.Author.Needs.{needs}
+use lib.ListN.{length, getD}
+use Rattle.rules.specs.Instructions.{act}
+use Rattle.store.specs.Rows.{rowsOf}
+use Rattle.pack.specs.Meaning.{instructionOf}
+use Rattle.operation.specs.Operations.{end}
+use Rattle.pack.specs.Layout.{operationAt, wordAt}
+use Rattle.block.specs.Run.{placeOf, putsOf, Stepped, Inside, runOf}
+use Rattle.block.proofs.Inside.{fits-here}
+use Rattle.block.proofs.Onward.{counted, goes-further, runs-on, run-ends, run-none}
+use Rattle.block.proofs.run.run_on.Statement.{statement}
+use Rattle.block.proofs.run.run_on.Tie as tie
+
+abbrev Inv-loop : tie.InvT-loop
+Inv-loop ops operands store partition x₀ x = Inside ops x × (runOf ops operands (rowsOf store partition) x ≡ runOf ops operands (rowsOf store partition) x₀)
+
+abbrev μ-loop : tie.MeasureT-loop
+μ-loop ops operands store partition x₀ x = length ops - x .place .position
+
+-- what a turn of the loop has done
+stepped : (c : tie.After-step Inv-loop μ-loop) →
+    let lp = c .before .before .before .before .before .before .before .before in
+    let a = lp .before .before .before .before .args in
+    let at = lp .loop .x .place .position in
+    Stepped (act (instructionOf (getD (a .ops .now) at 0) (wordAt (a .operands .now) at)) (placeOf (lp .loop .x .place))) (rowsOf (a .store .now) (a .partition)) (lp .loop .x) (c .step .result) (putsOf (operationAt (a .ops .now) at))
+stepped c = rw (c .before .word-in .ensures) at (c .step .ensures)
+
+pub run-on-spec : {M : Type 1} → statement M
+run-on-spec =
+    tie.close
+    (tie.spec
+    Inv-loop
+    μ-loop
+    (λ c. (c .before .before .before .pre .3, refl))
+    (λ c. search needs)
+    (λ c κs. search needs)
+    (λ c κs. search needs)
+    (λ c. search needs)
+    (λ c. search needs)
+    (λ c. search needs)
+    (λ c κs.
+    let lp = c .before .before .before .before .before .before .before .before .before in
+    let st = lp .before .before .before .before in
+    (st .pre .1, st .pre .2, lp .loop .inv .0 .kept))
+    (λ c.
+    let ro = c .before .before .before in
+    let oo = ro .before .before in
+    let il = oo .before .before .before in
+    let lp = il .before .before in
+    let st = lp .before .before .before .before in
+    let a = st .args in
+    let e = c .ended .ensures in (
+      counted (rowsOf (a .store .now) (a .partition)) (lp .loop .x) (c .ended .result) (e .1) (e .2) (lp .loop .inv .0 .kept),
+      run-ends (a .ops .now) (a .operands .now) (st .pre .0) (rowsOf (a .store .now) (a .partition)) (lp .loop .x) (c .ended .result) (e .1) (e .2) (il .if1 .taken) (sym (oo .operation-of .ensures) ∙ ro .before .if2 .taken) _ (ro .register-of .ensures) (e .0)
+          ∙ lp .loop .inv .1,
+    ))
+    (λ c κs.
+    let il = c .before .before .before .before in
+    omega (arith, il .if1 .taken, il .before .before .before .before .before .before .pre .0 .sized))
+    (λ c κs.
+    let oo = c .before .before in
+    let il = oo .before .before .before in
+    let lp = il .before .before in
+    let st = lp .before .before .before .before in
+    let a = st .args in
+    let i = lp .loop .inv .0 in (
+      (st .pre .1, st .pre .2, i .kept, search needs),
+      fits-here (a .ops .now) (a .operands .now) (st .pre .0) (lp .loop .x) _ (il .if1 .taken) i (λ q. c .before .if2 .left (oo .operation-of .ensures ∙ q)) (c .word-in .ensures),
+    ))
+    (λ c.
+    let el = c .before .before in
+    let oo = el .before in
+    let il = oo .before .before .before in
+    let lp = il .before .before in
+    let st = lp .before .before .before .before in
+    let a = st .args in
+    let f = goes-further (a .ops .now) (a .operands .now) (st .pre .0) (rowsOf (a .store .now) (a .partition)) (lp .loop .x) (c .step .result) (il .if1 .taken) (lp .loop .inv .0) (λ q. el .if2 .left (oo .operation-of .ensures ∙ q)) (stepped c) in
+    omega (arith, f .further, il .if1 .taken))
+    (λ c.
+    let el = c .before .before in
+    let oo = el .before in
+    let il = oo .before .before .before in
+    let lp = il .before .before in
+    let st = lp .before .before .before .before in
+    let a = st .args in
+    let n : operationAt (a .ops .now) (lp .loop .x .place .position) ≡ end → ⊥ = λ q. el .if2 .left (oo .operation-of .ensures ∙ q) in (
+      goes-further (a .ops .now) (a .operands .now) (st .pre .0) (rowsOf (a .store .now) (a .partition)) (lp .loop .x) (c .step .result) (il .if1 .taken) (lp .loop .inv .0) n (stepped c) .inside,
+      sym (runs-on (a .ops .now) (a .operands .now) (st .pre .0) (rowsOf (a .store .now) (a .partition)) (lp .loop .x) (c .step .result) (il .if1 .taken) (lp .loop .inv .0) n (stepped c))
+          ∙ lp .loop .inv .1,
+    ))
+    (λ c κs.
+    let lp = c .before .before .before in
+    let st = lp .before .before .before .before in
+    (st .pre .1, st .pre .2, lp .loop .inv .0 .kept))
+    (λ c.
+    let al = c .before .before in
+    let lp = al .before .before in
+    let st = lp .before .before .before .before in
+    let a = st .args in
+    let e = c .ended2 .ensures in (
+      counted (rowsOf (a .store .now) (a .partition)) (lp .loop .x) (c .ended2 .result) (e .1) (e .2) (lp .loop .inv .0 .kept),
+      run-none (a .ops .now) (a .operands .now) (st .pre .0) (rowsOf (a .store .now) (a .partition)) (lp .loop .x) (c .ended2 .result) (e .1) (e .2) (al .if1 .left) (e .0)
+          ∙ lp .loop .inv .1,
+    )))

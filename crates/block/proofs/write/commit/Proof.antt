@@ -1,0 +1,47 @@
+-- `block::commit` meets its contract. Assumes nothing.
+use mathlib.Core.Path.{sym, _∙_, subst}
+use Prim.Native.Nat.{ℕ, _≤_}
+use native.Mathlib.Omega.{arith}
+use borrow.Author.Needs.{needs}
+use Rattle.store.specs.Layout.{capOf}
+use Rattle.store.specs.Rows.{rowsOf}
+use Rattle.block.proofs.Rows.{keys-count, values-count}
+use Rattle.block.proofs.Writes.{keys-good, keys-right, length-out, committed}
+use Rattle.block.proofs.write.commit.Statement.{statement}
+use Rattle.block.proofs.write.commit.Tie as tie
+
+pub commit-spec : {M : Type 1} → statement M
+commit-spec =
+    tie.close
+    (tie.spec
+    (λ c κs. search needs)
+    (λ c κs. search needs)
+    (λ c. search needs)
+    (λ c. let w = c .before .before .before .before in sym (keys-count (w .with-row .result) (w .with-row .ensures .0)))
+    (λ c. search needs)
+    (λ c. let w = c .before .before .before .before .before in sym (values-count (w .with-row .result) (w .with-row .ensures .0)))
+    (λ c κs.
+    let w = c .before .before .before .before .before in
+    let lk = w .before .before in
+    let st = lk .before .before in
+    let a = st .args in
+    let rs = rowsOf (a .store .now) (a .partition) in
+    let k = lk .log-key .ensures in
+    let q = w .with-row .result in
+    let z = w .with-row .ensures .0 in
+    let e = rw (k .0) at (w .with-row .ensures .1) in (
+      st .pre .0,
+      omega (arith, st .pre .1),
+      keys-right (a .ran) rs (st .pre .2) (a .id) (a .step) _ (k .1) (k .2) q e z _ (a .partition) (st .pre .1),
+      keys-count q z ∙ sym (values-count q z),
+      subst (λ (n : ℕ). n ≤ capOf (a .store .now)) (sym (length-out (a .ran) rs (st .pre .2) (a .id) (a .step) _ (k .1) (k .2) q e (keys-good (a .store .now) (a .partition) (st .pre .0) (st .pre .1)) (st .pre .3))) (st .pre .4),
+    ))
+    (λ c. search needs)
+    (λ c.
+    let pa = c .before .before in
+    let w = pa .before .before .before .before .before .before in
+    let lk = w .before .before in
+    let st = lk .before .before in
+    let a = st .args in
+    let k = lk .log-key .ensures in
+    committed (a .store .now) _ (a .partition) (a .ran) (st .pre .2) (a .id) (a .step) (k .1) (k .2) (w .with-row .result) (rw (k .0) at (w .with-row .ensures .1)) (pa .put-all .ensures) (keys-good (a .store .now) (a .partition) (st .pre .0) (st .pre .1)) (st .pre .3)))

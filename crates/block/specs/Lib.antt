@@ -1,0 +1,4 @@
+pub mod Pending
+pub mod Run
+pub mod Through
+pub mod Store

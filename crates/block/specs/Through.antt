@@ -1,0 +1,63 @@
+-- What a block comes to, and what it leaves of the store's bytes. Assumes nothing: these are definitions.
+use mathlib.Core.Bool.{Bool}
+use mathlib.Core.List.{List}
+use mathlib.Core.Logic.{_≢_}
+use mathlib.Core.Option.{Option, none, some}
+use mathlib.Core.Path.{_≡_}
+use Prim.Native.Nat.{ℕ, _+_, _<_}
+use lib.Dec.{leb}
+use lib.ListN.{length}
+use Rattle.rules.specs.Basics.{if_then_else_, update}
+use Rattle.rules.specs.Blocks.{Table, Block, runBlock, rowsNeeded}
+use Rattle.rules.specs.Keys.{tableOf, logOf}
+use Rattle.store.specs.Rows.{Row, lookup, rowsOf}
+use Rattle.store.specs.Layout.{partsOf, capOf}
+use Rattle.store.specs.Sound.{Sound}
+use Rattle.operation.specs.Operations as Operations
+use Rattle.pack.specs.Layout.{operationAt}
+use Rattle.pack.specs.Meaning.{codeOf}
+use Rattle.block.specs.declared.write.BlockOutcome.{BlockOutcome}
+use Rattle.block.specs.declared.write.BlockOutcome.the-variants.{Result, NoRoom}
+use Rattle.block.specs.Run.{Right}
+
+-- the table of data that a partition's rows stand for
+abbrev pub tableIn : (rs : List Row) → Table
+tableIn rs = tableOf (λ j. lookup j rs)
+
+-- the log that they stand for
+abbrev pub logIn : (rs : List Row) → (id step : ℕ) → Option ℕ
+logIn rs = logOf (λ j. lookup j rs)
+
+-- BEGIN at `begin` opens a block of partition p, in a workflow that is right, over a sound store
+pub record Ready (ops ws xs : List ℕ) (p begin : ℕ) : Type 0 where
+  pub right : Right ops ws
+  pub sound : Sound xs
+  pub below : p < partsOf xs
+  pub in-code : begin < length ops
+  pub begins : operationAt ops begin ≡ Operations.begin
+
+-- the rules' run of that block, on the table of partition p
+abbrev pub blockAt : (ops ws xs : List ℕ) (p begin : ℕ) → (registers : List ℕ) → Block
+blockAt ops ws xs p begin registers =
+    runBlock (codeOf ops ws) (record { position = begin; registers = registers }) (tableIn (rowsOf xs p))
+
+-- 21. Has a block that isn't logged enough free rows: one, plus one per different new key it PUTs?
+abbrev pub hasRoom : (xs : List ℕ) (p : ℕ) → Block → Bool
+hasRoom xs p b = leb (length (rowsOf xs p) + rowsNeeded b) (capOf xs)
+
+-- Data rows and log row of a block are written together: ys is xs's store with them in partition p, and with nothing else changed.
+pub record Committed (xs ys : List ℕ) (p id t : ℕ) (b : Block) : Type 0 where
+  pub sound : Sound ys
+  pub parts : partsOf ys ≡ partsOf xs
+  pub cap : capOf ys ≡ capOf xs
+  pub table : tableIn (rowsOf ys p) ≡ b .table
+  pub log : logIn (rowsOf ys p) ≡ update (logIn (rowsOf xs p)) id (update (logIn (rowsOf xs p) id) t (some (b .result)))
+  pub used : length (rowsOf ys p) ≡ length (rowsOf xs p) + rowsNeeded b
+  pub others : (q : ℕ) → q ≢ p → rowsOf ys q ≡ rowsOf xs q
+
+-- A block of partition p for step t of request id, by what its log row says: what it comes to, and the bytes ys that it leaves. If the row
+-- is found, no byte changes and the logged value is the result. If not, and question 21 says no, no byte changes either.
+unfoldable pub Through : (xs ys : List ℕ) (p id t : ℕ) → Block → BlockOutcome → (log : Option ℕ) → Type 0
+Through xs ys p id t b r (some v) = (r ≡ Result v) × (ys ≡ xs)
+Through xs ys p id t b r none =
+    if hasRoom xs p b then ((r ≡ Result (b .result)) × Committed xs ys p id t b) else ((r ≡ NoRoom) × (ys ≡ xs))

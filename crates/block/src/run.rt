@@ -1,0 +1,98 @@
+// The run of a block, from BEGIN to END.
+ghost use mathlib.Core.List.{List};
+ghost use mathlib.Core.Path.{_≡_};
+ghost use Prim.Native.Nat.{ℕ, _+_, _*_, _≤_, _<_};
+ghost use lib.ListN.{length};
+ghost use Rattle.rules.specs.Blocks.{behindEnd};
+ghost use Rattle.pack.specs.Meaning.{codeOf};
+ghost use Rattle.store.specs.Rows.{countNew, rowsOf, keysIn};
+ghost use Rattle.store.specs.Layout.{partsOf};
+ghost use Rattle.store.specs.Sound.{Sound};
+ghost use Rattle.block.specs.Pending.{rowsIn, Kept};
+ghost use Rattle.block.specs.Run.{Right, Inside, Counted, runOf, blockOf};
+ghost use Rattle.block.specs.Through.{Ready, blockAt};
+use crate::pending::Pending;
+use crate::pending::no_pending;
+use crate::step::Running;
+use crate::step::Spot;
+use crate::step::step;
+
+// A block's run that came to END: its result, its PUTs, and how many of their keys are new to the partition.
+pub struct Ran {
+    pub result: u32,
+    pub fresh: usize,
+    pub pending: Pending,
+}
+
+// A run that came to END, with its new keys counted.
+fn ended(store: &[u8], partition: usize, result: u32, pending: Pending) -> Ran
+    requires { ⌜ Sound (now store) × (partition ≤ partsOf (now store)) × Kept pending ⌝ }
+    ensures { λ r. ⌜ (r .result ≡ result) × (r .pending ≡ pending) × (r .fresh ≡ countNew (keysIn (rowsIn pending)) (rowsOf (now (store .entry)) partition)) ⌝ }
+{
+    let n = pending.count;
+    let keys = pending.keys;
+    let fresh = store::rows::count_new(store, partition, &keys[..n]);
+    Ran {
+        result,
+        fresh,
+        pending,
+    }
+}
+
+// From a place inside a block until END. A workflow that passes the check yes-no runs past its last instruction.
+fn run_on(ops: &[u8], operands: &[u8], store: &[u8], partition: usize, start: Running) -> Ran
+    requires { ⌜ Right (now ops) (now operands) × Sound (now store) × (partition ≤ partsOf (now store)) × Inside (now ops) start ⌝ }
+    ensures { λ r. ⌜ Counted (rowsOf (now (store .entry)) partition) r × (blockOf (rowsOf (now (store .entry)) partition) r ≡ runOf (now (ops .entry)) (now (operands .entry)) (rowsOf (now (store .entry)) partition) start) ⌝ }
+{
+    let mut x = start;
+    while x.place.position < ops.len() {
+        let place = x.place;
+        let at = place.position;
+        let b = ops[at];
+        if operation::operation_of(b) == operation::END {
+            let d = operation::register_of(b) as usize;
+            let pending = x.pending;
+            return ended(store, partition, place.registers[d], pending);
+        }
+        let w = pack::word_in(operands, at);
+        x = step(store, partition, x, b, w);
+    }
+    let pending = x.pending;
+    ended(store, partition, 0, pending)
+}
+
+// The block that BEGIN at `begin` opens, run on a copy of the registers. The store is only read.
+pub(crate) fn run(
+    ops: &[u8],
+    operands: &[u8],
+    store: &[u8],
+    partition: usize,
+    begin: usize,
+    registers: [u32; 8],
+) -> Ran
+    requires { ⌜ Ready (now ops) (now operands) (now store) partition begin ⌝ }
+    ensures { λ r. ⌜ Counted (rowsOf (now (store .entry)) partition) r × (blockOf (rowsOf (now (store .entry)) partition) r ≡ blockAt (now (ops .entry)) (now (operands .entry)) (now (store .entry)) partition begin registers) ⌝ }
+{
+    let pending = no_pending();
+    let place = Spot {
+        position: begin + 1,
+        registers,
+    };
+    let start = Running { place, pending };
+    run_on(ops, operands, store, partition, start)
+}
+
+// The position behind the END of the block that BEGIN at `begin` opens.
+pub fn behind_end(ops: &[u8], begin: usize) -> usize
+    requires { ⌜ begin < length (now ops) ⌝ }
+    ensures { λ r. ⌜ ((ws : List ℕ) → r ≡ behindEnd (codeOf (now (ops .entry)) ws) begin) ⌝ }
+{
+    let mut i = begin + 1;
+    while i < ops.len() {
+        if operation::operation_of(ops[i]) == operation::END {
+            return i + 1;
+        }
+        i += 1;
+    }
+    i
+}

@@ -1,0 +1,89 @@
+// A block as a whole: its log row is sought, or it is run and its rows are written together.
+ghost use mathlib.Core.Option.{none};
+ghost use mathlib.Core.Path.{_≡_};
+ghost use Prim.Native.Nat.{_+_, _≤_, _<_};
+ghost use lib.Dec.{leb};
+ghost use lib.ListN.{length};
+ghost use Rattle.store.specs.Layout.{partsOf, capOf};
+ghost use Rattle.store.specs.Rows.{rowsOf};
+ghost use Rattle.store.specs.Sound.{Sound};
+ghost use Rattle.block.specs.Run.{Counted, blockOf};
+ghost use Rattle.block.specs.Through.{logIn, Ready, blockAt, Committed, Through};
+use crate::log::log_key;
+use crate::log::logged;
+use crate::pending::with_row;
+use crate::run::Ran;
+use crate::run::run;
+use store::rows::Got;
+
+// What a block comes to: its result, or a no to question 21.
+pub enum BlockOutcome {
+    Result(u32),
+    NoRoom,
+}
+
+// The PUTs of a block and behind them its log row, written together: there is room for all, and the log row is new.
+fn commit(store: &mut [u8], partition: usize, ran: Ran, id: u32, step: u16)
+    requires { ⌜ Sound (now store) × (partition < partsOf (now store)) × Counted (rowsOf (now store) partition) ran × (logIn (rowsOf (now store) partition) id step ≡ none) × (length (rowsOf (now store) partition) + (1 + ran .fresh) ≤ capOf (now store)) ⌝ }
+    ensures { λ _. ⌜ Committed (now (store .entry)) (now (store .exit)) partition id step (blockOf (rowsOf (now (store .entry)) partition) ran) ⌝ }
+{
+    let log = log_key(id, step);
+    let pending = ran.pending;
+    let rows = with_row(pending, log, ran.result);
+    let n = rows.count;
+    let keys = rows.keys;
+    let values = rows.values;
+    store::rows::put_all(store, partition, &keys[..n], &values[..n]);
+}
+
+// Question 21: is there a free row for the log row and for each new key?
+fn has_room(store: &[u8], partition: usize, fresh: usize) -> bool
+    requires { ⌜ Sound (now store) × (partition ≤ partsOf (now store)) × (fresh ≤ 16) ⌝ }
+    ensures { λ r. ⌜ r ≡ leb (length (rowsOf (now (store .entry)) partition) + (1 + fresh)) (capOf (now (store .entry))) ⌝ }
+{
+    store::head::used_count(store, partition) + (1 + fresh) <= store::head::capacity(store)
+}
+
+// A block that isn't logged: it is run, and written if there is room.
+fn run_and_write(
+    ops: &[u8],
+    operands: &[u8],
+    store: &mut [u8],
+    partition: usize,
+    begin: usize,
+    registers: [u32; 8],
+    id: u32,
+    step: u16,
+) -> BlockOutcome
+    requires { ⌜ Ready (now ops) (now operands) (now store) partition begin ⌝ }
+    requires { ⌜ logIn (rowsOf (now store) partition) id step ≡ none ⌝ }
+    ensures { λ r. ⌜ Through (now (store .entry)) (now (store .exit)) partition id step (blockAt (now (ops .entry)) (now (operands .entry)) (now (store .entry)) partition begin registers) r none ⌝ }
+{
+    let ran = run(ops, operands, store, partition, begin, registers);
+    if !has_room(store, partition, ran.fresh) {
+        return BlockOutcome::NoRoom;
+    }
+    commit(store, partition, ran, id, step);
+    BlockOutcome::Result(ran.result)
+}
+
+// The block that BEGIN at `begin` opens, for a step of a request. A logged one is not run again and changes no row.
+pub fn through_block(
+    ops: &[u8],
+    operands: &[u8],
+    store: &mut [u8],
+    partition: usize,
+    begin: usize,
+    registers: [u32; 8],
+    id: u32,
+    step: u16,
+) -> BlockOutcome
+    requires { ⌜ Ready (now ops) (now operands) (now store) partition begin ⌝ }
+    ensures { λ r. ⌜ Through (now (store .entry)) (now (store .exit)) partition id step (blockAt (now (ops .entry)) (now (operands .entry)) (now (store .entry)) partition begin registers) r (logIn (rowsOf (now (store .entry)) partition) id step) ⌝ }
+{
+    let g = logged(store, partition, id, step);
+    match g {
+        Got::Value(v) => BlockOutcome::Result(v),
+        Got::Absent => run_and_write(ops, operands, store, partition, begin, registers, id, step),
+    }
+}

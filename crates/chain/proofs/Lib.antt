@@ -1,0 +1,4 @@
+pub mod Mirror
+pub mod Each
+pub mod Theorem
+pub mod Never

@@ -1,0 +1,82 @@
+-- Demands 1, 2 and 3 of calls on bytes. Assumes nothing: these are definitions.
+use mathlib.Core.Bool.{true}
+use mathlib.Core.List.{List, _∷_, List·Memᴰ}
+use mathlib.Core.Logic.{_⊎_}
+use mathlib.Core.Option.{none, some}
+use mathlib.Core.Path.{_≡_}
+use Prim.Native.Nat.{ℕ, _^_, _≤_, _<_}
+use Rattle.rules.specs.Keys.{dataKey}
+use Rattle.rules.specs.Questions.{No, number}
+use Rattle.rules.specs.Store.{Request}
+use Rattle.rules.specs.Calls.{Call, turn, rule}
+use Rattle.rules.specs.Calls as Calls
+use Rattle.rules.specs.Plain.{Reply, accepted, firstReplies}
+use Rattle.pack.specs.Layout.{count, sizeOf}
+use Rattle.pack.specs.Meaning.{packOf}
+use Rattle.pack.specs.Refusal.{packRefusal}
+use Rattle.store.specs.Rows.{lookup, rowsOf, storeOf}
+use Rattle.agents.specs.declared.Agent.{Agent}
+use Rattle.agents.specs.declared.Answer.{Answer}
+use Rattle.agents.specs.Slots.{slotsOf}
+use Rattle.agents.specs.Answers.{answerOf}
+use Rattle.meaning.specs.State.{contentsOf, stateOf}
+use Rattle.meaning.specs.Questions.{lentRefusal, refusalFor}
+use Rattle.meaning.specs.Carried.{Kept, Left, Carried}
+use Rattle.chain.specs.Chain.{Event, Chain, talliesOf, machineOf, repliesOf}
+
+-- ── Demands 1 and 2: of every call, on any pack, store and records ──
+
+-- Demand 1: an answer is a refusal exactly where some question put to the call says no; it has the first one's number and place, and
+-- nothing lent is changed.
+pub record Demand1 (pack store : List ℕ) (records : List Agent) (c : Call) (answer : Answer) (records′ : List Agent) (store′ : List ℕ) : Type 0 where
+  pub says-no : (n : No) → refusalFor pack store records c ≡ some n →
+      (answerOf answer ≡ Calls.refused n) × Kept store records store′ records′
+  pub says-why : (n : No) → answerOf answer ≡ Calls.refused n → refusalFor pack store records c ≡ some n
+
+-- Demand 2: an accepted call gives exactly the rule's answer, and leaves its rows by key and its agents.
+pub record Demand2 (pack store : List ℕ) (records : List Agent) (c : Call) (answer : Answer) (records′ : List Agent) (store′ : List ℕ) : Type 0 where
+  pub accepts : refusalFor pack store records c ≡ none → accepted (answerOf answer) ≡ true
+  pub rules : accepted (answerOf answer) ≡ true →
+      (answerOf answer ≡ rule (packOf pack) (stateOf store records) c .answer)
+      × Left store store′ records′ (rule (packOf pack) (stateOf store records) c .state)
+
+-- ── Demand 3: of lists of calls ──
+
+-- After a list of calls that left this store.
+pub record PlainRun (pack : List ℕ) (P : ℕ) (events : List Event) (store : List ℕ) : Type 0 where
+  -- each partition's data rows have exactly the data keys and values of the machine's table for it
+  pub rows : (partition key : ℕ) → partition < P → key < 2 ^ 32 →
+      lookup (dataKey key) (rowsOf store partition) ≡ (machineOf (packOf pack) events) .tables partition key
+  -- and the machine has no other data
+  pub no-more : (partition key : ℕ) → (P ≤ partition) ⊎ (2 ^ 32 ≤ key) → (machineOf (packOf pack) events) .tables partition key ≡ none
+  -- the first replies in order are the machine's replies
+  pub replies : firstReplies (repliesOf events) ≡ (machineOf (packOf pack) events) .replies
+  -- each later reply to an id is equal to the first: all replies to one id are equal
+  pub equal : (r r′ : Reply) → List·Memᴰ r (repliesOf events) → List·Memᴰ r′ (repliesOf events) → r .id ≡ r′ .id → r .value ≡ r′ .value
+
+-- An accepted turn, the latest call, is one of the agent in its slot: the how many-th of its agent's turns it is, and the agent's request,
+-- as booked in the store before it. The turns are at most the workflow's size, and if they come to it, this one replies.
+pub record InTime (pack : List ℕ) (before : List Event) (store : List ℕ) (records : List Agent) (slot : ℕ) (answer : Answer) : Type 0 where
+  pub agent : Calls.Agent
+  pub turns : ℕ
+  pub request : Request
+  pub in-slot : slotsOf records slot ≡ some agent
+  pub counted : talliesOf (record { made = turn slot; answer = answer } ∷ before) slot ≡ some (record { id = agent .id; turns = turns })
+  pub booked : contentsOf (storeOf store) .book (agent .id) ≡ some request
+  pub workflow : request .workflow < count pack
+  pub at-most : turns ≤ sizeOf pack (request .workflow)
+  pub last : turns ≡ sizeOf pack (request .workflow) → (value : ℕ) × (answerOf answer ≡ Calls.reply (agent .id) value)
+
+-- Demand 3, for any pack, any P and C, and any list of calls.
+pub record Demand3 (pack : List ℕ) (P C : ℕ) : Type 0 where
+  pub plain-run : (events : List Event) (store : List ℕ) (records : List Agent) → Chain pack P C events store records → PlainRun pack P events store
+  pub in-time : (before : List Event) (store : List ℕ) (records : List Agent) → Chain pack P C before store records →
+      (slot : ℕ) (answer : Answer) (records′ : List Agent) (store′ : List ℕ) → Carried pack store records (turn slot) answer records′ store′ →
+      accepted (answerOf answer) ≡ true → InTime pack before store records slot answer
+
+-- What a host need not fear: after any list of calls, the first no of 1 to 14, if there is one, is the pack's (1 to 8) or question 13. So
+-- 9 to 12 and 14 never say no.
+abbrev pub NeverNo : (pack : List ℕ) → (P C : ℕ) → Type 0
+NeverNo pack P C =
+    (events : List Event) (store : List ℕ) (records : List Agent) → Chain pack P C events store records →
+    (n : No) → lentRefusal pack store records ≡ some n → (packRefusal pack ≡ some n) ⊎ (n ≡ number 13)

@@ -1,0 +1,6 @@
+pub mod Asked
+pub mod Book
+pub mod Steps
+pub mod Carry
+pub mod Sense
+pub mod Contents

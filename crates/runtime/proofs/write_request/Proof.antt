@@ -1,0 +1,36 @@
+-- `runtime::write_request` meets its contract. Assumes nothing.
+use borrow.Author.Needs.{needs}
+use mathlib.Core.Path.{refl}
+use native.Mathlib.Omega.{arith}
+use Rattle.runtime.proofs.Booking.{code-formed, code-room, code-stored}
+use Rattle.runtime.proofs.write_request.Statement.{statement}
+use Rattle.runtime.proofs.write_request.Tie as tie
+
+pub write-request-spec : {M : Type 1} → statement M
+write-request-spec =
+    tie.close
+    (tie.spec
+    (λ c κs. search needs)
+    (λ c. search needs)
+    (λ c. search needs)
+    (λ c. search needs)
+    (λ c. search needs)
+    (λ c. search needs)
+    (λ c. search needs)
+    (λ c. search needs)
+    (λ c κs.
+    let s = c .before .before .before .before .before .before in
+    let a = s .args in
+    let p = c .before .before .before .partition-count in (
+      s .pre .0,
+      omega arith,
+      code-formed (a .store .now) (p .result) (a .id) (a .workflow) (a .a0) (a .a1) (a .a2) (a .a3) (p .ensures) (omega arith),
+      refl,
+      code-room (a .store .now) (p .result) (a .id) (a .workflow) (a .a0) (a .a1) (a .a2) (a .a3) (p .ensures) (s .pre .1),
+    ))
+    (λ c. search needs)
+    (λ c.
+    let k = c .before .before in
+    let p = k .before .before .before .before .partition-count in
+    let a = k .before .before .before .before .before .before .before .args in
+    code-stored (a .store .now) (p .result) (a .id) (a .workflow) (a .a0) (a .a1) (a .a2) (a .a3) (p .ensures) _ (k .put-all .ensures)))

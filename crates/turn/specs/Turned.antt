@@ -1,0 +1,66 @@
+-- The turn of one agent: what must hold before it, and what it comes to. Assumes nothing: these are definitions.
+use mathlib.Core.Bool.{true, false}
+use mathlib.Core.List.{List}
+use mathlib.Core.Option.{Option, none, some, Option·getD}
+use mathlib.Core.Path.{_≡_}
+use Prim.Native.Nat.{ℕ, suc}
+use lib.ListN.{getD}
+use Rattle.rules.specs.Keys.{bookKey}
+use Rattle.rules.specs.Instructions.{Code, Place}
+use Rattle.rules.specs.Blocks.{afterBlock}
+use Rattle.rules.specs.Calls.{gives, withSlot, canTurn, turnIn}
+use Rattle.rules.specs.Calls as Calls
+use Rattle.pack.specs.Refusal.{packRefusal}
+use Rattle.pack.specs.Meaning.{packOf}
+use Rattle.store.specs.Rows.{lookup, storeOf}
+use Rattle.store.specs.Questions.{storeRefusal}
+use Rattle.agents.specs.declared.Agent.{Agent}
+use Rattle.agents.specs.declared.Answer.the-variants.{Moved, Reply, Refused}
+use Rattle.agents.specs.Slots.{noAgent, held, agentOf, Whole}
+use Rattle.agents.specs.Answers.{answerOf}
+use Rattle.block.specs.declared.write.BlockOutcome.{BlockOutcome}
+use Rattle.block.specs.declared.write.BlockOutcome.the-variants.{Result, NoRoom}
+use Rattle.meaning.specs.State.{contentsOf, valueIn, bookOf}
+use Rattle.meaning.specs.Questions.{bookRows, question13, isSound}
+use Rattle.meaning.specs.Carried.{Wrote}
+use Rattle.turn.specs.declared.Turned.{Turned}
+
+-- What questions 1 to 14 say of an agent in a slot, with its pack and store.
+pub record Turnable (pack store : List ℕ) (a : Agent) : Type 0 where
+  pub accepted : packRefusal pack ≡ none
+  pub stored : storeRefusal store ≡ none
+  pub right : question13 pack store ≡ true
+  pub used : a .«in_use» ≡ true
+  pub sound : isSound pack a (bookOf (valueIn (bookRows store)) (a .id)) ≡ true
+
+-- the workflow that the book has of an id. (By question 14 it is there, and 0 is never taken for one.)
+abbrev pub workflowIn : (store : List ℕ) → (id : ℕ) → ℕ
+workflowIn store id = Option·getD (lookup (bookKey id 0) (bookRows store)) 0
+
+-- the agent's record at another place and step
+abbrev pub placed : Agent → Place → (step : ℕ) → Agent
+placed a to t = record { «in_use» = true; id = a .id; position = to .position; step = t; registers = to .registers }
+
+-- an agent that moved
+abbrev pub movedTo : Agent → Place → (step : ℕ) → Turned
+movedTo a to t = record { answer = Moved; agent = placed a to t }
+
+-- at RETURN: the reply is register d, and the slot is empty
+abbrev pub replied : Agent → (d : ℕ) → Turned
+replied a d = record { answer = Reply (a .id) (getD (a .registers) d 0); agent = noAgent }
+
+-- an agent at BEGIN, by what its block came to: behind the block with its result, and step rises by 1; or no to question 21
+abbrev pub behindBlock : Code → Agent → BlockOutcome → Turned
+behindBlock code a (Result v) = movedTo a (afterBlock code (held a .place) v) (suc (a .step))
+behindBlock code a NoRoom = record { answer = Refused 21 0 0; agent = a }
+
+-- A turn of agent a gave r and left store′: refused by 21, agent and bytes are as they were; else answer and agent are those of the rule, in any slot
+-- and beside any other agents, and the store holds the rule's rows.
+pub record TurnedBy (pack store : List ℕ) (a : Agent) (r : Turned) (store′ : List ℕ) : Type 0 where
+  pub refused : canTurn (packOf pack) (contentsOf (storeOf store)) (some (held a)) ≡ false → (r ≡ record { answer = Refused 21 0 0; agent = a }) × (store′ ≡ store)
+  pub whole : Whole (r .agent)
+  pub written : Wrote store store′ (contentsOf (storeOf store′))
+  pub turned : canTurn (packOf pack) (contentsOf (storeOf store)) (some (held a)) ≡ true →
+      (slots : ℕ → Option Calls.Agent) (slot : ℕ) →
+      turnIn (packOf pack) (record { store = contentsOf (storeOf store); slots = slots }) slot (some (held a))
+      ≡ gives (answerOf (r .answer)) (withSlot (record { store = contentsOf (storeOf store′); slots = slots }) slot (agentOf (r .agent)))
