@@ -1,0 +1,50 @@
+-- `schedule::check::events_right` meets its contract. The loop's invariant: the events that are left answer the whole. Assumes nothing.
+use mathlib.Core.Path.{_≡_, refl, sym, ap, _∙_}
+use Prim.Native.Nat.{_-_, _≤_}
+use native.Mathlib.Nat.{sub-zero}
+use native.Mathlib.Omega.{arith}
+use borrow.Author.Needs.{needs}
+use Rattle.rules.specs.Basics.{eachFrom}
+use Rattle.rules.proofs.Each.{each-none, each-more, each-fails}
+use Rattle.schedule.specs.Questions.{rightAt, question23}
+use Rattle.schedule.proofs.Steps.{event-right, event-wrong}
+use Rattle.schedule.proofs.check.events_right.Statement.{statement}
+use Rattle.schedule.proofs.check.events_right.Tie as tie
+
+abbrev Inv-loop : tie.InvT-loop
+Inv-loop s g e kinds indexes i₀ i = (i ≤ e) × (eachFrom (rightAt s) (e - i) i ≡ question23 s)
+
+abbrev μ-loop : tie.MeasureT-loop
+μ-loop s g e kinds indexes i₀ i = e - i
+
+pub events-right-spec : {M : Type 1} → statement M
+unfolding question23
+events-right-spec =
+    tie.close
+    (tie.spec
+    Inv-loop
+    μ-loop
+    (λ c. search needs)
+    (λ c κs. search needs)
+    (λ c. search needs)
+    (λ c. omega arith)
+    (λ c. omega arith)
+    (λ c. omega arith)
+    (λ c. omega arith)
+    (λ c. (search needs, rw sub-zero (ap (λ n. eachFrom (rightAt (c .before .before .before .args .s .now)) n 0) (c .read16 .ensures))))
+    (λ c. omega arith)
+    (λ c. omega arith)
+    (λ c. omega arith)
+    (λ c. omega arith)
+    (λ c κs. search needs)
+    (λ c. let l = c .before .before .before .before .before in
+    let a = l .before .before .before .before .args in
+    let f = event-wrong (a .s .now) _ _ (l .loop .i) _ refl (l .before .read16 .ensures) (c .before .event-right .ensures) (c .if1 .taken) in
+    sym (each-fails _ _ _ (omega arith) f) ∙ l .loop .inv .1)
+    (λ c. search needs)
+    (λ c. search needs)
+    (λ c. let l = c .before .before .before .before .before in
+    let a = l .before .before .before .before .args in
+    let f = event-right (a .s .now) _ _ (l .loop .i) _ refl (l .before .read16 .ensures) (c .before .event-right .ensures) (c .if1 .left) in
+    (search needs, sym (each-more _ _ _ (omega arith) f) ∙ l .loop .inv .1))
+    (λ c. sym (each-none _ _ _ (omega arith)) ∙ c .before .loop .inv .1))

@@ -1,0 +1,13 @@
+-- `schedule::run::times` meets its contract. Assumes nothing.
+use mathlib.Core.Path.{refl}
+use native.Mathlib.Nat.{mul-le-mul}
+use native.Mathlib.Omega.{arith}
+use Rattle.schedule.proofs.run.times.Statement.{statement}
+use Rattle.schedule.proofs.run.times.Tie as tie
+
+pub times-spec : {M : Type 1} → statement M
+times-spec =
+    tie.close
+    (tie.spec
+    (λ c. omega (arith, mul-le-mul (c .pre .0) (c .pre .1)))
+    (λ c. (refl, mul-le-mul (c .pre .0) (c .pre .1))))

@@ -1,0 +1,24 @@
+-- The calls that a schedule lists. Assumes nothing: these are definitions.
+use mathlib.Core.List.{List, [], _∷_}
+use Prim.Native.Nat.{ℕ, zero, suc}
+use lib.Dec.{eqb}
+use Rattle.rules.specs.Basics.{if_then_else_}
+use Rattle.rules.specs.Calls.{Call, arrival, retry, turn, crash, restart}
+use Rattle.schedule.specs.Layout.{idOf, workflowOf, argumentsOf, kindAt, slotAt, indexAt}
+
+-- The call of an event: 0 arrival, 1 turn, 2 crash, 3 retry, 4 restart. The slot is not read for a restart.
+unfoldable pub callOf : (schedule : List ℕ) → (kind slot request : ℕ) → Call
+callOf s kind slot r =
+    if eqb kind 0 then arrival slot (idOf s r) (workflowOf s r) (argumentsOf s r)
+    else if eqb kind 1 then turn slot
+    else if eqb kind 2 then crash slot
+    else if eqb kind 3 then retry slot (idOf s r)
+    else restart
+
+abbrev pub callAt : (schedule : List ℕ) → (i : ℕ) → Call
+callAt s i = callOf s (kindAt s i) (slotAt s i) (indexAt s i)
+
+-- the calls of the first n events, the latest first
+unfoldable pub callsOf : (schedule : List ℕ) → (n : ℕ) → List Call
+callsOf s zero = []
+callsOf s (suc n) = callAt s n ∷ callsOf s n

@@ -1,0 +1,45 @@
+-- A schedule in bytes: P (1), C (2), request count g (1), event count e (2); g requests of six 4-byte words; e event bytes; e request
+-- indexes. P and C stand where a store has them, and are read as there. Assumes nothing: these are definitions.
+use mathlib.Core.List.{List, [], _∷_}
+use Prim.Native.Nat.{ℕ, _+_, _*_, _/_, _%_}
+use lib.ListN.{getD}
+use Rattle.words.specs.Words.{le}
+
+-- g
+abbrev pub requestCount : (schedule : List ℕ) → ℕ
+requestCount s = getD s 3 0
+
+-- e
+abbrev pub eventCount : (schedule : List ℕ) → ℕ
+eventCount s = le 2 s 4
+
+-- the length of a schedule of g requests and e events
+abbrev pub lengthFor : (g e : ℕ) → ℕ
+lengthFor g e = 6 + 24 * g + 2 * e
+
+-- a request's six words: id, workflow, arguments
+abbrev pub wordOf : (schedule : List ℕ) → (request j : ℕ) → ℕ
+wordOf s r j = le 4 s (6 + 24 * r + 4 * j)
+
+abbrev pub idOf : (schedule : List ℕ) → (request : ℕ) → ℕ
+idOf s r = wordOf s r 0
+
+abbrev pub workflowOf : (schedule : List ℕ) → (request : ℕ) → ℕ
+workflowOf s r = wordOf s r 1
+
+abbrev pub argumentsOf : (schedule : List ℕ) → (request : ℕ) → List ℕ
+argumentsOf s r = wordOf s r 2 ∷ wordOf s r 3 ∷ wordOf s r 4 ∷ wordOf s r 5 ∷ []
+
+-- event byte i: its high four bits are the kind, its low four the slot
+abbrev pub eventByte : (schedule : List ℕ) → (i : ℕ) → ℕ
+eventByte s i = getD s (6 + 24 * requestCount s + i) 0
+
+abbrev pub kindAt : (schedule : List ℕ) → (i : ℕ) → ℕ
+kindAt s i = eventByte s i / 16
+
+abbrev pub slotAt : (schedule : List ℕ) → (i : ℕ) → ℕ
+slotAt s i = eventByte s i % 16
+
+-- the request index of event i
+abbrev pub indexAt : (schedule : List ℕ) → (i : ℕ) → ℕ
+indexAt s i = getD s (6 + 24 * requestCount s + eventCount s + i) 0

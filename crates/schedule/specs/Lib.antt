@@ -1,0 +1,5 @@
+pub mod Layout
+pub mod Questions
+pub mod Events
+pub mod Run
+pub mod Going

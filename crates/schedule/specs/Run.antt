@@ -1,0 +1,46 @@
+-- A run of a schedule, and what it prints. Assumes nothing: these are definitions.
+use mathlib.Core.List.{List, [], _∷_, _++_}
+use mathlib.Core.Option.{none, some}
+use mathlib.Core.Path.{_≡_}
+use Prim.Native.Nat.{ℕ}
+use lib.ListN.{length}
+use Rattle.rules.specs.Questions.{No}
+use Rattle.rules.specs.Calls.{Call}
+use Rattle.store.specs.Layout.{partsOf, capOf}
+use Rattle.agents.specs.declared.Agent.{Agent}
+use Rattle.agents.specs.Answers.{answerOf}
+use Rattle.listing.specs.Lines.{eventsLine, refusedLine, answerLine}
+use Rattle.listing.specs.Store.{storeText}
+use Rattle.chain.specs.Chain.{Event, Chain}
+use Rattle.schedule.specs.Layout.{eventCount}
+use Rattle.schedule.specs.Questions.{scheduleRefusal}
+use Rattle.schedule.specs.Events.{callsOf}
+
+-- the calls that were made, the latest first
+unfoldable pub madeIn : List Event → List Call
+madeIn [] = []
+madeIn (e ∷ before) = e .made ∷ madeIn before
+
+-- the lines of the answers, each with its event's number
+unfoldable pub answerLines : List Event → List ℕ
+answerLines [] = []
+answerLines (e ∷ before) = answerLines before ++ answerLine (length before) (answerOf (e .answer))
+
+-- The calls of a schedule's first n events were made, in order, each with its answer, from a fresh store of the schedule's P and C, and
+-- left this store. Demand 3 speaks of every such list (crate `chain`).
+pub record Ran (pack schedule : List ℕ) (n : ℕ) (events : List Event) (store : List ℕ) (records : List Agent) : Type 0 where
+  pub chain : Chain pack (partsOf schedule) (capOf schedule) events store records
+  pub calls : madeIn events ≡ callsOf schedule n
+
+-- A whole run prints the event total, the answers, and the store that is left.
+pub record Run (pack schedule : List ℕ) (text : List ℕ) : Type 0 where
+  pub events : List Event
+  pub store : List ℕ
+  pub records : List Agent
+  pub ran : Ran pack schedule (eventCount schedule) events store records
+  pub prints : text ≡ eventsLine (eventCount schedule) ++ (answerLines events ++ storeText store)
+
+-- What the program prints of any pack and schedule: only the first no, or else the run.
+pub record Printed (pack schedule : List ℕ) (text : List ℕ) : Type 0 where
+  pub refused : (n : No) → scheduleRefusal pack schedule ≡ some n → text ≡ refusedLine (n .question)
+  pub run : scheduleRefusal pack schedule ≡ none → Run pack schedule text

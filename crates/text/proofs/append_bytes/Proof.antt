@@ -1,0 +1,33 @@
+-- `text::append_bytes` meets its contract. The loop's invariant: the first i bytes of `src` are appended. Assumes nothing.
+use Prim.Native.Nat.{_+_, _-_, _≤_}
+use native.Mathlib.Omega.{arith}
+use borrow.Author.Needs.{needs}
+use lib.ListN.{length, take}
+use mathlib.Core.Path.{_≡_, refl}
+use Rattle.text.specs.Text.{Appended}
+use Rattle.text.proofs.Laws.{copied-none, copied-more, copied-all}
+use Rattle.text.proofs.append_bytes.Statement.{statement}
+use Rattle.text.proofs.append_bytes.Tie as tie
+
+abbrev Inv-loop : tie.InvT-loop
+Inv-loop out₀ n src i₀ out i = (i ≤ length src) × (length out ≡ length out₀) × Appended out₀ n (take i src) out (n + i)
+
+abbrev μ-loop : tie.MeasureT-loop
+μ-loop out₀ n src i₀ out i = length src - i
+
+pub append-bytes-spec : {M : Type 1} → statement M
+append-bytes-spec =
+    tie.close
+    (tie.spec
+    Inv-loop
+    μ-loop
+    (λ c. (search needs, refl, copied-none _ (c .args .src .now) _ (omega arith)))
+    (λ c. search needs)
+    (λ c. search needs)
+    (λ c. search needs)
+    (λ c. search needs)
+    (λ c. search needs)
+    (λ c. (search needs, search needs, copied-more _ (c .before .loop-test .taken) (omega arith) (c .before .before .loop .inv .2)))
+    (λ c. search needs)
+    (λ c. search needs)
+    (λ c. copied-all _ (omega arith) (c .before .loop .inv .2)))
