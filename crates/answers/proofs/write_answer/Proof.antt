@@ -1,0 +1,33 @@
+-- `answers::write_answer` meets its contract. Assumes nothing.
+use borrow.Author.Needs.{needs}
+use mathlib.Core.Path.{refl, _∙_}
+use Rattle.agents.specs.Answers as Answers
+use Rattle.answers.specs.Answers.{numberOf, valuesOf}
+use Rattle.answers.proofs.Answers.{low-words}
+use Rattle.answers.proofs.write_answer.Statement.{statement}
+use Rattle.answers.proofs.write_answer.Tie as tie
+
+pub write-answer-spec : {M : Type 1} → statement M
+unfolding numberOf valuesOf Answers.answerOf
+write-answer-spec =
+    tie.close
+    (tie.spec
+    (λ c. search needs)
+    (λ c κs. search needs)
+    (λ c. search needs)
+    (λ c κs. search needs)
+    (λ c. search needs)
+    (λ c κs. search needs)
+    (λ c. search needs)
+    (λ c. search needs)
+    (λ c κs. search needs)
+    (λ c κs. search needs)
+    (λ c κs. search needs)
+    (λ c. search needs)
+    (λ c. rw (c .before .before .before .before .enum-told .given .1) (refl, c .before .before .write-words .ensures))
+    (λ c. search needs)
+    (λ c. rw (c .before .before .before .before .enum-told2 .given .1) (refl, c .before .before .write-words2 .ensures))
+    (λ c. search needs)
+    (λ c. rw (c .before .before .before .before .before .a .given .1) (refl, c .before .before .write-words3 .ensures))
+    (λ c. search needs)
+    (λ c. rw (c .before .before .before .before .before .before .before .a2 .given .1) (refl, rw (c .before .before .before .before .low .ensures, c .before .before .before .low2 .ensures) at (c .before .before .write-words4 .ensures) ∙ low-words _ _ _ _)))

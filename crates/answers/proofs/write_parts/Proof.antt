@@ -1,0 +1,22 @@
+-- `answers::write_parts` meets its contract. Assumes nothing.
+use borrow.Author.Needs.{needs}
+use Rattle.answers.proofs.Answers.{low-parts}
+use Rattle.answers.proofs.write_parts.Statement.{statement}
+use Rattle.answers.proofs.write_parts.Tie as tie
+
+pub write-parts-spec : {M : Type 1} → statement M
+write-parts-spec =
+    tie.close
+    (tie.spec
+    (λ c κs. search needs)
+    (λ c κs. search needs)
+    (λ c κs. search needs)
+    (λ c κs. search needs)
+    (λ c κs. search needs)
+    (λ c κs. search needs)
+    (λ c κs. search needs)
+    (λ c κs. search needs)
+    (λ c. search needs)
+    (λ c.
+    let s = c .before .before .before .before .before .before .before .before .before .before .before .before .before .before .before .before .before .before .before .before .before .args in
+    cc (low-parts (s .answer .now) (s .x) (s .y) (s .z) (s .u))))

@@ -1,0 +1,123 @@
+// Answers for a program in another language: a number, and words in a lent buffer; and the records that a call left, in their bytes.
+ghost use mathlib.Core.Bool.{true};
+ghost use mathlib.Core.Path.{_≡_};
+ghost use mathlib.Core.List.{[], _∷_};
+ghost use mathlib.Core.Option.{Option};
+ghost use Prim.Native.Nat.{_%_, _^_, _≤_};
+ghost use lib.ListN.{length};
+ghost use Rattle.rules.specs.Questions.{No};
+ghost use Rattle.rules.specs.Verdicts.{verdictOf};
+ghost use Rattle.rules.specs.Plain.{accepted};
+ghost use Rattle.agents.specs.Answers.{answerOf};
+ghost use Rattle.slots.specs.Records.{puts, slotsIn};
+ghost use Rattle.answers.specs.Answers.{numberOf, valuesOf, withWords, judged, slotsAfter};
+use agents::Agent;
+use agents::Answer;
+use agents::Outcome;
+use rules::Verdict;
+
+// The low 4 bytes of a number.
+fn low(x: usize) -> u32
+    ensures { λ r. ⌜ r ≡ x % 2 ^ 32 ⌝ }
+{
+    (x % 4_294_967_296) as u32
+}
+
+// Writes three words at the start of the answer buffer.
+fn write_words(answer: &mut [u8], x: u32, y: u32, z: u32)
+    requires { ⌜ 12 ≤ length (now answer) ⌝ }
+    ensures { λ _. ⌜ now (answer .exit) ≡ withWords (now (answer .entry)) (x ∷ y ∷ z ∷ []) ⌝ }
+{
+    words::write32(answer, 0, x);
+    words::write32(answer, 4, y);
+    words::write32(answer, 8, z);
+}
+
+// Writes an answer's three words, and gives its number.
+pub fn write_answer(answer: &mut [u8], a: Answer) -> u32
+    requires { ⌜ 12 ≤ length (now answer) ⌝ }
+    ensures { λ r. ⌜ (r ≡ numberOf (answerOf a)) × (now (answer .exit) ≡ withWords (now (answer .entry)) (valuesOf (answerOf a))) ⌝ }
+{
+    match a {
+        Answer::Done => {
+            write_words(answer, 0, 0, 0);
+            0
+        }
+        Answer::Moved => {
+            write_words(answer, 0, 0, 0);
+            1
+        }
+        Answer::Reply { id, value } => {
+            write_words(answer, id, value, 0);
+            2
+        }
+        Answer::Refused {
+            question,
+            workflow,
+            instruction,
+        } => {
+            write_words(answer, question as u32, low(workflow), low(instruction));
+            3
+        }
+    }
+}
+
+// Writes four words behind the three of an answer.
+pub fn write_parts(answer: &mut [u8], x: usize, y: usize, z: usize, u: usize)
+    requires { ⌜ 28 ≤ length (now answer) ⌝ }
+    ensures { λ _. ⌜ now (answer .exit) ≡ puts 4 (now (answer .entry)) 12 (x ∷ y ∷ z ∷ u ∷ []) 4 ⌝ }
+{
+    words::write32(answer, 12, low(x));
+    words::write32(answer, 16, low(y));
+    words::write32(answer, 20, low(z));
+    words::write32(answer, 24, low(u));
+}
+
+// Questions alone, as an answer.
+pub fn judge(v: Verdict) -> Answer
+    ensures { λ r. ⌜ ((o : Option No) → v ≡ verdictOf o → answerOf r ≡ judged o) ⌝ }
+{
+    match v {
+        Verdict::Accepted => Answer::Done,
+        Verdict::Refused {
+            question,
+            workflow,
+            instruction,
+        } => Answer::Refused {
+            question,
+            workflow,
+            instruction,
+        },
+    }
+}
+
+// The records that a call left go back to their bytes. A refused call has left them alone, and bytes that are no record stay so.
+fn write_back(slots: &mut [u8], a: Answer, agents: [Agent; 8])
+    requires { ⌜ length (now slots) ≡ 384 ⌝ }
+    ensures { λ _. ⌜ now (slots .exit) ≡ slotsAfter (answerOf a) (now (slots .entry)) agents ⌝ }
+    ensures { λ _. ⌜ (accepted (answerOf a) ≡ true → slotsIn (now (slots .exit)) ≡ agents) ⌝ }
+{
+    match a {
+        Answer::Done => slots::write_slots(slots, agents),
+        Answer::Moved => slots::write_slots(slots, agents),
+        Answer::Reply { id: _, value: _ } => slots::write_slots(slots, agents),
+        Answer::Refused {
+            question: _,
+            workflow: _,
+            instruction: _,
+        } => {}
+    }
+}
+
+// What a call left goes to the slots' bytes, and what it answered to the answer buffer.
+pub fn finish(slots: &mut [u8], answer: &mut [u8], o: Outcome) -> u32
+    requires { ⌜ (length (now slots) ≡ 384) × (12 ≤ length (now answer)) ⌝ }
+    ensures { λ r. ⌜ (r ≡ numberOf (answerOf (o .answer))) × (now (answer .exit) ≡ withWords (now (answer .entry)) (valuesOf (answerOf (o .answer)))) ⌝ }
+    ensures { λ _. ⌜ now (slots .exit) ≡ slotsAfter (answerOf (o .answer)) (now (slots .entry)) (o .agents) ⌝ }
+    ensures { λ _. ⌜ (accepted (answerOf (o .answer)) ≡ true → slotsIn (now (slots .exit)) ≡ o .agents) ⌝ }
+{
+    let a = o.answer;
+    let agents = o.agents;
+    write_back(slots, a, agents);
+    write_answer(answer, a)
+}

@@ -1,0 +1,82 @@
+-- The promise of the exports for calls, from what the code has in hand. Assumes nothing.
+use mathlib.Core.Bool.{Bool, true, false}
+use mathlib.Core.List.{List}
+use mathlib.Core.Option.{Option, none, some}
+use mathlib.Core.Path.{_≡_, refl, sym, _∙_, ap, subst}
+use Prim.Native.Nat.{ℕ, _≤_, _<_}
+use borrow.Author.Tests.{le-leb, lt-leb, eq-eqb, ne-eqb}
+use lib.ListN.{length}
+use Rattle.rules.specs.Questions.{No}
+use Rattle.rules.specs.Calls.{Call}
+use Rattle.rules.specs.Calls as Rules
+use Rattle.rules.specs.Plain.{accepted}
+use Rattle.rules.proofs.Calls.{rule-accepted}
+use Rattle.rules.proofs.Tests.{yes-no}
+use Rattle.pack.specs.Meaning.{packOf}
+use Rattle.agents.specs.declared.Agent.{Agent}
+use Rattle.agents.specs.declared.Outcome.{Outcome}
+use Rattle.agents.specs.Answers.{answerOf}
+use Rattle.meaning.specs.State.{stateOf}
+use Rattle.meaning.specs.Questions.{refusalFor}
+use Rattle.meaning.specs.Carried.{Carried}
+use Rattle.slots.specs.Records.{slotsIn}
+use Rattle.answers.specs.Answers.{numberOf, valuesOf, withWords, slotsAfter}
+use Rattle.answers.specs.Answers as Answers
+use Rattle.host.specs.Exports.{buffersWrong, Exported}
+use Rattle.host.proofs.Told.{same, missing}
+
+module _ (pack store slots answer : List ℕ) (c : Call) where
+  pub exported-short : length answer < 12 → Exported pack store slots answer c 100 store slots answer
+  unfolding buffersWrong
+  exported-short h =
+      let e : buffersWrong answer slots ≡ some 100 = rw (lt-leb 12 (length answer) h) refl in
+      record { wrong = λ n q. (same (sym e ∙ q), refl, refl, refl); served = λ q. absurd (missing (sym q ∙ e)) }
+
+  pub exported-slots : 12 ≤ length answer → (length slots ≡ 384 → ⊥) → Exported pack store slots answer c 101 store slots answer
+  unfolding buffersWrong
+  exported-slots h d =
+      let e : buffersWrong answer slots ≡ some 101 = rw (le-leb 12 (length answer) h, ne-eqb (length slots) 384 d) refl in
+      record { wrong = λ n q. (same (sym e ∙ q), refl, refl, refl); served = λ q. absurd (missing (sym q ∙ e)) }
+
+  module _ (records : List Agent) (o : Outcome) (store′ slots′ answer′ : List ℕ) (number : ℕ) where
+    -- a refused call leaves the records that it was given
+    kept : Carried pack store records c (o .answer) (o .agents) store′ → accepted (answerOf (o .answer)) ≡ false → o .agents ≡ records
+    kept p e = go (refusalFor pack store records c) refl
+      where
+        go : (r : Option No) → refusalFor pack store records c ≡ r → o .agents ≡ records
+        go none q = yes-no (sym (ap accepted (p .carried q .0) ∙ rule-accepted (packOf pack) (stateOf store records) c) ∙ e)
+        go (some n) q = p .refused n q .1 .slots
+
+    -- and no byte of them is written
+    untouched : (a : Rules.Answer) → accepted a ≡ false → slotsAfter a slots (o .agents) ≡ slots
+    unfolding Answers.slotsAfter
+    untouched Rules.done e = yes-no e
+    untouched Rules.moved e = yes-no e
+    untouched (Rules.reply id value) e = yes-no e
+    untouched (Rules.refused n) e = refl
+
+    pub exported : 12 ≤ length answer → length slots ≡ 384 → records ≡ slotsIn slots
+        → Carried pack store records c (o .answer) (o .agents) store′
+        → (number ≡ numberOf (answerOf (o .answer))) × (answer′ ≡ withWords answer (valuesOf (answerOf (o .answer))))
+        → slots′ ≡ slotsAfter (answerOf (o .answer)) slots (o .agents)
+        → (accepted (answerOf (o .answer)) ≡ true → slotsIn slots′ ≡ o .agents)
+        → Exported pack store slots answer c number store′ slots′ answer′
+    unfolding buffersWrong
+    exported h l r p t w b =
+        let e : buffersWrong answer slots ≡ none = rw (le-leb 12 (length answer) h, eq-eqb (length slots) 384 l) refl in
+        record {
+          wrong = λ n q. absurd (missing (sym e ∙ q));
+          served = λ q. record { said = o .answer; carried = carried; bytes = w ∙ ap (slotsAfter (answerOf (o .answer)) slots) (sym back); given = t .0; words = t .1 };
+        }
+      where
+        left : (t : Bool) → accepted (answerOf (o .answer)) ≡ t → slotsIn slots′ ≡ o .agents
+        left true e = b e
+        left false e = ap slotsIn (w ∙ untouched (answerOf (o .answer)) e) ∙ sym r ∙ sym (kept p e)
+
+        back : slotsIn slots′ ≡ o .agents
+        back = left (accepted (answerOf (o .answer))) refl
+
+        carried : Carried pack store (slotsIn slots) c (o .answer) (slotsIn slots′) store′
+        carried =
+            subst (λ (l : List Agent). Carried pack store (slotsIn slots) c (o .answer) l store′) (sym back)
+            (subst (λ (l : List Agent). Carried pack store l c (o .answer) (o .agents) store′) r p)

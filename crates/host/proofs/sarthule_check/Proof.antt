@@ -1,0 +1,16 @@
+-- `host::sarthule_check` meets its contract. Assumes nothing.
+use borrow.Author.Needs.{needs}
+use Rattle.host.proofs.Told.{told-short, told-judged}
+use Rattle.host.proofs.sarthule_check.Statement.{statement}
+use Rattle.host.proofs.sarthule_check.Tie as tie
+
+pub sarthule-check-spec : {M : Type 1} → statement M
+sarthule-check-spec =
+    tie.close
+    (tie.spec
+    (λ c. told-short 12 _ _ _ (c .if1 .taken))
+    (λ c κs. search needs)
+    (λ c κs. search needs)
+    (λ c κs. search needs)
+    (λ c. search needs)
+    (λ c. told-judged _ _ _ _ _ (c .before .before .before .before .before .before .if1 .left) (c .before .before .before .judge .ensures _ (c .before .before .before .before .check .ensures)) (c .before .before .write-answer .ensures)))

@@ -1,0 +1,19 @@
+-- `host::sarthule_create` meets its contract. Assumes nothing.
+use borrow.Author.Needs.{needs}
+use Rattle.host.proofs.Told.{made-short, made}
+use Rattle.host.proofs.sarthule_create.Statement.{statement}
+use Rattle.host.proofs.sarthule_create.Tie as tie
+
+pub sarthule-create-spec : {M : Type 1} → statement M
+sarthule-create-spec =
+    tie.close
+    (tie.spec
+    (λ c. made-short _ _ _ _ (c .if1 .taken))
+    (λ c κs. search needs)
+    (λ c κs. search needs)
+    (λ c κs. search needs)
+    (λ c. search needs)
+    (λ c. search needs)
+    (λ c.
+    let m = c .before .before .before .before .before .before .before .create .ensures in
+    made _ _ _ _ _ _ _ _ _ (c .before .before .before .before .before .before .before .before .before .if1 .left) m (c .before .before .before .judge .ensures _ (m .answer)) (c .before .before .write-answer .ensures)))

@@ -1,0 +1,32 @@
+-- What the exports for calls promise of the number returned and of the lent buffers. Assumes nothing: these are definitions.
+use mathlib.Core.List.{List}
+use mathlib.Core.Option.{Option, none, some}
+use mathlib.Core.Path.{_≡_}
+use Prim.Native.Nat.{ℕ}
+use lib.Dec.{eqb, leb}
+use lib.ListN.{length}
+use Rattle.rules.specs.Basics.{if_then_else_}
+use Rattle.rules.specs.Calls.{Call}
+use Rattle.agents.specs.declared.Answer.{Answer}
+use Rattle.agents.specs.Answers.{answerOf}
+use Rattle.meaning.specs.Carried.{Carried}
+use Rattle.slots.specs.Records.{slotsIn}
+use Rattle.answers.specs.Answers.{numberOf, valuesOf, withWords, slotsAfter}
+
+-- 101: slots that are not 384 bytes, asked behind 100
+unfoldable pub buffersWrong : (answer slots : List ℕ) → Option ℕ
+buffersWrong answer slots =
+    if leb 12 (length answer) then (if eqb (length slots) 384 then none else some 101) else some 100
+
+-- A call was put to the library, on what the slots' bytes mean; the number and the words are those of its answer.
+pub record Served (pack store slots answer : List ℕ) (c : Call) (number : ℕ) (store′ slots′ answer′ : List ℕ) : Type 0 where
+  pub said : Answer
+  pub carried : Carried pack store (slotsIn slots) c said (slotsIn slots′) store′
+  pub bytes : slots′ ≡ slotsAfter (answerOf said) slots (slotsIn slots′)
+  pub given : number ≡ numberOf (answerOf said)
+  pub words : answer′ ≡ withWords answer (valuesOf (answerOf said))
+
+-- A call of an export: a wrong buffer gives the library's own number, and nothing is changed; otherwise it is served.
+pub record Exported (pack store slots answer : List ℕ) (c : Call) (number : ℕ) (store′ slots′ answer′ : List ℕ) : Type 0 where
+  pub wrong : (n : ℕ) → buffersWrong answer slots ≡ some n → (number ≡ n) × (store′ ≡ store) × (slots′ ≡ slots) × (answer′ ≡ answer)
+  pub served : buffersWrong answer slots ≡ none → Served pack store slots answer c number store′ slots′ answer′

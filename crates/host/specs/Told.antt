@@ -1,0 +1,40 @@
+-- What the exports promise that put questions and change no slot: check, open, create. Assumes nothing: these are definitions.
+use mathlib.Core.List.{List, [], _∷_, _++_}
+use mathlib.Core.Option.{Option, none, some}
+use mathlib.Core.Path.{_≡_}
+use Prim.Native.Nat.{ℕ, _*_}
+use lib.Dec.{leb}
+use lib.ListN.{length}
+use Rattle.rules.specs.Basics.{if_then_else_}
+use Rattle.rules.specs.Questions.{No}
+use Rattle.rules.specs.Verdicts.{verdictOf}
+use Rattle.rules.specs.Calls.{Answer}
+use Rattle.pack.specs.Layout.{sizeOf, operationsAt, operandsAt}
+use Rattle.pack.specs.Refusal.{openRefusal}
+use Rattle.store.specs.Questions.{createRefusal}
+use Rattle.store.specs.Created.{Created}
+use Rattle.answers.specs.Answers.{numberOf, valuesOf, withWords, judged}
+
+-- where the parts of an opened workflow start in the pack and how many bytes they are: operations, then operands
+unfoldable pub partsOf : (pack : List ℕ) (workflow : ℕ) → Option No → List ℕ
+partsOf pack w none = operationsAt pack w ∷ sizeOf pack w ∷ operandsAt pack w ∷ 4 * sizeOf pack w ∷ []
+partsOf pack w (some n) = 0 ∷ 0 ∷ 0 ∷ 0 ∷ []
+
+-- the seven words of an opening
+unfoldable pub openedWords : (pack : List ℕ) (workflow : ℕ) → List ℕ
+openedWords pack w = valuesOf (judged (openRefusal pack w)) ++ partsOf pack w (openRefusal pack w)
+
+-- 100: an answer buffer with fewer bytes than the call writes
+unfoldable pub answerShort : (need : ℕ) (answer : List ℕ) → Option ℕ
+answerShort need answer = if leb need (length answer) then none else some 100
+
+-- The answer buffer is too short, and nothing is written; or it has the words, and the number is that of the answer.
+pub record Told (need : ℕ) (answer : List ℕ) (a : Answer) (words : List ℕ) (number : ℕ) (answer′ : List ℕ) : Type 0 where
+  pub short : (n : ℕ) → answerShort need answer ≡ some n → (number ≡ n) × (answer′ ≡ answer)
+  pub told : answerShort need answer ≡ none → (number ≡ numberOf a) × (answer′ ≡ withWords answer words)
+
+-- Create: what is told, and what the store's bytes become.
+pub record Made (store answer : List ℕ) (P C number : ℕ) (store′ answer′ : List ℕ) : Type 0 where
+  pub told : Told 12 answer (judged (createRefusal P C (length store))) (valuesOf (judged (createRefusal P C (length store)))) number answer′
+  pub short : (n : ℕ) → answerShort 12 answer ≡ some n → store′ ≡ store
+  pub created : answerShort 12 answer ≡ none → Created store store′ P C (verdictOf (createRefusal P C (length store)))

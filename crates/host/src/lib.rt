@@ -1,0 +1,178 @@
+// The calls for a program in another language, on numbers and lent bytes. `include/sarthule.h` has the same for C.
+ghost use mathlib.Core.List.{List, [], _∷_};
+ghost use Prim.Native.Nat.{ℕ};
+ghost use Rattle.rules.specs.Calls.{Call};
+ghost use Rattle.pack.specs.Refusal.{packRefusal, openRefusal};
+ghost use Rattle.answers.specs.Answers.{valuesOf, judged};
+ghost use Rattle.host.specs.Told.{openedWords, Told, Made};
+ghost use Rattle.host.specs.Exports.{Exported};
+use rules::Verdict;
+
+// The check of a pack.
+#[no_mangle]
+pub extern "C" fn sarthule_check(pack: &[u8], answer: &mut [u8]) -> u32
+    ensures { λ r. ⌜ Told 12 (now (answer .entry)) (judged (packRefusal (now (pack .entry)))) (valuesOf (judged (packRefusal (now (pack .entry))))) r (now (answer .exit)) ⌝ }
+{
+    if answer.len() < 12 {
+        return 100;
+    }
+    answers::write_answer(answer, answers::judge(pack::check(pack)))
+}
+
+// Where the parts of a workflow stand in the pack.
+#[no_mangle]
+pub extern "C" fn sarthule_open(pack: &[u8], workflow: u32, answer: &mut [u8]) -> u32
+    ensures { λ r. ⌜ Told 28 (now (answer .entry)) (judged (openRefusal (now (pack .entry)) workflow)) (openedWords (now (pack .entry)) workflow) r (now (answer .exit)) ⌝ }
+{
+    if answer.len() < 28 {
+        return 100;
+    }
+    let v = pack::open(pack, workflow);
+    let number = answers::write_answer(answer, answers::judge(v));
+    match v {
+        Verdict::Accepted => {
+            let w = workflow as usize;
+            let size = pack::size_at(pack, w);
+            answers::write_parts(
+                answer,
+                pack::operations_at(pack, w),
+                size,
+                pack::operands_at(pack, w),
+                4 * size,
+            );
+            number
+        }
+        Verdict::Refused {
+            question: _,
+            workflow: _,
+            instruction: _,
+        } => {
+            answers::write_parts(answer, 0, 0, 0, 0);
+            number
+        }
+    }
+}
+
+// Writes a fresh store.
+#[no_mangle]
+pub extern "C" fn sarthule_create(
+    store: &mut [u8],
+    partitions: usize,
+    rows: usize,
+    answer: &mut [u8],
+) -> u32
+    ensures { λ r. ⌜ Made (now (store .entry)) (now (answer .entry)) partitions rows r (now (store .exit)) (now (answer .exit)) ⌝ }
+{
+    if answer.len() < 12 {
+        return 100;
+    }
+    let v = store::create::create(store, partitions, rows);
+    answers::write_answer(answer, answers::judge(v))
+}
+
+// Arrival books a new id, then starts an agent; a known id only starts one.
+#[no_mangle]
+pub extern "C" fn sarthule_arrival(
+    pack: &[u8],
+    store: &mut [u8],
+    slots: &mut [u8],
+    slot: usize,
+    id: u32,
+    workflow: u32,
+    a0: u32,
+    a1: u32,
+    a2: u32,
+    a3: u32,
+    answer: &mut [u8],
+) -> u32
+    ensures { λ r. ⌜ Exported (now (pack .entry)) (now (store .entry)) (now (slots .entry)) (now (answer .entry)) (Call.arrival slot id workflow (a0 ∷ a1 ∷ a2 ∷ a3 ∷ [])) r (now (store .exit)) (now (slots .exit)) (now (answer .exit)) ⌝ }
+{
+    if answer.len() < 12 {
+        return 100;
+    }
+    if slots.len() != 384 {
+        return 101;
+    }
+    let agents = slots::read_slots(slots);
+    let o = runtime::arrival(pack, store, agents, slot, id, workflow, a0, a1, a2, a3);
+    answers::finish(slots, answer, o)
+}
+
+// Retry starts an agent from the book.
+#[no_mangle]
+pub extern "C" fn sarthule_retry(
+    pack: &[u8],
+    store: &[u8],
+    slots: &mut [u8],
+    slot: usize,
+    id: u32,
+    answer: &mut [u8],
+) -> u32
+    ensures { λ r. ⌜ Exported (now (pack .entry)) (now (store .entry)) (now (slots .entry)) (now (answer .entry)) (Call.retry slot id) r (now (store .entry)) (now (slots .exit)) (now (answer .exit)) ⌝ }
+{
+    if answer.len() < 12 {
+        return 100;
+    }
+    if slots.len() != 384 {
+        return 101;
+    }
+    let agents = slots::read_slots(slots);
+    answers::finish(slots, answer, runtime::retry(pack, store, agents, slot, id))
+}
+
+// The agent in a slot moves on.
+#[no_mangle]
+pub extern "C" fn sarthule_turn(
+    pack: &[u8],
+    store: &mut [u8],
+    slots: &mut [u8],
+    slot: usize,
+    answer: &mut [u8],
+) -> u32
+    ensures { λ r. ⌜ Exported (now (pack .entry)) (now (store .entry)) (now (slots .entry)) (now (answer .entry)) (Call.turn slot) r (now (store .exit)) (now (slots .exit)) (now (answer .exit)) ⌝ }
+{
+    if answer.len() < 12 {
+        return 100;
+    }
+    if slots.len() != 384 {
+        return 101;
+    }
+    let agents = slots::read_slots(slots);
+    let o = runtime::turn(pack, store, agents, slot);
+    answers::finish(slots, answer, o)
+}
+
+// Crash empties a slot.
+#[no_mangle]
+pub extern "C" fn sarthule_crash(
+    pack: &[u8],
+    store: &[u8],
+    slots: &mut [u8],
+    slot: usize,
+    answer: &mut [u8],
+) -> u32
+    ensures { λ r. ⌜ Exported (now (pack .entry)) (now (store .entry)) (now (slots .entry)) (now (answer .entry)) (Call.crash slot) r (now (store .entry)) (now (slots .exit)) (now (answer .exit)) ⌝ }
+{
+    if answer.len() < 12 {
+        return 100;
+    }
+    if slots.len() != 384 {
+        return 101;
+    }
+    let agents = slots::read_slots(slots);
+    answers::finish(slots, answer, runtime::crash(pack, store, agents, slot))
+}
+
+// Restart empties all slots.
+#[no_mangle]
+pub extern "C" fn sarthule_restart(slots: &mut [u8], answer: &mut [u8]) -> u32
+    ensures { λ r. ⌜ ((pack store : List ℕ) → Exported pack store (now (slots .entry)) (now (answer .entry)) Call.restart r store (now (slots .exit)) (now (answer .exit))) ⌝ }
+{
+    if answer.len() < 12 {
+        return 100;
+    }
+    if slots.len() != 384 {
+        return 101;
+    }
+    answers::finish(slots, answer, runtime::restart())
+}

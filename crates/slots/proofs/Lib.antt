@@ -1,0 +1,3 @@
+mod Words
+mod Typed
+pub mod Records

@@ -1,0 +1,121 @@
+// The eight agent records in 384 lent bytes, read and written. A record is twelve words of 4 bytes, low byte first: in use (0 or
+// 1), id, position, step number, eight registers.
+ghost use mathlib.Core.Path.{_≡_};
+ghost use Prim.Native.Nat.{_+_, _*_, _≤_};
+ghost use lib.ListN.{length};
+ghost use Rattle.words.specs.Words.{fields};
+ghost use Rattle.slots.specs.Records.{noRecord, recordIn, slotsIn, puts, withRecord, withSlots};
+use agents::Agent;
+
+// What bytes that are no record stand for: not in use, and not all zero.
+fn no_record() -> Agent
+    ensures { λ r. ⌜ r ≡ noRecord ⌝ }
+{
+    Agent {
+        in_use: false,
+        id: 1,
+        position: 0,
+        step: 0,
+        registers: [0u32; 8],
+    }
+}
+
+// The eight words from `at` on.
+fn read_registers(bytes: &[u8], at: usize) -> [u32; 8]
+    requires { ⌜ at + 32 ≤ length (now bytes) ⌝ }
+    ensures { λ r. ⌜ r ≡ fields 4 (now (bytes .entry)) at 8 ⌝ }
+{
+    [
+        words::read32(bytes, at),
+        words::read32(bytes, at + 4),
+        words::read32(bytes, at + 8),
+        words::read32(bytes, at + 12),
+        words::read32(bytes, at + 16),
+        words::read32(bytes, at + 20),
+        words::read32(bytes, at + 24),
+        words::read32(bytes, at + 28),
+    ]
+}
+
+// The i-th record.
+fn read_record(bytes: &[u8], i: usize) -> Agent
+    requires { ⌜ 48 * i + 48 ≤ length (now bytes) ⌝ }
+    ensures { λ r. ⌜ r ≡ recordIn (now (bytes .entry)) i ⌝ }
+{
+    let at = 48 * i;
+    let in_use = words::read32(bytes, at);
+    let position = words::read32(bytes, at + 8);
+    let step = words::read32(bytes, at + 12);
+    if in_use >= 2 {
+        return no_record();
+    }
+    if position >= 65_536 {
+        return no_record();
+    }
+    if step >= 65_536 {
+        return no_record();
+    }
+    Agent {
+        in_use: in_use == 1,
+        id: words::read32(bytes, at + 4),
+        position: position as u16,
+        step: step as u16,
+        registers: read_registers(bytes, at + 16),
+    }
+}
+
+// The eight records.
+pub fn read_slots(bytes: &[u8]) -> [Agent; 8]
+    requires { ⌜ length (now bytes) ≡ 384 ⌝ }
+    ensures { λ r. ⌜ r ≡ slotsIn (now (bytes .entry)) ⌝ }
+{
+    [
+        read_record(bytes, 0),
+        read_record(bytes, 1),
+        read_record(bytes, 2),
+        read_record(bytes, 3),
+        read_record(bytes, 4),
+        read_record(bytes, 5),
+        read_record(bytes, 6),
+        read_record(bytes, 7),
+    ]
+}
+
+// Writes eight words from `at` on.
+fn write_registers(bytes: &mut [u8], at: usize, registers: [u32; 8])
+    requires { ⌜ at + 32 ≤ length (now bytes) ⌝ }
+    ensures { λ _. ⌜ now (bytes .exit) ≡ puts 4 (now (bytes .entry)) at registers 8 ⌝ }
+{
+    let mut i = 0;
+    while i < 8 {
+        words::write32(bytes, at + i * 4, registers[i]);
+        i += 1;
+    }
+}
+
+// Writes `a` as the i-th record.
+fn write_record(bytes: &mut [u8], i: usize, a: Agent)
+    requires { ⌜ 48 * i + 48 ≤ length (now bytes) ⌝ }
+    ensures { λ _. ⌜ now (bytes .exit) ≡ withRecord (now (bytes .entry)) i a ⌝ }
+{
+    let at = 48 * i;
+    let registers = a.registers;
+    words::write32(bytes, at, a.in_use as u32);
+    words::write32(bytes, at + 4, a.id);
+    words::write32(bytes, at + 8, a.position as u32);
+    words::write32(bytes, at + 12, a.step as u32);
+    write_registers(bytes, at + 16, registers);
+}
+
+// Writes eight records, which are then read back as they were.
+pub fn write_slots(bytes: &mut [u8], slots: [Agent; 8])
+    requires { ⌜ length (now bytes) ≡ 384 ⌝ }
+    ensures { λ _. ⌜ now (bytes .exit) ≡ withSlots (now (bytes .entry)) slots ⌝ }
+    ensures { λ _. ⌜ slotsIn (now (bytes .exit)) ≡ slots ⌝ }
+{
+    let mut i = 0;
+    while i < 8 {
+        write_record(bytes, i, slots[i]);
+        i += 1;
+    }
+}

@@ -1,0 +1,173 @@
+//! A small host: a stock of goods in two places, kept in one file.
+//!
+//!     stock FILE init P C                        a fresh stock of P partitions of C rows
+//!     stock FILE move FROM TO AMOUNT --id N      takes AMOUNT from shelf FROM of partition 0 to shelf TO of partition 1
+//!     stock FILE retry ID                        has the reply of an earlier move again
+//!     stock FILE show                            the rows and log rows
+//!
+//! The file holds the store and behind it the eight slots. After each call it is written whole to a temporary file, brought to the
+//! disk, and renamed over the old one. A program that is killed at any place leaves a file from which the next one goes on: agents
+//! that were under way are emptied by a restart and started again from the book; what was logged is not done a second time.
+
+use sarthule::{arrival, create, restart, retry, store_bytes, turn, word, Answer, Request, Slots, EMPTY};
+use std::error::Error;
+use std::fs::{self, File};
+use std::io::Write;
+use std::path::{Path, PathBuf};
+
+type Try<T> = Result<T, Box<dyn Error>>;
+
+/// MOVE, arguments FROM, TO, AMOUNT, 0: takes AMOUNT off FROM in partition 0 and adds it to TO in partition 1.
+const MOVE: [(u8, u32); 12] = [
+    (0x14, 0),
+    (0x60, 0),
+    (0x85, 4),
+    (0x35, 2),
+    (0x94, 5),
+    (0x75, 0),
+    (0x60, 1),
+    (0x85, 1),
+    (0x25, 2),
+    (0x91, 5),
+    (0x75, 0),
+    (0xB0, 0),
+];
+
+fn pack() -> Vec<u8> {
+    let mut bytes = vec![1, MOVE.len() as u8, 0];
+    bytes.extend(MOVE.iter().map(|(operation, _)| *operation));
+    bytes.extend(MOVE.iter().flat_map(|(_, operand)| operand.to_le_bytes()));
+    bytes
+}
+
+/// The state and the file that it is kept in.
+struct Stock {
+    path: PathBuf,
+    pack: Vec<u8>,
+    store: Vec<u8>,
+    slots: Slots,
+}
+
+impl Stock {
+    fn init(path: &Path, partitions: usize, rows: usize) -> Try<Self> {
+        let store = vec![0; store_bytes(partitions, rows)];
+        let mut stock = Self { path: path.into(), pack: pack(), store, slots: EMPTY };
+        said(create(&mut stock.store, partitions, rows))?;
+        stock.save()?;
+        Ok(stock)
+    }
+
+    fn load(path: &Path) -> Try<Self> {
+        let mut store = fs::read(path)?;
+        let at = store.len().checked_sub(EMPTY.len()).ok_or("the file is too short")?;
+        let slots = store.split_off(at).try_into().expect("as many bytes as were split off");
+        Ok(Self { path: path.into(), pack: pack(), store, slots })
+    }
+
+    /// All of it to a temporary file, to the disk, and then to the name in one step.
+    fn save(&self) -> Try<()> {
+        let mut temporary = self.path.clone().into_os_string();
+        temporary.push(".new");
+        let mut file = File::create(&temporary)?;
+        file.write_all(&self.store)?;
+        file.write_all(&self.slots)?;
+        file.sync_all()?;
+        fs::rename(&temporary, &self.path)?;
+        let folder = self.path.parent().filter(|p| !p.as_os_str().is_empty());
+        File::open(folder.unwrap_or(Path::new(".")))?.sync_all()?;
+        Ok(())
+    }
+
+    /// Turns of the agent in a slot until it replies.
+    fn run(&mut self, slot: usize) -> Try<()> {
+        loop {
+            let answer = said(turn(&self.pack, &mut self.store, &mut self.slots, slot))?;
+            self.save()?;
+            if let Answer::Reply { id, value } = answer {
+                println!("reply {id} {value}");
+                return Ok(());
+            }
+        }
+    }
+
+    /// Agents that a killed program left are started again from the book. The file keeps their ids until all are started.
+    fn recover(&mut self) -> Try<()> {
+        let in_use = (0..8).filter(|slot| word(&self.slots, 12 * slot) != 0);
+        let ids: Vec<u32> = in_use.map(|slot| word(&self.slots, 12 * slot + 1)).collect();
+        if ids.is_empty() {
+            return Ok(());
+        }
+        said(restart(&mut self.slots))?;
+        for (slot, id) in ids.iter().enumerate() {
+            said(retry(&self.pack, &self.store, &mut self.slots, slot, *id))?;
+        }
+        self.save()?;
+        (0..ids.len()).try_for_each(|slot| self.run(slot))
+    }
+
+    fn move_goods(&mut self, request: Request) -> Try<()> {
+        said(arrival(&self.pack, &mut self.store, &mut self.slots, 0, request))?;
+        self.save()?;
+        self.run(0)
+    }
+
+    fn retry(&mut self, id: u32) -> Try<()> {
+        said(retry(&self.pack, &self.store, &mut self.slots, 0, id))?;
+        self.save()?;
+        self.run(0)
+    }
+
+    fn show(&self) {
+        let number = |at: usize, n: usize| (0..n).rev().fold(0u64, |x, i| x << 8 | u64::from(self.store[at + i]));
+        let (p, c) = (usize::from(self.store[0]), number(1, 2) as usize);
+        let keys = 3 + 2 * (p + 1);
+        let values = keys + 8 * c * (p + 1);
+        for part in 0..p {
+            let used = number(3 + 2 * part, 2) as usize;
+            let row = |i: usize| (number(keys + 8 * (part * c + i), 8), number(values + 4 * (part * c + i), 4));
+            let mut rows: Vec<_> = (0..used).map(row).collect();
+            // data keys have their highest bit set; they are printed first
+            rows.sort_by_key(|(key, _)| key ^ 1 << 63);
+            for (key, value) in rows {
+                if key >> 63 == 1 {
+                    println!("row {part} {} {value}", key as u32);
+                } else {
+                    println!("log {part} {} {} {value}", key >> 16, key & 0xFFFF);
+                }
+            }
+        }
+    }
+}
+
+/// A refusal ends the program, and the file stays as the call before left it.
+fn said(answer: Answer) -> Try<Answer> {
+    match answer {
+        Answer::Refused { question: q @ 4..=8, workflow, instruction } => {
+            Err(format!("refused {q} {workflow} {instruction}").into())
+        }
+        Answer::Refused { question, .. } => Err(format!("refused {question}").into()),
+        answer => Ok(answer),
+    }
+}
+
+fn main() -> Try<()> {
+    let words: Vec<String> = std::env::args().skip(1).collect();
+    let words: Vec<&str> = words.iter().map(String::as_str).collect();
+    match words[..] {
+        [path, "init", p, c] => Stock::init(Path::new(path), p.parse()?, c.parse()?).map(|_| ()),
+        [path, "show"] => Stock::load(Path::new(path)).map(|stock| stock.show()),
+        [path, "move", from, to, amount, "--id", id] => {
+            let arguments = [from.parse()?, to.parse()?, amount.parse()?, 0];
+            let request = Request { id: id.parse()?, workflow: 0, arguments };
+            let mut stock = Stock::load(Path::new(path))?;
+            stock.recover()?;
+            stock.move_goods(request)
+        }
+        [path, "retry", id] => {
+            let mut stock = Stock::load(Path::new(path))?;
+            stock.recover()?;
+            stock.retry(id.parse()?)
+        }
+        _ => Err("FILE init P C | move FROM TO AMOUNT --id N | retry ID | show".into()),
+    }
+}

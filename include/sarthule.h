@@ -1,0 +1,148 @@
+/*
+ * The workflow runtime, for a program in C that links libhost.a.
+ *
+ * Buffers. Every buffer is lent: a pointer and its length in bytes. The library keeps no pointer, allocates nothing, opens
+ * no file and starts no thread; a call has no state but the buffers. During a call no buffer may overlap another, and no
+ * other thread may write to one that is lent, or read one that is not `const`. A pointer to an empty buffer (length 0) may
+ * be any pointer but NULL.
+ *
+ *   pack    the workflows, as document 01 lays them out; only read
+ *   store   SARTHULE_STORE_BYTES(P, C) bytes for P partitions (1 to 8) of C rows (5 to 256); first filled by sarthule_create
+ *   slots   SARTHULE_SLOTS_BYTES bytes, eight agent records; 384 zero bytes are eight empty slots
+ *   answer  SARTHULE_ANSWER_BYTES bytes (sarthule_open: SARTHULE_OPEN_BYTES), written by every call; what is behind stays
+ *
+ * A record in `slots` is 48 bytes, twelve words of 4 bytes, each low byte first:
+ *
+ *   word 0        in use: 0 or 1
+ *   word 1        id of the request
+ *   word 2        position, the number of the next instruction: at most 65,535
+ *   word 3        step number, how many blocks are done: at most 65,535
+ *   words 4 - 11  registers 0 to 7
+ *
+ * Slot s starts at byte 48 * s. An empty slot is all zero. Bytes that are no record (another word 0, a word 2 or 3 that is
+ * too great) are refused with 14 by every call that puts question 14, and stay as they are.
+ *
+ * Answers. A call returns one of these numbers, and writes three words into `answer` (sarthule_word reads them):
+ *
+ *   returned              word 0     word 1     word 2
+ *   SARTHULE_DONE         0          0          0
+ *   SARTHULE_MOVED        0          0          0            turn only: an instruction or a whole block is done
+ *   SARTHULE_REPLY        id         value      0            turn only: the workflow has ended, its slot is empty
+ *   SARTHULE_REFUSED      question   workflow   instruction  workflow and instruction with 4 to 8 only, otherwise 0
+ *   SARTHULE_BAD_ANSWER   -          -          -            `answer` is too short: not even `answer` is written
+ *   SARTHULE_BAD_SLOTS    -          -          -            `slots` has not 384 bytes; not even `answer` is written
+ *
+ * Where a call is refused, store and slots are byte for byte as they were. The last two numbers are this library's own;
+ * `answer` is looked at first.
+ *
+ * Questions, in the order in which they are put. The first no is the number of the refusal:
+ *
+ *    1  Is there a count, 1 to 16?
+ *    2  Are all sizes there, each 1 to 256, sum at most 2,048?
+ *    3  Is the length 1 + 2m + 5T?
+ *    4  Is the operation 0 to B and bit 3 clear?
+ *    5  Are w (a jump's target included), and d where fixed, in range?
+ *    6  Does it stand, and its jump land, on the right side?
+ *    7  Is it at most the 16th PUT of its block?
+ *    8  Is the last instruction RETURN?
+ *    9  Are there three bytes, P 1 to 8, C 5 to 256?
+ *   10  Is the store's length right?
+ *   11  Is each used count at most C, each used key of a form of its partition and unlike the others there, each unused
+ *       row zero?
+ *   12  Has each booked id all five rows?
+ *   13  Is each booked workflow below m, each BEGIN's partition below P?
+ *   14  Is each slot empty or sound?
+ *   15  Is the slot 0 to 7?
+ *   16  Is it empty (arrival, retry) or in use (turn, crash)?
+ *   17  Is the workflow below m (arrival, opening)?
+ *   18  If the id is known, are workflow and arguments those booked (arrival)?
+ *   19  If it is new, are five book rows free (arrival)?
+ *   20  Is the id booked (retry)?
+ *   21  Has a block that isn't logged enough free rows: one, plus one per different new key it PUTs (turn)?
+ *
+ * The check puts 1 to 8. Open puts 1 to 8 and 17. Create puts 9 and 10. Restart puts none. Every other call puts all of
+ * them, save those marked for calls that it isn't.
+ */
+#ifndef SARTHULE_H
+#define SARTHULE_H
+
+#include <stddef.h>
+#include <stdint.h>
+
+#ifdef __cplusplus
+extern "C" {
+#endif
+
+#define SARTHULE_SLOTS 8
+#define SARTHULE_SLOT_BYTES 48
+#define SARTHULE_SLOTS_BYTES 384
+#define SARTHULE_ANSWER_BYTES 12
+#define SARTHULE_OPEN_BYTES 28
+#define SARTHULE_STORE_BYTES(P, C) (3 + 2 * ((size_t)(P) + 1) + 12 * (size_t)(C) * ((size_t)(P) + 1))
+
+#define SARTHULE_DONE 0u
+#define SARTHULE_MOVED 1u
+#define SARTHULE_REPLY 2u
+#define SARTHULE_REFUSED 3u
+#define SARTHULE_BAD_ANSWER 100u
+#define SARTHULE_BAD_SLOTS 101u
+
+/* The i-th word of 4 bytes of a buffer: of `answer`, or with i = 12 * slot + word of `slots`. */
+static inline uint32_t sarthule_word(const uint8_t *bytes, size_t i)
+{
+    return (uint32_t)bytes[4 * i] | (uint32_t)bytes[4 * i + 1] << 8 | (uint32_t)bytes[4 * i + 2] << 16
+        | (uint32_t)bytes[4 * i + 3] << 24;
+}
+
+/* Is this a pack that calls may be given? Done, or refused with 1 to 8. */
+uint32_t sarthule_check(const uint8_t *pack, size_t pack_len, uint8_t *answer, size_t answer_len);
+
+/*
+ * Where the parts of one workflow stand in the pack. Done, or refused with 1 to 8 or 17. `answer` has 28 bytes here: behind
+ * its three words stand the offset of the workflow's operation bytes in the pack, their number, the offset of its operand
+ * bytes and their number; 0 four times where it is refused.
+ */
+uint32_t sarthule_open(const uint8_t *pack, size_t pack_len, uint32_t workflow, uint8_t *answer, size_t answer_len);
+
+/*
+ * Writes a fresh store, with no row used, over the whole buffer. Done, or refused with 9 (the numbers) or 10 (store_len is
+ * not SARTHULE_STORE_BYTES(partitions, rows)).
+ */
+uint32_t sarthule_create(uint8_t *store, size_t store_len, size_t partitions, size_t rows, uint8_t *answer,
+    size_t answer_len);
+
+/*
+ * A request arrives: a new id is booked, with its workflow and four arguments, and an agent is started in the slot, which
+ * must be empty. A known id with the same workflow and arguments only starts an agent. Done, or refused.
+ */
+uint32_t sarthule_arrival(const uint8_t *pack, size_t pack_len, uint8_t *store, size_t store_len, uint8_t *slots,
+    size_t slots_len, size_t slot, uint32_t id, uint32_t workflow, uint32_t argument0, uint32_t argument1,
+    uint32_t argument2, uint32_t argument3, uint8_t *answer, size_t answer_len);
+
+/*
+ * Starts an agent for a booked id in the slot, which must be empty: after a crash, or to have a reply again. What it has
+ * logged is not done a second time. Done, or refused.
+ */
+uint32_t sarthule_retry(const uint8_t *pack, size_t pack_len, const uint8_t *store, size_t store_len, uint8_t *slots,
+    size_t slots_len, size_t slot, uint32_t id, uint8_t *answer, size_t answer_len);
+
+/*
+ * The agent in the slot does one instruction, or at BEGIN its whole block, with all rows of it and its log row; at RETURN
+ * it replies and its slot is emptied. Moved, reply, or refused. An agent of a workflow of n instructions replies after at
+ * most n turns.
+ */
+uint32_t sarthule_turn(const uint8_t *pack, size_t pack_len, uint8_t *store, size_t store_len, uint8_t *slots,
+    size_t slots_len, size_t slot, uint8_t *answer, size_t answer_len);
+
+/* The agent in the slot is gone: the slot is emptied. Done, or refused. */
+uint32_t sarthule_crash(const uint8_t *pack, size_t pack_len, const uint8_t *store, size_t store_len, uint8_t *slots,
+    size_t slots_len, size_t slot, uint8_t *answer, size_t answer_len);
+
+/* All agents are gone: 384 zero bytes. Done; it asks nothing, whatever the slots held. */
+uint32_t sarthule_restart(uint8_t *slots, size_t slots_len, uint8_t *answer, size_t answer_len);
+
+#ifdef __cplusplus
+}
+#endif
+
+#endif
