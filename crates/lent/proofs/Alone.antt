@@ -1,0 +1,91 @@
+-- A turn of slot 0 leaves the other slots as they were, so a record that was alone is alone again. Assumes nothing.
+use mathlib.Core.List.{List}
+use mathlib.Core.Option.{Option, none, some}
+use mathlib.Core.Path.{_≡_, refl, sym, _∙_, ap, subst}
+use Prim.Native.Nat.{ℕ}
+use native.Mathlib.Omega.{arith}
+use lib.ListN.{replicate, set}
+use Rattle.rules.specs.Questions.{No}
+use Rattle.rules.specs.Instructions.{Code, Pack, Act, moves, opens, closes, reads, puts, returns}
+use Rattle.rules.specs.Calls.{State, turn, rule, turnIn, turnOn, throughBlock}
+use Rattle.rules.specs.Calls as Calls
+use Rattle.rules.proofs.Updates.{update-other}
+use Rattle.pack.specs.Meaning.{packOf}
+use Rattle.agents.specs.declared.Agent.{Agent}
+use Rattle.agents.specs.declared.Answer.{Answer}
+use Rattle.agents.specs.Slots.{noAgent, agentAt, agentOf, recordOf, slotsOf, recordsFrom, recordsOf}
+use Rattle.meaning.specs.State.{stateOf}
+use Rattle.meaning.specs.Questions.{refusalFor}
+use Rattle.meaning.specs.Carried.{Carried, ruled}
+use Rattle.lent.specs.Alone.{alone, TurnedAlone}
+
+-- a turn changes no slot but its own
+module _ (s : State) (slot j : ℕ) (apart : j ≡ slot → ⊥) where
+  block-elsewhere : (a : Calls.Agent) (code : Code) (p : ℕ) (log : Option ℕ) → throughBlock s slot a code p log .state .slots j ≡ s .slots j
+  unfolding throughBlock
+  block-elsewhere a code p none = update-other (s .slots) slot _ j apart
+  block-elsewhere a code p (some v) = update-other (s .slots) slot _ j apart
+
+  on-elsewhere : (a : Calls.Agent) (code : Code) (x : Act) → turnOn s slot a code x .state .slots j ≡ s .slots j
+  unfolding turnOn
+  on-elsewhere a code (moves to) = update-other (s .slots) slot _ j apart
+  on-elsewhere a code (opens p) = block-elsewhere a code p _
+  on-elsewhere a code (closes v) = update-other (s .slots) slot _ j apart
+  on-elsewhere a code (reads k to) = update-other (s .slots) slot _ j apart
+  on-elsewhere a code (puts k v) = update-other (s .slots) slot _ j apart
+  on-elsewhere a code (returns v) = update-other (s .slots) slot _ j apart
+
+  in-elsewhere : (pack : Pack) (o : Option Calls.Agent) → turnIn pack s slot o .state .slots j ≡ s .slots j
+  unfolding turnIn
+  in-elsewhere pack none = refl
+  in-elsewhere pack (some a) = on-elsewhere a _ _
+
+  pub elsewhere : (pack : Pack) → rule pack s (turn slot) .state .slots j ≡ s .slots j
+  unfolding rule
+  elsewhere pack = in-elsewhere pack (s .slots slot)
+
+-- the records of slots of which all but slot 0 are empty
+alone-records : (f : ℕ → Option Calls.Agent) → f 1 ≡ none → f 2 ≡ none → f 3 ≡ none → f 4 ≡ none → f 5 ≡ none → f 6 ≡ none → f 7 ≡ none →
+    recordsOf f ≡ alone (recordOf (f 0))
+unfolding recordsFrom recordOf
+alone-records f e₁ e₂ e₃ e₄ e₅ e₆ e₇ = rw (e₁, e₂, e₃, e₄, e₅, e₆, e₇)
+
+module _ (pack store : List ℕ) (a : Agent) (answer : Answer) (records′ : List Agent) (store′ : List ℕ) (c : Carried pack store (alone a) (turn 0) answer records′ store′) where
+  abbrev f : ℕ → Option Calls.Agent
+  f = ruled pack store (alone a) (turn 0) .state .slots
+
+  empty-at : (j : ℕ) → (j ≡ 0 → ⊥) → slotsOf (alone a) j ≡ none → f j ≡ none
+  unfolding stateOf
+  empty-at j n e = elsewhere (stateOf store (alone a)) 0 j n (packOf pack) ∙ e
+
+  kept-alone : records′ ≡ alone (agentAt records′ 0)
+  unfolding slotsOf agentOf
+  kept-alone = go (refusalFor pack store (alone a) (turn 0)) refl
+    where
+      go : (o : Option No) → refusalFor pack store (alone a) (turn 0) ≡ o → records′ ≡ alone (agentAt records′ 0)
+      go (some n) e = let k = c .refused n e .1 .slots in k ∙ ap (λ rs. alone (agentAt rs 0)) (sym k)
+      go none e =
+          let k = c .carried e .1 .records in
+          let l =
+          k
+          ∙ alone-records f
+          (empty-at 1 (λ z. omega arith) refl)
+          (empty-at 2 (λ z. omega arith) refl)
+          (empty-at 3 (λ z. omega arith) refl)
+          (empty-at 4 (λ z. omega arith) refl)
+          (empty-at 5 (λ z. omega arith) refl)
+          (empty-at 6 (λ z. omega arith) refl)
+          (empty-at 7 (λ z. omega arith) refl)
+          in
+          l ∙ ap (λ rs. alone (agentAt rs 0)) (sym l)
+
+  turned-alone : Carried pack store (alone a) (turn 0) answer (alone (agentAt records′ 0)) store′
+  turned-alone = subst (λ rs. Carried pack store (alone a) (turn 0) answer rs store′) kept-alone c
+
+-- the turn of slot 0 of slots made of seven empty ones and the record, with the parts in hand
+pub one-turned : (pack store : List ℕ) (a : Agent) (answer : Answer) (empty records records′ : List Agent) (store′ : List ℕ) →
+    empty ≡ replicate 8 noAgent → records ≡ set empty 0 a → Carried pack store records (turn 0) answer records′ store′ →
+    TurnedAlone pack store a answer (agentAt records′ 0) store′
+one-turned pack store a answer empty records records′ store′ e f c =
+    turned-alone pack store a answer records′ store′
+    (subst (λ rs. Carried pack store rs (turn 0) answer records′ store′) (f ∙ ap (λ rs. set rs 0 a) e) c)

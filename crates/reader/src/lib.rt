@@ -1,0 +1,173 @@
+// A reader carries the lent pack along with the workflow that it has open, so that a workflow is checked and found once and then read.
+// The functions over it are thin: each takes the struct apart and calls one on the slice and the numbers, which the borrow checker covers.
+ghost use mathlib.Core.Path.{_≡_};
+ghost use Prim.Native.Nat.{_*_};
+ghost use Rattle.reader.specs.Readers.{partOf, openingOf, operationsFrom, operandsFrom, readerOf, Opened, operationsIn, operandsIn, Read};
+use rules::Verdict;
+
+// `operations`, `operands`: where the workflow's operation bytes and operand bytes begin in the pack; `size`: how many instructions it has.
+// Refused, all three are 0, and there is nothing to read.
+pub struct Reader<'a> {
+    pub pack: &'a [u8],
+    pub workflow: u32,
+    pub verdict: Verdict,
+    pub operations: usize,
+    pub operands: usize,
+    pub size: usize,
+}
+
+// What an opening finds.
+pub struct Opening {
+    pub verdict: Verdict,
+    pub operations: usize,
+    pub operands: usize,
+    pub size: usize,
+}
+
+// An instruction as it stands in the pack: operation byte and operand word.
+pub struct Instruction {
+    pub byte: u8,
+    pub word: u32,
+}
+
+// The n bytes from a on; the empty part where the pack has not so many.
+fn part_or_none(pack: &[u8], a: usize, n: usize) -> &[u8]
+    ensures { λ r. ⌜ now r ≡ partOf (now (pack .entry)) a n ⌝ }
+{
+    if pack.len() < a {
+        return &pack[..0];
+    }
+    if pack.len() - a < n {
+        return &pack[..0];
+    }
+    let end = a + n;
+    &pack[a..end]
+}
+
+// The bytes of n words from a on, likewise.
+fn words_or_none(pack: &[u8], a: usize, n: usize) -> &[u8]
+    ensures { λ r. ⌜ now r ≡ partOf (now (pack .entry)) a (4 * n) ⌝ }
+{
+    if pack.len() / 4 < n {
+        return &pack[..0];
+    }
+    part_or_none(pack, a, 4 * n)
+}
+
+// Opening a workflow: questions 1 to 8 and 17, and where the workflow stands.
+fn opening_of(pack: &[u8], workflow: u32) -> Opening
+    ensures { λ r. ⌜ r ≡ openingOf (now (pack .entry)) workflow ⌝ }
+{
+    let v = pack::open(pack, workflow);
+    match v {
+        Verdict::Accepted => {
+            let w = workflow as usize;
+            let operations = pack::operations_at(pack, w);
+            let operands = pack::operands_at(pack, w);
+            let size = pack::size_at(pack, w);
+            Opening {
+                verdict: v,
+                operations,
+                operands,
+                size,
+            }
+        }
+        Verdict::Refused {
+            question: _,
+            workflow: _,
+            instruction: _,
+        } => {
+            Opening {
+                verdict: v,
+                operations: 0,
+                operands: 0,
+                size: 0,
+            }
+        }
+    }
+}
+
+// Instruction i of the `size` that have their operation bytes and operand bytes there.
+fn instruction_in(
+    pack: &[u8],
+    operations: usize,
+    operands: usize,
+    size: usize,
+    i: usize,
+) -> Instruction
+    ensures { λ r. ⌜ Read (partOf (now (pack .entry)) operations size) (partOf (now (pack .entry)) operands (4 * size)) i r ⌝ }
+{
+    let bytes = part_or_none(pack, operations, size);
+    if bytes.len() <= i {
+        return Instruction {
+            byte: 0xB0,
+            word: 0,
+        };
+    }
+    let words = words_or_none(pack, operands, size);
+    if words.len() < 1 {
+        return Instruction {
+            byte: bytes[i],
+            word: 0,
+        };
+    }
+    Instruction {
+        byte: bytes[i],
+        word: pack::word_in(words, i),
+    }
+}
+
+// A workflow is opened.
+pub fn open<'a>(pack: &'a [u8], workflow: u32) -> Reader<'a>
+    ensures { λ r. ⌜ r ≡ readerOf (pack .entry) workflow ⌝ }
+{
+    let o = opening_of(pack, workflow);
+    Reader {
+        pack,
+        workflow,
+        verdict: o.verdict,
+        operations: o.operations,
+        operands: o.operands,
+        size: o.size,
+    }
+}
+
+// Its operation bytes: a part of the pack, at the pack's own lifetime.
+pub fn operations<'a>(r: Reader<'a>) -> &'a [u8]
+    ensures { λ s. ⌜ (now s ≡ operationsIn (r .entry)) × (Opened (r .entry) → now s ≡ operationsFrom (now (r .entry .pack)) (r .entry .workflow)) ⌝ }
+{
+    part_or_none(r.pack, r.operations, r.size)
+}
+
+// Its operand bytes, likewise.
+pub fn operands<'a>(r: Reader<'a>) -> &'a [u8]
+    ensures { λ s. ⌜ (now s ≡ operandsIn (r .entry)) × (Opened (r .entry) → now s ≡ operandsFrom (now (r .entry .pack)) (r .entry .workflow)) ⌝ }
+{
+    words_or_none(r.pack, r.operands, r.size)
+}
+
+// Its instruction i; past the end RETURN 0.
+pub fn instruction_at<'a>(r: Reader<'a>, i: usize) -> Instruction
+    ensures { λ x. ⌜ Read (operationsIn (r .entry)) (operandsIn (r .entry)) i x × (Opened (r .entry) → Read (operationsFrom (now (r .entry .pack)) (r .entry .workflow)) (operandsFrom (now (r .entry .pack)) (r .entry .workflow)) i x) ⌝ }
+{
+    instruction_in(r.pack, r.operations, r.operands, r.size, i)
+}
+
+// The same with plain parameters: whoever calls one of these three is covered.
+pub fn operations_of<'a>(pack: &'a [u8], workflow: u32) -> &'a [u8]
+    ensures { λ s. ⌜ now s ≡ operationsFrom (now (pack .entry)) workflow ⌝ }
+{
+    operations(open(pack, workflow))
+}
+
+pub fn operands_of<'a>(pack: &'a [u8], workflow: u32) -> &'a [u8]
+    ensures { λ s. ⌜ now s ≡ operandsFrom (now (pack .entry)) workflow ⌝ }
+{
+    operands(open(pack, workflow))
+}
+
+pub fn instruction_of(pack: &[u8], workflow: u32, i: usize) -> Instruction
+    ensures { λ x. ⌜ Read (operationsFrom (now (pack .entry)) workflow) (operandsFrom (now (pack .entry)) workflow) i x ⌝ }
+{
+    instruction_at(open(pack, workflow), i)
+}
