@@ -1,0 +1,90 @@
+// The parts of the case that bytes begin with: kind (1), two lengths (4 each), the pack, the store or the schedule. A call has
+// behind them eight agent records of twelve words, a call byte and seven words.
+ghost use mathlib.Core.Bool.{true};
+ghost use mathlib.Core.Path.{_≡_};
+ghost use Prim.Native.Nat.{_+_, _*_, _≤_, _<_};
+ghost use lib.ListN.{length};
+ghost use Rattle.words.specs.Words.{le};
+ghost use Rattle.cases.specs.Parts.{packEnd, partsEnd, callEnd, HasParts, HasCall};
+
+// Where the pack ends; it begins at 9.
+pub fn pack_end(c: &[u8]) -> usize
+    requires { ⌜ 9 ≤ length (now c) ⌝ }
+    ensures { λ r. ⌜ (r ≡ packEnd (now (c .entry))) × (r < 4294967305) ⌝ }
+{
+    9 + words::read32(c, 1) as usize
+}
+
+// Where the store or the schedule ends; it begins where the pack ends.
+pub fn parts_end(c: &[u8]) -> usize
+    requires { ⌜ 9 ≤ length (now c) ⌝ }
+    ensures { λ r. ⌜ (r ≡ partsEnd (now (c .entry))) × (r < 8589934601) ⌝ }
+{
+    pack_end(c) + words::read32(c, 5) as usize
+}
+
+// Are kind, lengths and both parts there?
+pub fn has_parts(c: &[u8]) -> bool
+    ensures { λ r. ⌜ (r ≡ true → HasParts (now (c .entry))) ⌝ }
+{
+    if c.len() < 9 {
+        return false;
+    }
+    if c.len() < parts_end(c) {
+        return false;
+    }
+    true
+}
+
+// Is every record in use or not, 1 or 0?
+fn records_right(records: &[u8]) -> bool
+    requires { ⌜ length (now records) ≡ 384 ⌝ }
+{
+    let mut i = 0;
+    while i < 8 {
+        if 1 < words::read32(records, 48 * i) {
+            return false;
+        }
+        i += 1;
+    }
+    true
+}
+
+// Is the rest of a call there and in range?
+pub fn has_call(c: &[u8]) -> bool
+    requires { ⌜ HasParts (now c) ⌝ }
+    ensures { λ r. ⌜ (r ≡ true → HasCall (now (c .entry))) ⌝ }
+{
+    let at = parts_end(c);
+    if c.len() - at < 413 {
+        return false;
+    }
+    if 7 < c[at + 384] {
+        return false;
+    }
+    records_right(&c[at..at + 384])
+}
+
+// Where a call ends.
+pub fn call_end(c: &[u8]) -> usize
+    requires { ⌜ HasCall (now c) ⌝ }
+    ensures { λ r. ⌜ HasCall (now (c .entry)) × (r ≡ callEnd (now (c .entry))) × (r ≤ length (now (c .entry))) ⌝ }
+{
+    parts_end(c) + 413
+}
+
+// The seven words of a call.
+pub fn call_words(c: &[u8]) -> [u32; 7]
+    requires { ⌜ HasCall (now c) ⌝ }
+{
+    let at = parts_end(c) + 385;
+    [
+        words::read32(c, at),
+        words::read32(c, at + 4),
+        words::read32(c, at + 8),
+        words::read32(c, at + 12),
+        words::read32(c, at + 16),
+        words::read32(c, at + 20),
+        words::read32(c, at + 24),
+    ]
+}

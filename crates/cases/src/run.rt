@@ -1,0 +1,127 @@
+// A case is run and printed.
+use crate::call;
+use crate::parts;
+use crate::print;
+use libc::STDOUT_FILENO;
+ghost use mathlib.Core.Path.{_≡_};
+ghost use Prim.Native.Nat.{_≤_};
+ghost use lib.ListN.{length};
+ghost use Rattle.cases.specs.Parts.{HasParts, HasCall};
+
+// The answer of a call, and with its state what goes with it: of an opening the parts, of a call that may change them store and
+// records.
+fn print_outcome(
+    pack: &[u8],
+    store: &mut [u8],
+    records: &mut [u8],
+    call: u8,
+    w: [u32; 7],
+    with_state: bool,
+)
+    requires { ⌜ length (now records) ≡ 384 ⌝ }
+{
+    print::print_answer(call::make_call(pack, store, records, call, w));
+    if with_state {
+        if call == 1 {
+            print::print_opened(pack, w[0]);
+        }
+        if 1 < call {
+            print::print_store(store);
+            print::print_slots(records);
+        }
+    }
+}
+
+// A call, on a copy of its store in `buffer` and a copy of its records.
+fn print_call(c: &[u8], with_state: bool, buffer: &mut [u8])
+    requires { ⌜ HasCall (now c) × (length (now c) ≤ length (now buffer)) ⌝ }
+{
+    let from = parts::pack_end(c);
+    let to = parts::parts_end(c);
+    let n = text::append_bytes(buffer, 0, &c[from..to]);
+    let mut records = [0u8; 384];
+    text::append_bytes(&mut records, 0, &c[to..to + 384]);
+    print_outcome(
+        &c[9..from],
+        &mut buffer[..n],
+        &mut records,
+        c[to + 384],
+        parts::call_words(c),
+        with_state,
+    );
+}
+
+// The longest store, 3 + 2 × 9 + 12 × 256 × 9.
+fn store_buffer() -> [u8; 27_669]
+    ensures { λ r. ⌜ 27669 ≡ length r ⌝ }
+{
+    [0; 27_669]
+}
+
+// Room for all that a schedule can print.
+fn text_buffer() -> [u8; 524_288]
+    ensures { λ r. ⌜ 524288 ≡ length r ⌝ }
+{
+    [0; 524_288]
+}
+
+// A schedule: what the schedule program prints.
+fn print_schedule(pack: &[u8], schedule: &[u8]) {
+    let mut store = store_buffer();
+    let mut text = text_buffer();
+    let n = schedule::run::run(pack, schedule, &mut store, &mut text);
+    io::write_all(STDOUT_FILENO, &text[..n]);
+}
+
+// A case of kind 1, a call.
+fn print_call_case(c: &[u8], title: &[u8], with_state: bool, buffer: &mut [u8]) -> usize
+    requires { ⌜ HasParts (now c) × (length (now c) ≤ length (now buffer)) ⌝ }
+    ensures { λ r. ⌜ r ≤ length (now (c .entry)) ⌝ }
+{
+    if parts::has_call(c) {
+        let end = parts::call_end(c);
+        io::write_all(STDOUT_FILENO, title);
+        print_call(c, with_state, buffer);
+        return end;
+    }
+    0
+}
+
+// A case of kind 0, a schedule.
+fn print_schedule_case(c: &[u8], title: &[u8]) -> usize
+    requires { ⌜ HasParts (now c) ⌝ }
+    ensures { λ r. ⌜ r ≤ length (now (c .entry)) ⌝ }
+{
+    let from = parts::pack_end(c);
+    let to = parts::parts_end(c);
+    io::write_all(STDOUT_FILENO, title);
+    print_schedule(&c[9..from], &c[from..to]);
+    to
+}
+
+// A case by its kind.
+fn print_kind(c: &[u8], title: &[u8], with_state: bool, buffer: &mut [u8]) -> usize
+    requires { ⌜ HasParts (now c) × (length (now c) ≤ length (now buffer)) ⌝ }
+    ensures { λ r. ⌜ r ≤ length (now (c .entry)) ⌝ }
+{
+    let kind = c[0];
+    if kind == 0 {
+        return print_schedule_case(c, title);
+    }
+    if kind == 1 {
+        return print_call_case(c, title, with_state, buffer);
+    }
+    0
+}
+
+// The case that `c` begins with is run, and printed behind its title. The answer is how many bytes it has; it is 0 for a malformed
+// case, of which nothing is printed.
+pub fn print_case(c: &[u8], title: &[u8], with_state: bool, buffer: &mut [u8]) -> usize
+    requires { ⌜ length (now c) ≤ length (now buffer) ⌝ }
+    ensures { λ r. ⌜ r ≤ length (now (c .entry)) ⌝ }
+{
+    if parts::has_parts(c) {
+        return print_kind(c, title, with_state, buffer);
+    }
+    0
+}

@@ -1,0 +1,241 @@
+#!/usr/bin/env python3
+"""Writes `stdin` and `stdout` of the program edges.
+
+Each edge below is its words, a case, and the answer that document 01 gives to it, written by hand from the document and not from any
+program. The sections follow the questions.
+"""
+import os
+import struct
+
+CHECK, OPEN, CREATE, ARRIVAL, RETRY, TURN, CRASH, RESTART = range(8)
+RETURN = (0xB0, 0)
+SET = (0x00, 0)
+BEGIN = (0x60, 0)
+END = (0x70, 0)
+PUT = (0x91, 2)  # the value at register 1's key becomes register 2
+
+
+def pack(*workflows, sizes=None, more=b""):
+    """The bytes of a pack; a workflow is a list of (operation byte, operand word)."""
+    code = [i for w in workflows for i in w]
+    head = bytes([len(workflows)]) + b"".join(struct.pack("<H", n) for n in sizes or map(len, workflows))
+    return head + bytes(b for b, _ in code) + b"".join(struct.pack("<I", w) for _, w in code) + more
+
+
+def store(P=1, C=5, rows=(), book=(), used=None, more=b""):
+    """The bytes of a store: rows are (partition, stored key, value), book has (id, workflow, arguments)."""
+    parts = [[] for _ in range(P + 1)]
+    for p, k, v in rows:
+        parts[p].append((k, v))
+    for id, workflow, arguments in book:
+        parts[P] += [(8 * id + j, v) for j, v in enumerate([workflow, *arguments])]
+    counts = [len(p) for p in parts]
+    for p, n in (used or {}).items():
+        counts[p] = n
+    full = [p + [(0, 0)] * (C - len(p)) for p in parts]
+    keys = b"".join(struct.pack("<Q", k) for p in full for k, _ in p)
+    values = b"".join(struct.pack("<I", v) for p in full for _, v in p)
+    return struct.pack("<BH", P, C) + b"".join(struct.pack("<H", n) for n in counts) + keys + values + more
+
+
+def agent(id, position=0, step=0, registers=(), in_use=1):
+    return [in_use, id, position, step, *registers] + [0] * (8 - len(registers))
+
+
+def call(code, words=(), pack=b"", store=b"", slots=None):
+    """A call; slots are {number: record}, every other slot is empty."""
+    records = [(slots or {}).get(i, [0] * 12) for i in range(8)]
+    words = list(words) + [0] * (7 - len(words))
+    head = struct.pack("<BII", 1, len(pack), len(store)) + pack + store
+    return head + b"".join(struct.pack("<12I", *r) for r in records) + bytes([code]) + struct.pack("<7I", *words)
+
+
+def schedule(pack, P, C, requests, kinds, indexes=None, more=b""):
+    events = bytes(kinds)
+    which = bytes(indexes if indexes is not None else [0] * len(kinds))
+    s = struct.pack("<BHBH", P, C, len(requests), len(events)) + b"".join(struct.pack("<6I", *r) for r in requests) + events + which + more
+    return struct.pack("<BII", 0, len(pack), len(s)) + pack + s
+
+
+def check(p):
+    return call(CHECK, pack=p)
+
+
+def data(k):
+    return 2**63 + k
+
+
+def log(id, step):
+    return id * 65536 + step
+
+
+ONE = pack([RETURN])
+MOVE = pack([(0x14, 0), (0x60, 0), (0x85, 4), (0x35, 2), (0x94, 5), (0x75, 0), (0x60, 1), (0x85, 1), (0x25, 2), (0x91, 5), (0x75, 0), (0xB0, 0)])
+SEVEN = [7, 0, 100, 200, 30, 0]
+EIGHT = [8, 0, 100, 200, 30, 0]
+BOOKED = [(7, 0, [100, 200, 30, 0])]
+# two PUTs to one key, register 1's
+TWICE = pack([BEGIN, PUT, PUT, END, RETURN])
+AT_TWICE = {0: agent(7, registers=[100, 200, 30, 0])}
+
+
+def turn(p=ONE, s=None, slots=None, slot=0):
+    return call(TURN, [slot], p, store() if s is None else s, slots)
+
+
+def refused(n, workflow=0, instruction=0):
+    return "answer refused %d %d %d\n" % (n, workflow, instruction)
+
+
+DONE, MOVED = "answer done\n", "answer moved\n"
+
+EDGES = [
+    ("the whole case", schedule(MOVE, 2, 5, [SEVEN, EIGHT], [0x00, 0x10, 0x10, 0x20, 0x31, 0x11, 0x11, 0x11, 0x11, 0x01], [0] * 9 + [1]), """\
+events 10
+0 done
+1 moved
+2 moved
+3 done
+4 done
+5 moved
+6 moved
+7 moved
+8 reply 7 30
+9 refused 19
+row 0 100 4294967266
+log 0 7 0 4294967266
+row 1 200 30
+log 1 7 1 30
+"""),
+    ("size 256", check(pack([SET] * 255 + [RETURN])), DONE),
+    ("size 257", check(pack([SET] * 256 + [RETURN])), refused(2)),
+    ("16 PUTs in a block", check(pack([BEGIN] + [PUT] * 16 + [END, RETURN])), DONE),
+    ("17 PUTs in a block", check(pack([BEGIN] + [PUT] * 17 + [END, RETURN])), refused(7, 0, 17)),
+    ("id 7 again, the same", schedule(MOVE, 2, 5, [SEVEN], [0x00, 0x01], [0, 0]), "events 2\n0 done\n1 done\n"),
+    ("id 7 again with amount 31", schedule(MOVE, 2, 5, [SEVEN, [7, 0, 100, 200, 31, 0]], [0x00, 0x01], [0, 1]), "events 2\n0 done\n1 refused 18\n"),
+    ("two PUTs to one new key, one row free", turn(TWICE, store(1, 5, [(0, data(k), 1) for k in range(4)], BOOKED), AT_TWICE), refused(21)),
+    ("two PUTs to one new key, two rows free", turn(TWICE, store(1, 5, [(0, data(k), 1) for k in range(3)], BOOKED), AT_TWICE), MOVED),
+    ("two PUTs to a key that is there, one row free", turn(TWICE, store(1, 5, [(0, data(200 + k), 1) for k in range(4)], BOOKED), AT_TWICE), MOVED),
+    ("the block is logged, no row free", turn(TWICE, store(1, 5, [(0, data(k), 1) for k in range(4)] + [(0, log(7, 0), 1)], BOOKED), AT_TWICE), MOVED),
+    # 1
+    ("no bytes", check(b""), refused(1)),
+    ("no workflow", check(b"\0"), refused(1)),
+    ("16 workflows", check(pack(*[[RETURN]] * 16)), DONE),
+    ("17 workflows", check(pack(*[[RETURN]] * 17)), refused(1)),
+    # 2
+    ("a size is not there", check(b"\x02\x01\0"), refused(2)),
+    ("size 0", check(b"\x01\0\0"), refused(2)),
+    ("2,048 instructions", check(pack(*[[SET] * 255 + [RETURN]] * 8)), DONE),
+    ("2,049 instructions", check(pack(*[[SET] * 255 + [RETURN]] * 8, [RETURN])), refused(2)),
+    # 3
+    ("one byte too many", check(pack([RETURN], more=b"\0")), refused(3)),
+    ("one byte too few", check(ONE[:-1]), refused(3)),
+    # 4
+    ("operation C", check(pack([RETURN], [SET, (0xC0, 0), RETURN])), refused(4, 1, 1)),
+    ("bit 3 set", check(pack([(0x18, 0), RETURN])), refused(4)),
+    # 5
+    ("COPY from register 8", check(pack([(0x10, 8), RETURN])), refused(5)),
+    ("a jump to its own place", check(pack([SET, (0x40, 16 * 1), RETURN])), refused(5, 0, 1)),
+    ("a jump behind the end", check(pack([(0x40, 16 * 2), RETURN])), refused(5)),
+    ("a jump with register 8", check(pack([(0x40, 16 * 1 + 8), RETURN])), refused(5)),
+    ("BEGIN with partition 8", check(pack([(0x60, 8), END, RETURN])), refused(5)),
+    ("BEGIN with d = 1", check(pack([(0x61, 0), END, RETURN])), refused(5)),
+    ("END with w = 1", check(pack([BEGIN, (0x70, 1), RETURN])), refused(5, 0, 1)),
+    ("RETURN with w = 1", check(pack([(0xB0, 1)])), refused(5)),
+    # 6
+    ("GET outside a block", check(pack([(0x80, 0), RETURN])), refused(6)),
+    ("END outside a block", check(pack([END, RETURN])), refused(6)),
+    ("RETURN inside a block", check(pack([BEGIN, RETURN])), refused(6, 0, 1)),
+    ("BEGIN inside a block", check(pack([BEGIN, BEGIN, END, RETURN])), refused(6, 0, 1)),
+    ("a jump into a block", check(pack([(0x40, 16 * 2), BEGIN, SET, END, RETURN])), refused(6)),
+    ("a jump out of a block", check(pack([BEGIN, (0x40, 16 * 3), END, RETURN])), refused(6, 0, 1)),
+    ("a jump over a block", check(pack([(0x40, 16 * 3), BEGIN, END, RETURN])), DONE),
+    ("a jump to END", check(pack([BEGIN, (0x40, 16 * 2), END, RETURN])), DONE),
+    # 8
+    ("the last is not RETURN", check(pack([RETURN], [RETURN, SET])), refused(8, 1, 1)),
+    ("a block is left open", check(pack([BEGIN, SET])), refused(8, 0, 1)),
+    # 17 of an opening
+    ("the second of two workflows is opened", call(OPEN, [1], pack([RETURN], [SET, RETURN])), DONE),
+    ("the third of two workflows is opened", call(OPEN, [2], pack([RETURN], [SET, RETURN])), refused(17)),
+    ("a workflow of a wrong pack is opened", call(OPEN, [0], pack([SET])), refused(8)),
+    # 9 and 10
+    ("create", call(CREATE, [1, 5], store=bytes(127)), DONE),
+    ("create with no partition", call(CREATE, [0, 5], store=bytes(127)), refused(9)),
+    ("create with 9 partitions", call(CREATE, [9, 5], store=bytes(127)), refused(9)),
+    ("create with 4 rows", call(CREATE, [1, 4], store=bytes(127)), refused(9)),
+    ("create with 257 rows", call(CREATE, [1, 257], store=bytes(127)), refused(9)),
+    ("create with 2^32 - 1 partitions", call(CREATE, [2**32 - 1, 5], store=bytes(127)), refused(9)),
+    ("create in a byte too few", call(CREATE, [1, 5], store=bytes(126)), refused(10)),
+    ("create in a byte too many", call(CREATE, [1, 5], store=bytes(128)), refused(10)),
+    ("a store of two bytes", turn(s=b"\x01\x05"), refused(9)),
+    ("a store with no partition", turn(s=b"\0" + store()[1:]), refused(9)),
+    ("a store with 4 rows", turn(s=store(1, 4)), refused(9)),
+    ("a store a byte too long", turn(s=store(more=b"\0")), refused(10)),
+    ("a wrong pack is said before a wrong store", turn(pack([SET]), b""), refused(8)),
+    # 11
+    ("a used count of 6 with 5 rows", turn(s=store(used={0: 6})), refused(11)),
+    ("one key twice", turn(s=store(rows=[(0, data(1), 1), (0, data(1), 2)])), refused(11)),
+    ("one key in two partitions", turn(s=store(2, rows=[(0, data(1), 1), (1, data(1), 2)])), refused(16)),
+    ("an unused row that is not zero", turn(s=store(rows=[(0, data(1), 1)], used={0: 0})), refused(11)),
+    ("a data key in the book", turn(s=store(rows=[(1, data(1), 1)])), refused(11)),
+    ("a book key with j = 5", turn(s=store(rows=[(1, 8 * 7 + 5, 1)])), refused(11)),
+    ("a log key of 49 bits", turn(s=store(rows=[(0, 2**48, 1)])), refused(11)),
+    ("a data key of 33 bits", turn(s=store(rows=[(0, data(2**32), 1)])), refused(11)),
+    # 12
+    ("a booked id with four rows", turn(s=store(rows=[(1, 8 * 7 + j, 0) for j in range(4)])), refused(12)),
+    # 13
+    ("a booked workflow that the pack has not", turn(s=store(book=[(7, 1, [0] * 4)])), refused(13)),
+    ("a BEGIN of a partition that the store has not", turn(pack([(0x60, 1), END, RETURN]), store(1)), refused(13)),
+    # 14
+    ("a slot that is not in use and not zero", turn(s=store(book=BOOKED), slots={3: agent(0, registers=[0, 1], in_use=0)}), refused(14)),
+    ("an agent whose id is not booked", turn(slots={0: agent(7)}), refused(14)),
+    ("a position behind the workflow", turn(s=store(book=BOOKED), slots={0: agent(7, 1)}), refused(14)),
+    ("a position inside a block", turn(TWICE, store(book=BOOKED), {0: agent(7, 1)}), refused(14)),
+    ("a step above the position", turn(TWICE, store(book=BOOKED), {0: agent(7, 0, 1)}), refused(14)),
+    # 15 and 16
+    ("a turn of slot 8", turn(slot=8), refused(15)),
+    ("a turn of slot 2^32 - 1", turn(slot=2**32 - 1), refused(15)),
+    ("a turn of an empty slot", turn(), refused(16)),
+    ("a crash of an empty slot", call(CRASH, [7], ONE, store()), refused(16)),
+    ("a crash of an agent", call(CRASH, [7], ONE, store(book=BOOKED), {7: agent(7)}), DONE),
+    ("an arrival where an agent is", call(ARRIVAL, [0, 8, 0], ONE, store(book=BOOKED), {0: agent(7)}), refused(16)),
+    ("a retry where an agent is", call(RETRY, [0, 7], ONE, store(book=BOOKED), {0: agent(7)}), refused(16)),
+    # 17
+    ("an arrival for workflow 1 of one", call(ARRIVAL, [0, 7, 1], ONE, store()), refused(17)),
+    # 18
+    ("a known id, the same request", call(ARRIVAL, [0, 7, 0, 100, 200, 30, 0], ONE, store(book=BOOKED)), DONE),
+    ("a known id, another argument", call(ARRIVAL, [0, 7, 0, 100, 200, 31, 0], ONE, store(book=BOOKED)), refused(18)),
+    ("a known id, another workflow", call(ARRIVAL, [0, 7, 1, 100, 200, 30, 0], pack([RETURN], [RETURN]), store(book=BOOKED)), refused(18)),
+    # 19
+    ("a new id, five book rows free", call(ARRIVAL, [0, 8, 0], ONE, store(1, 10, book=BOOKED)), DONE),
+    ("a new id, four book rows free", call(ARRIVAL, [0, 8, 0], ONE, store(1, 9, book=BOOKED)), refused(19)),
+    # 20
+    ("a retry of a booked id", call(RETRY, [0, 7], ONE, store(book=BOOKED)), DONE),
+    ("a retry of an id that is not booked", call(RETRY, [0, 8], ONE, store(book=BOOKED)), refused(20)),
+    # turns and restart
+    ("a turn at RETURN", turn(s=store(book=BOOKED), slots={0: agent(7, registers=[42])}), "answer reply 7 42\n"),
+    ("a restart asks nothing", call(RESTART, store=b"\xff"), DONE),
+    # 22, 23 and 9 of a schedule
+    ("a schedule with no bytes", struct.pack("<BII", 0, len(ONE), 0) + ONE, "refused 22\n"),
+    ("no pack and no schedule", struct.pack("<BII", 0, 0, 0), "refused 1\n"),
+    ("a schedule a byte too long", schedule(ONE, 1, 5, [], [], more=b"\0"), "refused 22\n"),
+    ("64 requests", schedule(ONE, 1, 5, [SEVEN] * 64, []), "events 0\n"),
+    ("65 requests", schedule(ONE, 1, 5, [SEVEN] * 65, []), "refused 22\n"),
+    ("1,025 events", schedule(ONE, 1, 5, [], [0x40] * 1025), "refused 22\n"),
+    ("an event of kind 5", schedule(ONE, 1, 5, [SEVEN], [0x50]), "refused 23\n"),
+    ("an arrival of a request that is not there", schedule(ONE, 1, 5, [SEVEN], [0x00], [1]), "refused 23\n"),
+    ("a turn with an index", schedule(ONE, 1, 5, [SEVEN], [0x10], [1]), "refused 23\n"),
+    ("22 is asked before 9", schedule(ONE, 0, 5, [], [], more=b"\0"), "refused 22\n"),
+    ("a schedule with no partition", schedule(ONE, 0, 5, [], []), "refused 9\n"),
+    ("a schedule with 257 rows", schedule(ONE, 1, 257, [], []), "refused 9\n"),
+    ("slot 15, and a restart with slot 15", schedule(ONE, 1, 5, [SEVEN], [0x0F, 0x4F]), "events 2\n0 refused 15\n1 done\n"),
+]
+
+here = os.path.dirname(os.path.abspath(__file__))
+with open(os.path.join(here, "stdin"), "wb") as f:
+    for words, case, _ in EDGES:
+        title = (words + "\n").encode()
+        f.write(bytes([len(title)]) + title + case)
+with open(os.path.join(here, "stdout"), "w") as f:
+    for words, _, answer in EDGES:
+        f.write(words + "\n" + answer)
