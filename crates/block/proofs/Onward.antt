@@ -28,8 +28,8 @@ use Rattle.pack.specs.Meaning as Meaning
 use Rattle.pack.proofs.Judged.{target-ahead, target-below}
 use Rattle.pack.proofs.Steps.{begins}
 use Rattle.pack.proofs.Decoded.{by-operation, length-code, instruction-at, checked-code}
-use Rattle.block.specs.Pending.{over, seen, rowsIn, Kept}
-use Rattle.block.specs.Run.{placeOf, workOf, blockOf, runOf, Stepped, putsOf, Right, Inside, Counted}
+use Rattle.block.specs.Pending.{over, seen, rowsIn, newIn, Kept}
+use Rattle.block.specs.Run.{placeOf, workOf, blockOf, runOf, Stepped, putsOf, Right, Inside}
 use Rattle.block.specs.Through.{tableIn}
 use Rattle.block.specs.declared.pending.Pending.{Pending}
 use Rattle.block.specs.declared.step.Running.{Running}
@@ -130,9 +130,9 @@ module _ (ops ws : List ℕ) (right : Right ops ws) where
 
   -- ---- where the loop ends
 
-  module _ (rs : List Row) (x : Running) (r : Ran) (pending : r .pending ≡ x .pending) (fresh : r .fresh ≡ countNew (keysIn (rowsIn (x .pending))) rs) where
+  module _ (rs : List Row) (x : Running) (r : Ran) (pending : r .pending ≡ x .pending) where
     closed : (v : ℕ) → r .result ≡ v → blockOf rs r ≡ close (workOf rs x) v
-    closed v e = λ i. record { table = tableOf (seen (rowsIn (pending i)) rs); newKeys = fresh i; result = e i }
+    closed v e = λ i. record { table = tableOf (seen (rowsIn (pending i)) rs); newKeys = newIn (pending i) rs; result = e i }
 
     -- at END
     pub run-ends : x .place .position < length ops → operationAt ops (x .place .position) ≡ end → (d : ℕ) → d ≡ registerAt ops (x .place .position) → r .result ≡ getD (x .place .registers) d 0 → blockOf rs r ≡ runOf ops ws rs x
@@ -148,10 +148,6 @@ module _ (ops ws : List ℕ) (right : Right ops ws) where
     -- past the last instruction
     pub run-none : length ops ≤ x .place .position → r .result ≡ 0 → blockOf rs r ≡ runOf ops ws rs x
     run-none h e = closed 0 e ∙ sym (past (codeOf ops ws) (workOf rs x) (length ops - x .place .position) (omega (arith, length-code ops ws)))
-
-pub counted : (rs : List Row) (x : Running) (r : Ran) → r .pending ≡ x .pending → r .fresh ≡ countNew (keysIn (rowsIn (x .pending))) rs → Kept (x .pending) → Counted rs r
-counted rs x r e f k =
-    record { kept = subst Kept (sym e) k; fresh = f ∙ ap (λ (p : Pending). countNew (keysIn (rowsIn p)) rs) (sym e) }
 
 -- ---- where the loop starts
 

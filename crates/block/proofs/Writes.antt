@@ -23,8 +23,8 @@ use Rattle.store.specs.Questions as Questions
 use Rattle.store.proofs.Lists.{lookup-put-same, lookup-put-other, length-put}
 use Rattle.store.proofs.Search.{new-small, changed-parts, changed-cap, changed-here, changed-there}
 use Rattle.store.proofs.Sound.{keys-put, length-put-all, log-form}
-use Rattle.block.specs.Pending.{over, seen, rowsIn, Sized, Kept}
-use Rattle.block.specs.Run.{blockOf, Counted}
+use Rattle.block.specs.Pending.{over, seen, rowsIn, newIn, Sized, Kept}
+use Rattle.block.specs.Run.{blockOf}
 use Rattle.block.specs.Through.{logIn, hasRoom, Committed, Through}
 use Rattle.block.specs.declared.pending.Pending.{Pending}
 use Rattle.block.specs.declared.run.Ran.{Ran}
@@ -135,7 +135,7 @@ keys-good xs p s l = rw (ne-eqb p (partsOf xs) (omega arith)) at (s .keys p (ome
 
 -- ---- a block's rows: the pending ones, and behind them the log row
 
-module _ (r : Ran) (rs : List Row) (counted : Counted rs r) (id t v : ℕ) (h : id < 2 ^ 32) (g : t < 65536) (q : Pending) (e : rowsIn q ≡ addRow (logKey id t) v (rowsIn (r .pending))) where
+module _ (r : Ran) (rs : List Row) (kept : Kept (r .pending)) (id t v : ℕ) (h : id < 2 ^ 32) (g : t < 65536) (q : Pending) (e : rowsIn q ≡ addRow (logKey id t) v (rowsIn (r .pending))) where
   abbrev out : List Row
   out = pairs (take (q .count) (q .keys)) (take (q .count) (q .values))
 
@@ -143,7 +143,7 @@ module _ (r : Ran) (rs : List Row) (counted : Counted rs r) (id t v : ℕ) (h : 
   keys-right sized P p l =
       subst (λ (ks : List ℕ). allIn (isForm (eqb p P)) ks ≡ true) (ap keysIn (sym e) ∙ keys-here q sized)
       (all-add (isForm (eqb p P)) (logKey id t) v (rowsIn (r .pending)) (log-form P p id t l h g)
-      (rw (ne-eqb p P (omega arith)) (keys-form (r .pending) (counted .kept) rs)))
+      (rw (ne-eqb p P (omega arith)) (keys-form (r .pending) kept rs)))
 
   -- the log row is put last
   rows-out : putAll out rs ≡ putRow (logKey id t) v (putAll (rowsIn (r .pending)) rs)
@@ -153,22 +153,21 @@ module _ (r : Ran) (rs : List Row) (counted : Counted rs r) (id t v : ℕ) (h : 
   module _ (good : keysOk false (keysIn rs) ≡ true) (new : logIn rs id t ≡ none) where
     log-new : newRows (lookup (logKey id t) (putAll (rowsIn (r .pending)) rs)) ≡ 1
     unfolding Rows.newRows
-    log-new = rw (log-seen (r .pending) (counted .kept) rs id t h g, ← log-at rs id t h g, new) refl
+    log-new = rw (log-seen (r .pending) kept rs id t h g, ← log-at rs id t h g, new) refl
 
-    pub length-out : length (putAll out rs) ≡ length rs + (1 + r .fresh)
+    pub length-out : length (putAll out rs) ≡ length rs + (1 + newIn (r .pending) rs)
     length-out =
         omega (
           arith,
           ap length rows-out,
-          length-put false (logKey id t) v (putAll (rowsIn (r .pending)) rs) (keys-all false (rowsIn (r .pending)) rs (keys-form (r .pending) (counted .kept) rs) good),
+          length-put false (logKey id t) v (putAll (rowsIn (r .pending)) rs) (keys-all false (rowsIn (r .pending)) rs (keys-form (r .pending) kept rs) good),
           log-new,
-          all-length (r .pending) (counted .kept) rs good,
-          counted .fresh,
+          all-length (r .pending) kept rs good,
         )
 
 -- ---- a block's writes
 
-module _ (xs ys : List ℕ) (p : ℕ) (r : Ran) (counted : Counted (rowsOf xs p) r) (id t : ℕ) (h : id < 2 ^ 32) (g : t < 65536) (q : Pending)
+module _ (xs ys : List ℕ) (p : ℕ) (r : Ran) (kept : Kept (r .pending)) (id t : ℕ) (h : id < 2 ^ 32) (g : t < 65536) (q : Pending)
     (e : rowsIn q ≡ addRow (logKey id t) (r .result) (rowsIn (r .pending))) (s : Stored xs ys p (putAll (pairs (take (q .count) (q .keys)) (take (q .count) (q .values))))) where
   abbrev after : ℕ → Option ℕ
   after j = lookup j (putAll (rowsIn (r .pending)) (rowsOf xs p))
@@ -177,11 +176,11 @@ module _ (xs ys : List ℕ) (p : ℕ) (r : Ran) (counted : Counted (rowsOf xs p)
   looked =
       fun-ext {f = λ j. lookup j (rowsOf ys p)} {g = update after (logKey id t) (some (r .result))}
       (λ j.
-      ap (lookup j) (changed-here xs ys p _ (s .is) ∙ rows-out r (rowsOf xs p) counted id t (r .result) h g q e)
+      ap (lookup j) (changed-here xs ys p _ (s .is) ∙ rows-out r (rowsOf xs p) kept id t (r .result) h g q e)
       ∙ lookup-put (logKey id t) (r .result) j (putAll (rowsIn (r .pending)) (rowsOf xs p)))
 
   log-whole : logOf after ≡ logIn (rowsOf xs p)
-  log-whole = fun-ext {f = logOf after} {g = logIn (rowsOf xs p)} (λ i. fun-ext {f = logOf after i} {g = logIn (rowsOf xs p) i} (λ u. log-same (r .pending) (counted .kept) (rowsOf xs p) i u))
+  log-whole = fun-ext {f = logOf after} {g = logIn (rowsOf xs p)} (λ i. fun-ext {f = logOf after i} {g = logIn (rowsOf xs p) i} (λ u. log-same (r .pending) kept (rowsOf xs p) i u))
 
   abbrev with-row : (ℕ → ℕ → Option ℕ) → ℕ → ℕ → Option ℕ
   with-row l = update l id (update (l id) t (some (r .result)))
@@ -195,12 +194,12 @@ module _ (xs ys : List ℕ) (p : ℕ) (r : Ran) (counted : Counted (rowsOf xs p)
         table =
             ap tableOf looked
             ∙ fun-ext {f = tableOf (update after (logKey id t) (some (r .result)))} {g = tableOf after} (log-put-data after (r .result) id t h g)
-            ∙ ap tableOf (fun-ext {f = after} {g = seen (rowsIn (r .pending)) (rowsOf xs p)} (all-seen (r .pending) (counted .kept) (rowsOf xs p)));
+            ∙ ap tableOf (fun-ext {f = after} {g = seen (rowsIn (r .pending)) (rowsOf xs p)} (all-seen (r .pending) kept (rowsOf xs p)));
         log =
             ap logOf looked
             ∙ fun-ext {f = logOf (update after (logKey id t) (some (r .result)))} {g = with-row (logOf after)} (λ i. fun-ext {f = logOf (update after (logKey id t) (some (r .result))) i} {g = with-row (logOf after) i} (λ u. log-put after (r .result) id t h g i u))
             ∙ ap with-row log-whole;
-        used = ap length (changed-here xs ys p _ (s .is)) ∙ length-out r (rowsOf xs p) counted id t (r .result) h g q e good new;
+        used = ap length (changed-here xs ys p _ (s .is)) ∙ length-out r (rowsOf xs p) kept id t (r .result) h g q e good new;
         others = λ o n. changed-there xs ys p _ (s .is) o n;
       }
 
@@ -211,9 +210,12 @@ unfolding Rows.countNew
 count-few [] rs = omega arith
 count-few (k ∷ ks) rs = omega (arith, new-small (lookup k rs), count-few ks rs)
 
-pub fresh-few : (rs : List Row) (r : Ran) → Counted rs r → r .fresh ≤ 16
-fresh-few rs r c =
-    omega (arith, c .fresh, count-few (keysIn (rowsIn (r .pending))) rs, ap length (keys-here (r .pending) (c .kept .sized)), keys-count (r .pending) (c .kept .sized), c .kept .few)
+-- counted on the keys as the arrays have them
+pub new-counted : (q : Pending) (rs : List Row) → Kept q → countNew (take (q .count) (q .keys)) rs ≡ newIn q rs
+new-counted q rs k = ap (λ (ks : List ℕ). countNew ks rs) (sym (keys-here q (k .sized)))
+
+pub new-few : (q : Pending) (rs : List Row) → Kept q → newIn q rs ≤ q .count
+new-few q rs k = omega (arith, count-few (keysIn (rowsIn q)) rs, ap length (keys-here q (k .sized)), keys-count q (k .sized))
 
 module _ (xs ys : List ℕ) (p id t : ℕ) (b b′ : Block) (e : b ≡ b′) where
   -- what is shown of the block that the code ran holds of the rules' block

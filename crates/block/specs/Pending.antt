@@ -6,7 +6,7 @@ use mathlib.Core.Path.{_≡_}
 use Prim.Native.Nat.{ℕ, _≤_}
 use lib.ListN.{length, take}
 use Rattle.rules.specs.Keys.{isDataKey}
-use Rattle.store.specs.Rows.{Row, pairs, lookup, keysIn}
+use Rattle.store.specs.Rows.{Row, pairs, lookup, keysIn, countNew}
 use Rattle.store.specs.Questions.{allIn, unlike}
 use Rattle.block.specs.declared.pending.Pending.{Pending}
 
@@ -22,6 +22,10 @@ over (some v) o = some v
 -- Later GETs see earlier PUTs: the value at a stored key is that of the pending rows ps, else that of the partition's rows rs.
 abbrev pub seen : (ps rs : List Row) → (stored : ℕ) → Option ℕ
 seen ps rs j = over (lookup j ps) (lookup j rs)
+
+-- how many different new keys they have: keys that have no row among rs
+abbrev pub newIn : Pending → (rs : List Row) → ℕ
+newIn p rs = countNew (keysIn (rowsIn p)) rs
 
 -- A block has at most 16 PUTs; the arrays have one place more, for the log row.
 pub record Sized (p : Pending) : Type 0 where

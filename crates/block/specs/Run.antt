@@ -10,7 +10,7 @@ use Rattle.rules.specs.Basics.{if_then_else_}
 use Rattle.rules.specs.Instructions.{Place, Act}
 use Rattle.rules.specs.Blocks.{Work, Block, within, runFrom}
 use Rattle.rules.specs.Keys.{tableOf}
-use Rattle.store.specs.Rows.{Row, countNew, keysIn}
+use Rattle.store.specs.Rows.{Row}
 use Rattle.operation.specs.Parts.{operationOf, sourceOf}
 use Rattle.operation.specs.Operations.{set, jlt, jeq, begin, end, put, return}
 use Rattle.pack.specs.Questions.{insideAt, putsBefore}
@@ -19,7 +19,7 @@ use Rattle.pack.specs.Meaning.{codeOf}
 use Rattle.block.specs.declared.step.Spot.{Spot}
 use Rattle.block.specs.declared.step.Running.{Running}
 use Rattle.block.specs.declared.run.Ran.{Ran}
-use Rattle.block.specs.Pending.{seen, rowsIn, Kept}
+use Rattle.block.specs.Pending.{seen, rowsIn, newIn, Kept}
 
 -- the rules' place of a spot
 abbrev pub placeOf : Spot → Place
@@ -31,7 +31,7 @@ workOf rs x =
     record {
       place = placeOf (x .place);
       table = tableOf (seen (rowsIn (x .pending)) rs);
-      newKeys = countNew (keysIn (rowsIn (x .pending))) rs;
+      newKeys = newIn (x .pending) rs;
     }
 
 -- What an instruction asks for makes y of x, and the block goes on from there; at most `more` keys more are pending.
@@ -78,9 +78,4 @@ runOf ops ws rs x = runFrom (codeOf ops ws) (length ops - x .place .position) (w
 
 -- what a run that came to END stands for
 abbrev pub blockOf : (rs : List Row) → Ran → Block
-blockOf rs r = record { table = tableOf (seen (rowsIn (r .pending)) rs); newKeys = r .fresh; result = r .result }
-
--- `fresh` is the number of different new keys that the run PUT
-pub record Counted (rs : List Row) (r : Ran) : Type 0 where
-  pub kept : Kept (r .pending)
-  pub fresh : r .fresh ≡ countNew (keysIn (rowsIn (r .pending))) rs
+blockOf rs r = record { table = tableOf (seen (rowsIn (r .pending)) rs); newKeys = newIn (r .pending) rs; result = r .result }

@@ -5,11 +5,11 @@ ghost use Prim.Native.Nat.{ℕ, _+_, _*_, _≤_, _<_};
 ghost use lib.ListN.{length};
 ghost use Rattle.rules.specs.Blocks.{behindEnd};
 ghost use Rattle.pack.specs.Meaning.{codeOf};
-ghost use Rattle.store.specs.Rows.{countNew, rowsOf, keysIn};
+ghost use Rattle.store.specs.Rows.{rowsOf};
 ghost use Rattle.store.specs.Layout.{partsOf};
 ghost use Rattle.store.specs.Sound.{Sound};
-ghost use Rattle.block.specs.Pending.{rowsIn, Kept};
-ghost use Rattle.block.specs.Run.{Right, Inside, Counted, runOf, blockOf};
+ghost use Rattle.block.specs.Pending.{Kept};
+ghost use Rattle.block.specs.Run.{Right, Inside, runOf, blockOf};
 ghost use Rattle.block.specs.Through.{Ready, blockAt};
 use crate::pending::Pending;
 use crate::pending::no_pending;
@@ -17,32 +17,16 @@ use crate::step::Running;
 use crate::step::Spot;
 use crate::step::step;
 
-// A block's run that came to END: its result, its PUTs, and how many of their keys are new to the partition.
+// A block's run that came to END: its result and its PUTs.
 pub struct Ran {
     pub result: u32,
-    pub fresh: usize,
     pub pending: Pending,
-}
-
-// A run that came to END, with its new keys counted.
-fn ended(store: &[u8], partition: usize, result: u32, pending: Pending) -> Ran
-    requires { ⌜ Sound (now store) × (partition ≤ partsOf (now store)) × Kept pending ⌝ }
-    ensures { λ r. ⌜ (r .result ≡ result) × (r .pending ≡ pending) × (r .fresh ≡ countNew (keysIn (rowsIn pending)) (rowsOf (now (store .entry)) partition)) ⌝ }
-{
-    let n = pending.count;
-    let keys = pending.keys;
-    let fresh = store::rows::count_new(store, partition, &keys[..n]);
-    Ran {
-        result,
-        fresh,
-        pending,
-    }
 }
 
 // From a place inside a block until END. A workflow that passes the check yes-no runs past its last instruction.
 fn run_on(ops: &[u8], operands: &[u8], store: &[u8], partition: usize, start: Running) -> Ran
     requires { ⌜ Right (now ops) (now operands) × Sound (now store) × (partition ≤ partsOf (now store)) × Inside (now ops) start ⌝ }
-    ensures { λ r. ⌜ Counted (rowsOf (now (store .entry)) partition) r × (blockOf (rowsOf (now (store .entry)) partition) r ≡ runOf (now (ops .entry)) (now (operands .entry)) (rowsOf (now (store .entry)) partition) start) ⌝ }
+    ensures { λ r. ⌜ Kept (r .pending) × (blockOf (rowsOf (now (store .entry)) partition) r ≡ runOf (now (ops .entry)) (now (operands .entry)) (rowsOf (now (store .entry)) partition) start) ⌝ }
 {
     let mut x = start;
     while x.place.position < ops.len() {
@@ -52,13 +36,16 @@ fn run_on(ops: &[u8], operands: &[u8], store: &[u8], partition: usize, start: Ru
         if operation::operation_of(b) == operation::END {
             let d = operation::register_of(b) as usize;
             let pending = x.pending;
-            return ended(store, partition, place.registers[d], pending);
+            return Ran {
+                result: place.registers[d],
+                pending,
+            };
         }
         let w = pack::word_in(operands, at);
         x = step(store, partition, x, b, w);
     }
     let pending = x.pending;
-    ended(store, partition, 0, pending)
+    Ran { result: 0, pending }
 }
 
 // The block that BEGIN at `begin` opens, run on a copy of the registers. The store is only read.
@@ -71,7 +58,7 @@ pub(crate) fn run(
     registers: [u32; 8],
 ) -> Ran
     requires { ⌜ Ready (now ops) (now operands) (now store) partition begin ⌝ }
-    ensures { λ r. ⌜ Counted (rowsOf (now (store .entry)) partition) r × (blockOf (rowsOf (now (store .entry)) partition) r ≡ blockAt (now (ops .entry)) (now (operands .entry)) (now (store .entry)) partition begin registers) ⌝ }
+    ensures { λ r. ⌜ Kept (r .pending) × (blockOf (rowsOf (now (store .entry)) partition) r ≡ blockAt (now (ops .entry)) (now (operands .entry)) (now (store .entry)) partition begin registers) ⌝ }
 {
     let pending = no_pending();
     let place = Spot {

@@ -7,10 +7,12 @@ ghost use lib.ListN.{length};
 ghost use Rattle.store.specs.Layout.{partsOf, capOf};
 ghost use Rattle.store.specs.Rows.{rowsOf};
 ghost use Rattle.store.specs.Sound.{Sound};
-ghost use Rattle.block.specs.Run.{Counted, blockOf};
+ghost use Rattle.block.specs.Pending.{Kept, newIn};
+ghost use Rattle.block.specs.Run.{blockOf};
 ghost use Rattle.block.specs.Through.{logIn, Ready, blockAt, Committed, Through};
 use crate::log::log_key;
 use crate::log::logged;
+use crate::pending::Pending;
 use crate::pending::with_row;
 use crate::run::Ran;
 use crate::run::run;
@@ -24,7 +26,7 @@ pub enum BlockOutcome {
 
 // The PUTs of a block and behind them its log row, written together: there is room for all, and the log row is new.
 fn commit(store: &mut [u8], partition: usize, ran: Ran, id: u32, step: u16)
-    requires { ⌜ Sound (now store) × (partition < partsOf (now store)) × Counted (rowsOf (now store) partition) ran × (logIn (rowsOf (now store) partition) id step ≡ none) × (length (rowsOf (now store) partition) + (1 + ran .fresh) ≤ capOf (now store)) ⌝ }
+    requires { ⌜ Sound (now store) × (partition < partsOf (now store)) × Kept (ran .pending) × (logIn (rowsOf (now store) partition) id step ≡ none) × (length (rowsOf (now store) partition) + (1 + newIn (ran .pending) (rowsOf (now store) partition)) ≤ capOf (now store)) ⌝ }
     ensures { λ _. ⌜ Committed (now (store .entry)) (now (store .exit)) partition id step (blockOf (rowsOf (now (store .entry)) partition) ran) ⌝ }
 {
     let log = log_key(id, step);
@@ -36,12 +38,20 @@ fn commit(store: &mut [u8], partition: usize, ran: Ran, id: u32, step: u16)
     store::rows::put_all(store, partition, &keys[..n], &values[..n]);
 }
 
-// Question 21: is there a free row for the log row and for each new key?
-fn has_room(store: &[u8], partition: usize, fresh: usize) -> bool
-    requires { ⌜ Sound (now store) × (partition ≤ partsOf (now store)) × (fresh ≤ 16) ⌝ }
-    ensures { λ r. ⌜ r ≡ leb (length (rowsOf (now (store .entry)) partition) + (1 + fresh)) (capOf (now (store .entry))) ⌝ }
+// Question 21: is there a free row for the log row and for each new key? Where there is one for every key, none is sought.
+fn has_room(store: &[u8], partition: usize, pending: Pending) -> bool
+    requires { ⌜ Sound (now store) × (partition ≤ partsOf (now store)) × Kept pending ⌝ }
+    ensures { λ r. ⌜ r ≡ leb (length (rowsOf (now (store .entry)) partition) + (1 + newIn pending (rowsOf (now (store .entry)) partition))) (capOf (now (store .entry))) ⌝ }
 {
-    store::head::used_count(store, partition) + (1 + fresh) <= store::head::capacity(store)
+    let used = store::head::used_count(store, partition);
+    let cap = store::head::capacity(store);
+    let n = pending.count;
+    if used + (1 + n) <= cap {
+        return true;
+    }
+    let keys = pending.keys;
+    let fresh = store::rows::count_new(store, partition, &keys[..n]);
+    used + (1 + fresh) <= cap
 }
 
 // A block that isn't logged: it is run, and written if there is room.
@@ -60,7 +70,8 @@ fn run_and_write(
     ensures { λ r. ⌜ Through (now (store .entry)) (now (store .exit)) partition id step (blockAt (now (ops .entry)) (now (operands .entry)) (now (store .entry)) partition begin registers) r none ⌝ }
 {
     let ran = run(ops, operands, store, partition, begin, registers);
-    if !has_room(store, partition, ran.fresh) {
+    let pending = ran.pending;
+    if !has_room(store, partition, pending) {
         return BlockOutcome::NoRoom;
     }
     commit(store, partition, ran, id, step);

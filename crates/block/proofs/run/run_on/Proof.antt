@@ -12,7 +12,7 @@ use Rattle.operation.specs.Operations.{end}
 use Rattle.pack.specs.Layout.{operationAt, wordAt}
 use Rattle.block.specs.Run.{placeOf, putsOf, Stepped, Inside, runOf}
 use Rattle.block.proofs.Inside.{fits-here}
-use Rattle.block.proofs.Onward.{counted, goes-further, runs-on, run-ends, run-none}
+use Rattle.block.proofs.Onward.{goes-further, runs-on, run-ends, run-none}
 use Rattle.block.proofs.run.run_on.Statement.{statement}
 use Rattle.block.proofs.run.run_on.Tie as tie
 
@@ -43,20 +43,15 @@ run-on-spec =
     (λ c. search needs)
     (λ c. search needs)
     (λ c. search needs)
-    (λ c κs.
-    let lp = c .before .before .before .before .before .before .before .before .before in
-    let st = lp .before .before .before .before in
-    (st .pre .1, st .pre .2, lp .loop .inv .0 .kept))
     (λ c.
-    let ro = c .before .before .before in
+    let ro = c .before .before in
     let oo = ro .before .before in
     let il = oo .before .before .before in
     let lp = il .before .before in
     let st = lp .before .before .before .before in
-    let a = st .args in
-    let e = c .ended .ensures in (
-      counted (rowsOf (a .store .now) (a .partition)) (lp .loop .x) (c .ended .result) (e .1) (e .2) (lp .loop .inv .0 .kept),
-      run-ends (a .ops .now) (a .operands .now) (st .pre .0) (rowsOf (a .store .now) (a .partition)) (lp .loop .x) (c .ended .result) (e .1) (e .2) (il .if1 .taken) (sym (oo .operation-of .ensures) ∙ ro .before .if2 .taken) _ (ro .register-of .ensures) (e .0)
+    let a = st .args in (
+      lp .loop .inv .0 .kept,
+      run-ends (a .ops .now) (a .operands .now) (st .pre .0) (rowsOf (a .store .now) (a .partition)) (lp .loop .x) _ refl (il .if1 .taken) (sym (oo .operation-of .ensures) ∙ ro .before .if2 .taken) _ (ro .register-of .ensures) refl
           ∙ lp .loop .inv .1,
     ))
     (λ c κs.
@@ -93,17 +88,12 @@ run-on-spec =
       sym (runs-on (a .ops .now) (a .operands .now) (st .pre .0) (rowsOf (a .store .now) (a .partition)) (lp .loop .x) (c .step .result) (il .if1 .taken) (lp .loop .inv .0) n (stepped c))
           ∙ lp .loop .inv .1,
     ))
-    (λ c κs.
-    let lp = c .before .before .before in
-    let st = lp .before .before .before .before in
-    (st .pre .1, st .pre .2, lp .loop .inv .0 .kept))
     (λ c.
-    let al = c .before .before in
+    let al = c .before in
     let lp = al .before .before in
     let st = lp .before .before .before .before in
-    let a = st .args in
-    let e = c .ended2 .ensures in (
-      counted (rowsOf (a .store .now) (a .partition)) (lp .loop .x) (c .ended2 .result) (e .1) (e .2) (lp .loop .inv .0 .kept),
-      run-none (a .ops .now) (a .operands .now) (st .pre .0) (rowsOf (a .store .now) (a .partition)) (lp .loop .x) (c .ended2 .result) (e .1) (e .2) (al .if1 .left) (e .0)
+    let a = st .args in (
+      lp .loop .inv .0 .kept,
+      run-none (a .ops .now) (a .operands .now) (st .pre .0) (rowsOf (a .store .now) (a .partition)) (lp .loop .x) _ refl (al .if1 .left) refl
           ∙ lp .loop .inv .1,
     )))
