@@ -26,8 +26,9 @@ use Rattle.pack.specs.Refusal.{instructionNo}
 use Rattle.pack.proofs.Judged.{yes-5, yes-6, yes-7, operand-ranged, stood, lands-right, counted-put}
 use Rattle.pack.proofs.Steps.{stays-inside, puts-next}
 use Rattle.pack.proofs.Decoded.{by-operation, right-at, operation-known}
-use Rattle.block.specs.Run.{putsOf, Sourced, Fits, Right, Inside}
-use Rattle.block.specs.declared.step.Running.{Running}
+use Rattle.instruction.specs.Step.{putsOf, Sourced, Fits}
+use Rattle.block.specs.Run.{Right, Inside}
+use Rattle.instruction.specs.declared.Running.{Running}
 
 -- the register that an operand in range names
 sourced : (op size i w : ℕ) → op < 12 → inRange (operandOf op) size i w ≡ true → Sourced op w

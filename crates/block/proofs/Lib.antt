@@ -1,5 +1,3 @@
-pub mod Rows
-pub mod Steps
 pub mod Ahead
 pub mod Inside
 pub mod Onward

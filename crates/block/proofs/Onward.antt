@@ -28,11 +28,12 @@ use Rattle.pack.specs.Meaning as Meaning
 use Rattle.pack.proofs.Judged.{target-ahead, target-below}
 use Rattle.pack.proofs.Steps.{begins}
 use Rattle.pack.proofs.Decoded.{by-operation, length-code, instruction-at, checked-code}
-use Rattle.block.specs.Pending.{over, seen, rowsIn, newIn, Kept}
-use Rattle.block.specs.Run.{placeOf, workOf, blockOf, runOf, Stepped, putsOf, Right, Inside}
+use Rattle.instruction.specs.Pending.{over, seen, rowsIn, newIn, Kept}
+use Rattle.instruction.specs.Step.{placeOf, workOf, Stepped, putsOf}
+use Rattle.block.specs.Run.{blockOf, runOf, Right, Inside}
 use Rattle.block.specs.Through.{tableIn}
-use Rattle.block.specs.declared.pending.Pending.{Pending}
-use Rattle.block.specs.declared.step.Running.{Running}
+use Rattle.instruction.specs.declared.pending.Pending.{Pending}
+use Rattle.instruction.specs.declared.Running.{Running}
 use Rattle.block.specs.declared.run.Ran.{Ran}
 use Rattle.block.proofs.Ahead.{past, enough}
 use Rattle.block.proofs.Inside.{known-at, ranged-at, no-begin, no-return, inside-next, puts-behind, stretch, jump-no-end}

@@ -23,14 +23,14 @@ use Rattle.store.specs.Questions as Questions
 use Rattle.store.proofs.Lists.{lookup-put-same, lookup-put-other, length-put}
 use Rattle.store.proofs.Search.{new-small, changed-parts, changed-cap, changed-here, changed-there}
 use Rattle.store.proofs.Sound.{keys-put, length-put-all, log-form}
-use Rattle.block.specs.Pending.{over, seen, rowsIn, newIn, Sized, Kept}
+use Rattle.instruction.specs.Pending.{over, seen, rowsIn, newIn, Sized, Kept}
 use Rattle.block.specs.Run.{blockOf}
 use Rattle.block.specs.Through.{logIn, hasRoom, Committed, Through}
-use Rattle.block.specs.declared.pending.Pending.{Pending}
+use Rattle.instruction.specs.declared.pending.Pending.{Pending}
 use Rattle.block.specs.declared.run.Ran.{Ran}
 use Rattle.block.specs.declared.write.BlockOutcome.{BlockOutcome}
 use Rattle.block.specs.declared.write.BlockOutcome.the-variants.{Result, NoRoom}
-use Rattle.block.proofs.Rows.{keys-count, values-count, keys-here}
+use Rattle.instruction.proofs.Rows.{keys-count, values-count, keys-here}
 
 -- ---- rows that are put one after the other are seen at once
 

@@ -1,4 +1,3 @@
-pub mod Pending
 pub mod Run
 pub mod Through
 pub mod Store

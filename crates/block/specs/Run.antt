@@ -1,64 +1,20 @@
--- A block's run under way, and one instruction of it, as the rules have it. Assumes nothing: these are definitions.
+-- The run of a block from where it stands to END, as the rules have it. Assumes nothing: these are definitions.
 use mathlib.Core.Bool.{true}
 use mathlib.Core.List.{List}
 use mathlib.Core.Option.{none}
 use mathlib.Core.Path.{_≡_}
-use Prim.Native.Nat.{ℕ, _+_, _-_, _*_, _%_, _≤_, _<_}
-use lib.Dec.{eqb}
+use Prim.Native.Nat.{ℕ, _-_, _*_, _≤_}
 use lib.ListN.{length}
-use Rattle.rules.specs.Basics.{if_then_else_}
-use Rattle.rules.specs.Instructions.{Place, Act}
-use Rattle.rules.specs.Blocks.{Work, Block, within, runFrom}
+use Rattle.rules.specs.Blocks.{Block, runFrom}
 use Rattle.rules.specs.Keys.{tableOf}
 use Rattle.store.specs.Rows.{Row}
-use Rattle.operation.specs.Parts.{operationOf, sourceOf}
-use Rattle.operation.specs.Operations.{set, jlt, jeq, begin, end, put, return}
 use Rattle.pack.specs.Questions.{insideAt, putsBefore}
 use Rattle.pack.specs.Refusal.{codeNo}
 use Rattle.pack.specs.Meaning.{codeOf}
-use Rattle.block.specs.declared.step.Spot.{Spot}
-use Rattle.block.specs.declared.step.Running.{Running}
+use Rattle.instruction.specs.declared.Running.{Running}
+use Rattle.instruction.specs.Pending.{seen, rowsIn, newIn, Kept}
+use Rattle.instruction.specs.Step.{workOf}
 use Rattle.block.specs.declared.run.Ran.{Ran}
-use Rattle.block.specs.Pending.{seen, rowsIn, newIn, Kept}
-
--- the rules' place of a spot
-abbrev pub placeOf : Spot → Place
-placeOf x = record { position = x .position; registers = x .registers }
-
--- the run as the rules have it, over the partition's rows rs
-abbrev pub workOf : (rs : List Row) → Running → Work
-workOf rs x =
-    record {
-      place = placeOf (x .place);
-      table = tableOf (seen (rowsIn (x .pending)) rs);
-      newKeys = newIn (x .pending) rs;
-    }
-
--- What an instruction asks for makes y of x, and the block goes on from there; at most `more` keys more are pending.
-pub record Stepped (a : Act) (rs : List Row) (x y : Running) (more : ℕ) : Type 0 where
-  pub goes : (onward : Work → Block) → within a (workOf rs x) onward ≡ onward (workOf rs y)
-  pub kept : Kept (y .pending)
-  pub few : y .pending .count ≤ x .pending .count + more
-
--- the keys that an operation may add to the pending ones: PUT one, the rest none
-abbrev pub putsOf : (op : ℕ) → ℕ
-putsOf op = if eqb op put then 1 else 0
-
--- the number of the register s: of a jump w is 16 × target + s
-abbrev pub sourceBy : (op w : ℕ) → ℕ
-sourceBy op w = if eqb op jlt then sourceOf w else if eqb op jeq then sourceOf w else w
-
--- s is the low three bits of w, in every operation but SET, whose w is any
-abbrev pub Sourced : (op w : ℕ) → Type 0
-Sourced op w = (op ≡ set → ⊥) → sourceBy op w ≡ w % 8
-
--- what the questions say of an instruction inside a block, other than END: operation and operand, and that PUT has room
-pub record Fits (b w : ℕ) (x : Running) : Type 0 where
-  pub known : operationOf b < return
-  pub no-begin : operationOf b ≡ begin → ⊥
-  pub no-end : operationOf b ≡ end → ⊥
-  pub sourced : Sourced (operationOf b) w
-  pub room : operationOf b ≡ put → x .pending .count < 16
 
 -- operation bytes and operand bytes of a workflow to which questions 4 to 8 say yes
 pub record Right (ops ws : List ℕ) : Type 0 where

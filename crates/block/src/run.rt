@@ -8,14 +8,14 @@ ghost use Rattle.pack.specs.Meaning.{codeOf};
 ghost use Rattle.store.specs.Rows.{rowsOf};
 ghost use Rattle.store.specs.Layout.{partsOf};
 ghost use Rattle.store.specs.Sound.{Sound};
-ghost use Rattle.block.specs.Pending.{Kept};
+ghost use Rattle.instruction.specs.Pending.{Kept};
 ghost use Rattle.block.specs.Run.{Right, Inside, runOf, blockOf};
 ghost use Rattle.block.specs.Through.{Ready, blockAt};
-use crate::pending::Pending;
-use crate::pending::no_pending;
-use crate::step::Running;
-use crate::step::Spot;
-use crate::step::step;
+use instruction::Running;
+use instruction::Spot;
+use instruction::pending::Pending;
+use instruction::pending::no_pending;
+use instruction::step;
 
 // A block's run that came to END: its result and its PUTs.
 pub struct Ran {

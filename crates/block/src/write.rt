@@ -7,15 +7,15 @@ ghost use lib.ListN.{length};
 ghost use Rattle.store.specs.Layout.{partsOf, capOf};
 ghost use Rattle.store.specs.Rows.{rowsOf};
 ghost use Rattle.store.specs.Sound.{Sound};
-ghost use Rattle.block.specs.Pending.{Kept, newIn};
+ghost use Rattle.instruction.specs.Pending.{Kept, newIn};
 ghost use Rattle.block.specs.Run.{blockOf};
 ghost use Rattle.block.specs.Through.{logIn, Ready, blockAt, Committed, Through};
 use crate::log::log_key;
 use crate::log::logged;
-use crate::pending::Pending;
-use crate::pending::with_row;
 use crate::run::Ran;
 use crate::run::run;
+use instruction::pending::Pending;
+use instruction::pending::with_row;
 use store::rows::Got;
 
 // What a block comes to: its result, or a no to question 21.

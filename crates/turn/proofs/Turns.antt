@@ -28,7 +28,8 @@ use Rattle.agents.specs.Slots.{held, agentOf, Whole}
 use Rattle.agents.specs.Answers.{answerOf}
 use Rattle.block.specs.declared.write.BlockOutcome.{BlockOutcome}
 use Rattle.block.specs.declared.write.BlockOutcome.the-variants.{Result, NoRoom}
-use Rattle.block.specs.Run.{Right, Sourced}
+use Rattle.instruction.specs.Step.{Sourced}
+use Rattle.block.specs.Run.{Right}
 use Rattle.block.specs.Through.{tableIn, logIn, Ready, blockAt, Through}
 use Rattle.block.specs.Store.{hadRoom}
 use Rattle.block.proofs.Inside.{sourced-at}

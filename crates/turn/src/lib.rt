@@ -8,12 +8,12 @@ ghost use Rattle.rules.specs.Instructions.{Place, moves, act};
 ghost use Rattle.pack.specs.Meaning.{decode, codeOf};
 ghost use Rattle.store.specs.Sound.{Sound};
 ghost use Rattle.agents.specs.Slots.{held};
-ghost use Rattle.block.specs.Run.{placeOf, Sourced};
+ghost use Rattle.instruction.specs.Step.{placeOf, Sourced};
 ghost use Rattle.turn.specs.Turned.{Turnable, workflowIn, movedTo, replied, behindBlock, TurnedBy};
 use agents::Agent;
 use agents::Answer;
-use block::step::Spot;
 use block::write::BlockOutcome;
+use instruction::Spot;
 use store::rows::Got;
 
 // What the turn of one agent answers, and the record that it leaves.
@@ -45,7 +45,7 @@ fn move_on(a: Agent, op: u8, d: usize, w: u32) -> Turned
         position: a.position as usize,
         registers,
     };
-    let to = block::step::moved(from, op, d, w);
+    let to = instruction::moved(from, op, d, w);
     let next = to.registers;
     Turned {
         answer: Answer::Moved,

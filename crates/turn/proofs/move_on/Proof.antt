@@ -2,7 +2,7 @@
 use borrow.Author.Needs.{needs}
 use native.Mathlib.Omega.{arith}
 use mathlib.Core.Path.{refl, sym}
-use Rattle.block.specs.Run.{placeOf}
+use Rattle.instruction.specs.Step.{placeOf}
 use Rattle.turn.proofs.move_on.Statement.{statement}
 use Rattle.turn.proofs.move_on.Tie as tie
 

@@ -10,7 +10,8 @@ use Rattle.store.specs.Rows.{rowsOf}
 use Rattle.pack.specs.Meaning.{instructionOf}
 use Rattle.operation.specs.Operations.{end}
 use Rattle.pack.specs.Layout.{operationAt, wordAt}
-use Rattle.block.specs.Run.{placeOf, putsOf, Stepped, Inside, runOf}
+use Rattle.instruction.specs.Step.{placeOf, putsOf, Stepped}
+use Rattle.block.specs.Run.{Inside, runOf}
 use Rattle.block.proofs.Inside.{fits-here}
 use Rattle.block.proofs.Onward.{goes-further, runs-on, run-ends, run-none}
 use Rattle.block.proofs.run.run_on.Statement.{statement}

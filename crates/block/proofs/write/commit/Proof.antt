@@ -5,7 +5,7 @@ use native.Mathlib.Omega.{arith}
 use borrow.Author.Needs.{needs}
 use Rattle.store.specs.Layout.{capOf}
 use Rattle.store.specs.Rows.{rowsOf}
-use Rattle.block.proofs.Rows.{keys-count, values-count}
+use Rattle.instruction.proofs.Rows.{keys-count, values-count}
 use Rattle.block.proofs.Writes.{keys-good, keys-right, length-out, committed}
 use Rattle.block.proofs.write.commit.Statement.{statement}
 use Rattle.block.proofs.write.commit.Tie as tie

@@ -9,8 +9,8 @@ use lib.ListN.{length}
 use Rattle.store.proofs.Bytes.{used-le}
 use Rattle.store.specs.Layout.{capOf}
 use Rattle.store.specs.Rows.{rowsOf}
-use Rattle.block.specs.Pending.{newIn}
-use Rattle.block.proofs.Rows.{keys-count}
+use Rattle.instruction.specs.Pending.{newIn}
+use Rattle.instruction.proofs.Rows.{keys-count}
 use Rattle.block.proofs.Writes.{new-few, new-counted}
 use Rattle.block.proofs.write.has_room.Statement.{statement}
 use Rattle.block.proofs.write.has_room.Tie as tie

@@ -1,7 +1,7 @@
 -- `block::through_block` meets its contract. Assumes nothing.
 use mathlib.Core.Path.{refl}
 use borrow.Author.Needs.{needs}
-use Rattle.block.proofs.Rows.{got-some, got-none}
+use Rattle.instruction.proofs.Rows.{got-some, got-none}
 use Rattle.block.proofs.Writes.{through-logged}
 use Rattle.block.proofs.write.through_block.Statement.{statement}
 use Rattle.block.proofs.write.through_block.Tie as tie

@@ -1,0 +1,44 @@
+-- `instruction::tested` meets its contract. Assumes nothing.
+use mathlib.Core.Option.{none, some}
+use borrow.Author.Needs.{needs}
+use Rattle.store.specs.Rows.{rowsOf}
+use Rattle.instruction.proofs.Rows.{got-some, got-none}
+use Rattle.instruction.proofs.Steps.{step-has}
+use Rattle.instruction.proofs.tested.Statement.{statement}
+use Rattle.instruction.proofs.tested.Tie as tie
+
+pub tested-spec : {M : Type 1} → statement M
+tested-spec =
+    tie.close
+    (tie.spec
+    (λ c. search needs)
+    (λ c. search needs)
+    (λ c κs. search needs)
+    (λ c κs. search needs)
+    (λ c. search needs)
+    (λ c κs. search needs)
+    (λ c κs. search needs)
+    (λ c. search needs)
+    (λ c κs. search needs)
+    (λ c κs. search needs)
+    (λ c.
+    let st = c .before in
+    let m = c .before .before in
+    let sv = m .before .before in
+    let dk = sv .before in
+    let s = dk .before .before .before .before .before in
+    let a = s .args in
+    let k = dk .data-key .ensures in
+    let v = m .enum-told .given .0 .0 in
+    rw (c .at-place .ensures)
+    (step-has (rowsOf (a .store .now) (a .partition)) (a .x) (st .set .result) (s .pre .2) (a .d) (a .s) (k .1) (some v) (got-some _ _ (rw (k .0) at (sv .seen-value .ensures)) v (m .enum-told .given .1)) (st .set .ensures)))
+    (λ c.
+    let st = c .before in
+    let m = st .before in
+    let sv = m .before .before in
+    let dk = sv .before in
+    let s = dk .before .before .before .before .before in
+    let a = s .args in
+    let k = dk .data-key .ensures in
+    rw (c .at-place2 .ensures)
+    (step-has (rowsOf (a .store .now) (a .partition)) (a .x) (st .set2 .result) (s .pre .2) (a .d) (a .s) (k .1) none (got-none _ _ (rw (k .0) at (sv .seen-value .ensures)) (m .enum-told2 .given .1)) (st .set2 .ensures))))

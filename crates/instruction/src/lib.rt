@@ -1,0 +1,176 @@
+// One instruction carried out: on registers alone, inside a block or outside; or on a block's view of its partition, PUTs beside the store.
+pub mod pending;
+
+ghost use mathlib.Core.List.{List};
+ghost use mathlib.Core.Path.{_≡_};
+ghost use Prim.Native.Nat.{_+_, _%_, _^_, _≤_, _<_};
+ghost use Rattle.rules.specs.Basics.{if_then_else_};
+ghost use Rattle.rules.specs.Instructions.{moves, act, next, goto, becomes, Instruction};
+ghost use Rattle.operation.specs.Parts.{operationOf};
+ghost use Rattle.pack.specs.Meaning.{decode, instructionOf};
+ghost use Rattle.store.specs.Rows.{Row, rowsOf};
+ghost use Rattle.store.specs.Layout.{partsOf};
+ghost use Rattle.store.specs.Sound.{Sound};
+ghost use Rattle.instruction.specs.Pending.{Kept};
+ghost use Rattle.instruction.specs.Step.{placeOf, Stepped, putsOf, Sourced, Fits};
+use crate::pending::Pending;
+use crate::pending::data_key;
+use crate::pending::pending_put;
+use crate::pending::seen_value;
+use store::rows::Got;
+
+// Where a request stands: the position of its next instruction, and its registers.
+pub struct Spot {
+    pub position: usize,
+    pub registers: [u32; 8],
+}
+
+// A block's run under way: where it stands, with its copy of the registers; and its PUTs.
+pub struct Running {
+    pub place: Spot,
+    pub pending: Pending,
+}
+
+// The register s that an operand names: its low three bits.
+fn source_of(w: u32) -> usize
+    ensures { λ r. ⌜ (r ≡ w % 8) × (r < 8) ⌝ }
+{
+    (w & 7) as usize
+}
+
+// On to the next instruction.
+fn advanced(x: Spot) -> Spot
+    requires { ⌜ x .position + 1 < 2 ^ 64 ⌝ }
+    ensures { λ r. ⌜ placeOf r ≡ next (placeOf x) ⌝ }
+{
+    let registers = x.registers;
+    Spot {
+        position: x.position + 1,
+        registers,
+    }
+}
+
+// Register d becomes v, and on to the next instruction.
+fn set(x: Spot, d: usize, v: u32) -> Spot
+    requires { ⌜ (d < 8) × (x .position + 1 < 2 ^ 64) ⌝ }
+    ensures { λ r. ⌜ placeOf r ≡ becomes (placeOf x) d v ⌝ }
+{
+    let mut registers = x.registers;
+    registers[d] = v;
+    Spot {
+        position: x.position + 1,
+        registers,
+    }
+}
+
+// To a jump's target if it is taken, else on to the next instruction.
+fn jumped(x: Spot, taken: bool, target: u32) -> Spot
+    requires { ⌜ x .position + 1 < 2 ^ 64 ⌝ }
+    ensures { λ r. ⌜ placeOf r ≡ if_then_else_ taken (goto (placeOf x) target) (next (placeOf x)) ⌝ }
+{
+    if taken {
+        let registers = x.registers;
+        return Spot {
+            position: target as usize,
+            registers,
+        };
+    }
+    advanced(x)
+}
+
+// SET, COPY, ADD, SUB, JLT, JEQ, inside a block or outside: registers alone.
+pub fn moved(x: Spot, op: u8, d: usize, w: u32) -> Spot
+    requires { ⌜ (op < 6) × (d < 8) × (x .position + 1 < 2 ^ 64) × Sourced op w ⌝ }
+    ensures { λ r. ⌜ moves (placeOf r) ≡ act (decode op d w) (placeOf x) ⌝ }
+{
+    let s = source_of(w);
+    let a = x.registers[d];
+    let b = x.registers[s];
+    let target = operation::target_of(w);
+    match op {
+        0 => set(x, d, w),
+        1 => set(x, d, b),
+        2 => set(x, d, operation::add32(a, b)),
+        3 => set(x, d, operation::sub32(a, b)),
+        4 => jumped(x, a < b, target),
+        _ => jumped(x, a == b, target),
+    }
+}
+
+// The run at another place, its PUTs as they are.
+fn at_place(x: Running, place: Spot) -> Running
+    ensures { λ r. ⌜ r ≡ record { place = place; pending = x .pending } ⌝ }
+{
+    let pending = x.pending;
+    Running { place, pending }
+}
+
+// GET.
+fn got(store: &[u8], partition: usize, x: Running, d: usize, s: usize) -> Running
+    requires { ⌜ Sound (now store) × (partition ≤ partsOf (now store)) × Kept (x .pending) × (d < 8) × (s < 8) × (x .place .position + 1 < 2 ^ 64) ⌝ }
+    ensures { λ r. ⌜ Stepped (act (Instruction.GET d s) (placeOf (x .place))) (rowsOf (now (store .entry)) partition) x r 0 ⌝ }
+{
+    let place = x.place;
+    let pending = x.pending;
+    let key = data_key(place.registers[s]);
+    let g = seen_value(store, partition, pending, key);
+    match g {
+        Got::Value(v) => at_place(x, set(place, d, v)),
+        Got::Absent => at_place(x, set(place, d, 0)),
+    }
+}
+
+// HAS.
+fn tested(store: &[u8], partition: usize, x: Running, d: usize, s: usize) -> Running
+    requires { ⌜ Sound (now store) × (partition ≤ partsOf (now store)) × Kept (x .pending) × (d < 8) × (s < 8) × (x .place .position + 1 < 2 ^ 64) ⌝ }
+    ensures { λ r. ⌜ Stepped (act (Instruction.HAS d s) (placeOf (x .place))) (rowsOf (now (store .entry)) partition) x r 0 ⌝ }
+{
+    let place = x.place;
+    let pending = x.pending;
+    let key = data_key(place.registers[s]);
+    let g = seen_value(store, partition, pending, key);
+    match g {
+        Got::Value(_) => at_place(x, set(place, d, 1)),
+        Got::Absent => at_place(x, set(place, d, 0)),
+    }
+}
+
+// PUT.
+fn put(x: Running, d: usize, s: usize) -> Running
+    requires { ⌜ Kept (x .pending) × (x .pending .count < 16) × (d < 8) × (s < 8) × (x .place .position + 1 < 2 ^ 64) ⌝ }
+    ensures { λ r. ⌜ ((rs : List Row) → Stepped (act (Instruction.PUT d s) (placeOf (x .place))) rs x r 1) ⌝ }
+{
+    let from = x.place;
+    let before = x.pending;
+    let key = data_key(from.registers[d]);
+    let pending = pending_put(before, key, from.registers[s]);
+    let place = advanced(from);
+    Running { place, pending }
+}
+
+// Operations by number.
+const GET: u8 = 8;
+
+const HAS: u8 = 10;
+
+// One instruction inside a block, other than END.
+pub fn step(store: &[u8], partition: usize, x: Running, b: u8, w: u32) -> Running
+    requires { ⌜ Sound (now store) × (partition ≤ partsOf (now store)) × Kept (x .pending) × (x .place .position + 1 < 2 ^ 64) ⌝ }
+    requires { ⌜ Fits b w x ⌝ }
+    ensures { λ r. ⌜ Stepped (act (instructionOf b w) (placeOf (x .place))) (rowsOf (now (store .entry)) partition) x r (putsOf (operationOf b)) ⌝ }
+{
+    let op = operation::operation_of(b);
+    let d = operation::register_of(b) as usize;
+    let s = source_of(w);
+    if op == GET {
+        return got(store, partition, x, d, s);
+    }
+    if op == operation::PUT {
+        return put(x, d, s);
+    }
+    if op == HAS {
+        return tested(store, partition, x, d, s);
+    }
+    let place = x.place;
+    at_place(x, moved(place, op, d, w))
+}
