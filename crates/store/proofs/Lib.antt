@@ -4,4 +4,5 @@ pub mod Bytes
 pub mod Search
 pub mod Steps
 pub mod Sound
+pub mod Marks
 pub mod Fresh

@@ -7,14 +7,16 @@ use crate::head::used_count;
 use crate::head::value_place;
 use crate::rows::seek;
 use rules::Verdict;
+ghost use mathlib.Core.Bool.{true};
 ghost use mathlib.Core.Path.{_≡_};
-ghost use Prim.Native.Nat.{_+_, _-_, _*_, _^_, _≤_, _<_};
-ghost use lib.ListN.{length};
+ghost use Prim.Native.Nat.{_+_, _-_, _*_, _%_, _^_, _≤_, _<_};
+ghost use lib.Dec.{eqb};
+ghost use lib.ListN.{length, getD};
 ghost use Rattle.words.specs.Words.{fields};
 ghost use Rattle.rules.specs.Basics.{eachFrom};
 ghost use Rattle.rules.specs.Verdicts.{verdictOf};
 ghost use Rattle.store.specs.Layout.{partsOf, capOf, keyAt, valueAt};
-ghost use Rattle.store.specs.Questions.{numbersRight, isForm, member, keysOk, blankRow, partOk, five, bookOk, question11, question12, storeRefusal};
+ghost use Rattle.store.specs.Questions.{numbersRight, isForm, member, keysOk, blankRow, partOk, allIn, five, bookOk, question11, question12, storeRefusal};
 ghost use Rattle.store.specs.Sound.{Shape, Sound};
 
 // Is P 1 to 8, and C 5 to 256?
@@ -49,24 +51,39 @@ fn form(book: bool, key: u64) -> bool
     key < 281_474_976_710_656
 }
 
-// Are the `n` keys from byte `from` on of a form, and each unlike the others?
-fn keys_ok(s: &[u8], from: usize, n: usize, book: bool) -> bool
-    requires { ⌜ from + 8 * n ≤ length (now s) ⌝ }
+// Is `key` among the `left` keys from byte `at` on? Each of them has `mark` at its place in `marks`, so a key whose place has no such mark is
+// not among them, and nothing is sought. 65,536 leaves 104 by 8,179: the log keys of ids that follow each other have places of their own.
+fn seen(s: &[u8], at: usize, left: usize, key: u64, marks: &[u8], mark: u8) -> bool
+    requires { ⌜ (at + 8 * left ≤ length (now s)) × (8179 ≤ length (now marks)) × (allIn (λ k. eqb (getD (now marks) (k % 8179) 0) mark) (fields 8 (now s) at left) ≡ true) ⌝ }
+    ensures { λ r. ⌜ r ≡ member key (fields 8 (now (s .entry)) at left) ⌝ }
+{
+    let place = (key % 8179) as usize;
+    if marks[place] != mark {
+        return false;
+    }
+    seek(s, at, left, key) < left
+}
+
+// Are the `n` keys from byte `from` on of a form, and each unlike the others? The walk goes from the last key to the first, and each key that
+// is passed leaves `mark` at its place in `marks`. What stood there is free: an equal mark costs a search, and no more.
+fn keys_ok(s: &[u8], from: usize, n: usize, book: bool, marks: &mut [u8], mark: u8) -> bool
+    requires { ⌜ (from + 8 * n ≤ length (now s)) × (8179 ≤ length (now marks)) ⌝ }
     ensures { λ r. ⌜ r ≡ keysOk book (fields 8 (now (s .entry)) from n) ⌝ }
 {
-    let mut at = from;
-    let mut i = 0;
-    while i < n {
-        let key = words::read64(s, at);
+    let mut at = from + 8 * n;
+    let mut i = n;
+    while 0 < i {
+        let key = words::read64(s, at - 8);
         if !form(book, key) {
             return false;
         }
-        let left = n - (i + 1);
-        if seek(s, at + 8, left, key) < left {
+        if seen(s, at, n - i, key, marks, mark) {
             return false;
         }
-        at += 8;
-        i += 1;
+        let to = (key % 8179) as usize;
+        marks[to] = mark;
+        at -= 8;
+        i -= 1;
     }
     true
 }
@@ -93,9 +110,9 @@ fn blank_rows(s: &[u8], p: usize, n: usize, cap: usize) -> bool
     true
 }
 
-// Question 11 of partition `p`.
-fn check_partition(s: &[u8], p: usize) -> bool
-    requires { ⌜ Shape (now s) × (p ≤ partsOf (now s)) ⌝ }
+// Question 11 of partition `p`, whose mark is p + 1.
+fn check_partition(s: &[u8], p: usize, marks: &mut [u8]) -> bool
+    requires { ⌜ Shape (now s) × (p ≤ partsOf (now s)) × (8179 ≤ length (now marks)) ⌝ }
     ensures { λ r. ⌜ r ≡ partOk (now (s .entry)) p ⌝ }
 {
     let cap = capacity(s);
@@ -105,10 +122,26 @@ fn check_partition(s: &[u8], p: usize) -> bool
     }
     let book = p == partition_count(s);
     let from = key_place(s, p, 0);
-    if !keys_ok(s, from, n, book) {
+    if !keys_ok(s, from, n, book, marks, (p + 1) as u8) {
         return false;
     }
     blank_rows(s, p, n, cap)
+}
+
+// Question 11 of each partition. One table of marks serves them all.
+fn check_partitions(s: &[u8], marks: &mut [u8]) -> bool
+    requires { ⌜ Shape (now s) × (8179 ≤ length (now marks)) ⌝ }
+    ensures { λ r. ⌜ r ≡ question11 (now (s .entry)) ⌝ }
+{
+    let parts = partition_count(s);
+    let mut p = 0;
+    while p <= parts {
+        if !check_partition(s, p, marks) {
+            return false;
+        }
+        p += 1;
+    }
+    true
 }
 
 // Question 11.
@@ -116,15 +149,8 @@ fn check_rows(s: &[u8]) -> bool
     requires { ⌜ Shape (now s) ⌝ }
     ensures { λ r. ⌜ r ≡ question11 (now (s .entry)) ⌝ }
 {
-    let parts = partition_count(s);
-    let mut p = 0;
-    while p <= parts {
-        if !check_partition(s, p) {
-            return false;
-        }
-        p += 1;
-    }
-    true
+    let mut marks = [0u8; 8179];
+    check_partitions(s, &mut marks)
 }
 
 // Is `key` among the `n` keys from byte `from` on? Row `near` is looked at first: in a store that only this code has written, a request's

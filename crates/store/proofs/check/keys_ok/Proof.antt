@@ -1,41 +1,33 @@
--- `store::check::keys_ok` meets its contract. The loop: the keys still to be read answer for all. Assumes nothing.
+-- `store::check::keys_ok` meets its contract. The loop: the keys that were passed are good and marked. Assumes nothing.
 use borrow.Author.Needs.{needs}
-use mathlib.Core.Bool.{true, false}
-use mathlib.Core.Path.{_≡_, refl, sym, ap, _∙_}
-use Prim.Native.Nat.{ℕ, _+_, _*_, _-_, _≤_}
-use native.Mathlib.Nat.{sub-zero}
+use mathlib.Core.Bool.{true}
+use mathlib.Core.Path.{_≡_, refl, sym, _∙_}
+use Prim.Native.Nat.{_+_, _*_, _-_, _%_, _≤_, _<_}
 use native.Mathlib.Omega.{arith}
 use borrow.Author.Tests.{not-true, not-false}
-use Rattle.words.specs.Words.{le, fields}
-use Rattle.words.proofs.Laws.{length-fields}
-use Rattle.store.specs.Rows.{indexOf}
-use Rattle.store.specs.Questions.{keysOk, isForm, member}
-use Rattle.store.proofs.Steps.{keys-step, keys-done, member-yes, member-no}
+use lib.ListN.{length, length-set}
+use Rattle.words.specs.Words.{fields}
+use Rattle.store.specs.Questions.{isForm, keysOk, allIn}
+use Rattle.store.proofs.Steps.{keys-done, all-done}
+use Rattle.store.proofs.Marks.{marked, keys-all, no-form, key-twice, key-more, mark-more}
 use Rattle.store.proofs.check.keys_ok.Statement.{statement}
 use Rattle.store.proofs.check.keys_ok.Tie as tie
 
 abbrev Inv-loop : tie.InvT-loop
-Inv-loop s from n book at₀ i₀ at i = (i ≤ n) × (at ≡ from + 8 * i) × (keysOk book (fields 8 s from n) ≡ keysOk book (fields 8 s at (n - i)))
+Inv-loop s from n book marks₀ mark at₀ i₀ marks at i = (i ≤ n) × (at ≡ from + 8 * i) × (length marks ≡ length marks₀) × (keysOk book (fields 8 s at (n - i)) ≡ true) × (allIn (marked marks mark) (fields 8 s at (n - i)) ≡ true)
 
 abbrev μ-loop : tie.MeasureT-loop
-μ-loop s from n book at₀ i₀ at i = n - i
+μ-loop s from n book marks₀ mark at₀ i₀ marks at i = i
 
 -- the key that was read is of a form
-is-form : (e : tie.Else1 Inv-loop μ-loop) →
-    let lp = e .before .before .before .before in
-    let a = lp .before .before .args in
-    isForm (a .book) (le 8 (a .s .now) (lp .loop .at)) ≡ true
-is-form e = ap (isForm _) (sym (e .before .before .read64 .ensures)) ∙ sym (e .before .form .ensures) ∙ not-false _ (e .if1 .left)
+is-form : (e : tie.Else1 Inv-loop μ-loop) → isForm (e .before .before .before .before .before .before .before .args .book) (e .before .before .read64 .result) ≡ true
+is-form e = sym (e .before .form .ensures) ∙ not-false _ (e .if1 .left)
 
--- its place among the keys behind it
-place : (c : tie.After-seek Inv-loop μ-loop) →
-    let lp = c .before .before .before .before .before in
-    let a = lp .before .before .args in
-    c .seek .result ≡ indexOf (le 8 (a .s .now) (lp .loop .at)) (fields 8 (a .s .now) (lp .loop .at + 8) (a .n - (lp .loop .i + 1)))
-place c =
-    let lp = c .before .before .before .before .before in
-    let a = lp .before .before .args in
-    c .seek .ensures ∙ ap (λ (k : ℕ). indexOf k (fields 8 (a .s .now) (lp .loop .at + 8) (a .n - (lp .loop .i + 1)))) (c .before .before .before .read64 .ensures)
+-- its place is one of the table
+room : (c : tie.Else2 Inv-loop μ-loop) →
+    let r = c .before .before .before .before .before in
+    r .read64 .result % 8179 < length (r .before .before .loop .marks)
+room c = omega arith
 
 pub keys-ok-spec : {M : Type 1} → statement M
 keys-ok-spec =
@@ -43,43 +35,40 @@ keys-ok-spec =
     (tie.spec
     Inv-loop
     μ-loop
-    (λ c. let a = c .before .args in
-    let e : a .n - 0 ≡ a .n = sub-zero (a .n) in
-    rw e (search needs, omega arith, refl))
+    (λ c. omega arith)
+    (λ c. omega arith)
+    (λ c. let a = c .before .before .args in
+    let z : a .n - a .n ≡ 0 = omega arith in
+    (omega arith, refl, refl, keys-done (a .book) (a .s .now) _ _ z, all-done (marked (a .marks .now) (a .mark)) (a .s .now) _ _ z))
+    (λ c. omega arith)
     (λ c κs. omega arith)
     (λ c κs. search needs)
-    (λ c. let lp = c .before .before .before .before in
-    let a = lp .before .before .args in
-    let no-form : isForm (a .book) (le 8 (a .s .now) (lp .loop .at)) ≡ false = ap (isForm (a .book)) (sym (c .before .before .read64 .ensures)) ∙ sym (c .before .form .ensures) ∙ not-true _ (c .if1 .taken) in
-    sym (lp .loop .inv .2
-    ∙ keys-step (a .book) (a .s .now) (lp .loop .at) (a .n - lp .loop .i) (a .n - (lp .loop .i + 1)) (omega arith)
-    ∙ rw no-form refl))
+    (λ c. search needs)
+    (λ c. let r = c .before .before in
+    let lp = r .before .before in
+    let a = lp .before .before .before .args in
+    sym (no-form (a .s .now) (a .from) (a .n) (lp .loop .i) (lp .loop .at) (r .read64 .result) (lp .loop .inv .0) (r .before .loop-test .taken) (lp .loop .inv .1) (r .read64 .ensures) (a .book) (sym (c .before .form .ensures) ∙ not-true _ (c .if1 .taken))))
+    (λ c. omega arith)
+    (λ c κs. (omega arith, omega arith, c .before .before .before .before .before .loop .inv .4))
+    (λ c. search needs)
+    (λ c. let r = c .before .before .before .before .before in
+    let lp = r .before .before in
+    let a = lp .before .before .before .args in
+    sym (key-twice (a .s .now) (a .from) (a .n) (lp .loop .i) (lp .loop .at) (r .read64 .result) (lp .loop .inv .0) (r .before .loop-test .taken) (lp .loop .inv .1) (r .read64 .ensures) (a .book) (sym (c .before .seen .ensures) ∙ c .if2 .taken)))
+    room
     (λ c. omega arith)
     (λ c. omega arith)
     (λ c. omega arith)
-    (λ c κs. omega arith)
-    (λ c. let e = c .before .before in
-    let lp = e .before .before .before .before in
-    let a = lp .before .before .args in
-    let twice : member (le 8 (a .s .now) (lp .loop .at)) (fields 8 (a .s .now) (lp .loop .at + 8) (a .n - (lp .loop .i + 1))) ≡ true =
-    member-yes _ _ (omega (arith, place (c .before), length-fields 8 (a .s .now) (lp .loop .at + 8) (a .n - (lp .loop .i + 1)), c .if2 .taken)) in
-    sym (lp .loop .inv .2
-    ∙ keys-step (a .book) (a .s .now) (lp .loop .at) (a .n - lp .loop .i) (a .n - (lp .loop .i + 1)) (omega arith)
-    ∙ rw (is-form e, twice) refl))
-    (λ c. omega arith)
-    (λ c. omega arith)
-    (λ c. omega arith)
-    (λ c. let e = c .before .before in
-    let lp = e .before .before .before .before in
-    let a = lp .before .before .args in
-    let once : member (le 8 (a .s .now) (lp .loop .at)) (fields 8 (a .s .now) (lp .loop .at + 8) (a .n - (lp .loop .i + 1))) ≡ false =
-    member-no _ _ (omega (arith, place (c .before), length-fields 8 (a .s .now) (lp .loop .at + 8) (a .n - (lp .loop .i + 1)), c .if2 .left)) in (
+    (λ c. let r = c .before .before .before .before .before in
+    let lp = r .before .before in
+    let a = lp .before .before .before .args in (
       omega arith,
       omega arith,
-      lp .loop .inv .2
-          ∙ keys-step (a .book) (a .s .now) (lp .loop .at) (a .n - lp .loop .i) (a .n - (lp .loop .i + 1)) (omega arith)
-          ∙ rw (is-form e, once) refl,
+      simp length-set (lp .loop .inv .2),
+      key-more (a .s .now) (a .from) (a .n) (lp .loop .i) (lp .loop .at) (r .read64 .result) (lp .loop .inv .0) (r .before .loop-test .taken) (lp .loop .inv .1) (r .read64 .ensures) (a .book) (is-form (c .before .before .before)) (sym (c .before .seen .ensures) ∙ c .if2 .left) (lp .loop .inv .3),
+      mark-more (a .s .now) (a .from) (a .n) (lp .loop .i) (lp .loop .at) (r .read64 .result) (lp .loop .inv .0) (r .before .loop-test .taken) (lp .loop .inv .1) (r .read64 .ensures) (lp .loop .marks) (a .mark) (room c) (lp .loop .inv .4),
     ))
+    (λ c. search needs)
     (λ c. let lp = c .before in
-    let a = lp .before .before .args in
-    sym (lp .loop .inv .2 ∙ keys-done (a .book) (a .s .now) (lp .loop .at) (a .n - lp .loop .i) (omega arith))))
+    let a = lp .before .before .before .args in
+    sym (keys-all (a .book) true (a .s .now) (a .from) (a .n) (lp .loop .i) (lp .loop .at) (omega arith) (lp .loop .inv .1) (lp .loop .inv .3))))
