@@ -177,7 +177,7 @@ fn check_behind_pack(pack: &[u8], store: &[u8], agents: [Agent; 8]) -> Verdict
     requires { ⌜ packRefusal (now pack) ≡ none ⌝ }
     ensures { λ r. ⌜ r ≡ verdictOf (lentRefusal (now (pack .entry)) (now (store .entry)) agents) ⌝ }
 {
-    let v = store::check::check_store(store);
+    let v = store_check::check_store(store);
     match v {
         Verdict::Accepted => {
             if !check_13(pack, store) {

@@ -4,7 +4,24 @@ ghost use Prim.Native.Nat.{_+_, _*_, _≤_};
 ghost use lib.ListN.{length};
 ghost use Rattle.store.specs.Layout.{partsOf, capOf, sizeOf, keyAt, valueAt};
 ghost use Rattle.store.specs.Rows.{rowsOf};
+ghost use Rattle.store.specs.Questions.{numbersRight};
 ghost use Rattle.store.specs.Sound.{Shape};
+
+// Is P 1 to 8, and C 5 to 256?
+pub fn numbers_right(parts: usize, cap: usize) -> bool
+    ensures { λ r. ⌜ r ≡ numbersRight parts cap ⌝ }
+{
+    if parts < 1 {
+        return false;
+    }
+    if 8 < parts {
+        return false;
+    }
+    if cap < 5 {
+        return false;
+    }
+    cap <= 256
+}
 
 // P.
 pub fn partition_count(s: &[u8]) -> usize
@@ -39,7 +56,7 @@ fn times(a: usize, b: usize) -> usize
 }
 
 // The length of a store.
-pub(crate) fn store_size(parts: usize, cap: usize) -> usize
+pub fn store_size(parts: usize, cap: usize) -> usize
     requires { ⌜ (parts ≤ 8) × (cap ≤ 256) ⌝ }
     ensures { λ r. ⌜ r ≡ sizeOf parts cap ⌝ }
 {
@@ -47,7 +64,7 @@ pub(crate) fn store_size(parts: usize, cap: usize) -> usize
 }
 
 // Where the key of row `i` of partition `p` begins.
-pub(crate) fn key_place(s: &[u8], p: usize, i: usize) -> usize
+pub fn key_place(s: &[u8], p: usize, i: usize) -> usize
     requires { ⌜ Shape (now s) × (p ≤ partsOf (now s)) × (i ≤ capOf (now s)) ⌝ }
     ensures { λ r. ⌜ r ≡ keyAt (now (s .entry)) p i ⌝ }
 {
@@ -57,7 +74,7 @@ pub(crate) fn key_place(s: &[u8], p: usize, i: usize) -> usize
 }
 
 // Where the value of row `i` of partition `p` begins.
-pub(crate) fn value_place(s: &[u8], p: usize, i: usize) -> usize
+pub fn value_place(s: &[u8], p: usize, i: usize) -> usize
     requires { ⌜ Shape (now s) × (p ≤ partsOf (now s)) × (i ≤ capOf (now s)) ⌝ }
     ensures { λ r. ⌜ r ≡ valueAt (now (s .entry)) p i ⌝ }
 {

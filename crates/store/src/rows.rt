@@ -27,7 +27,7 @@ pub enum Got {
 }
 
 // The place of `key` among the `n` keys from byte `from` on, or `n`. Every search is this one.
-pub(crate) fn seek(s: &[u8], from: usize, n: usize, key: u64) -> usize
+pub fn seek(s: &[u8], from: usize, n: usize, key: u64) -> usize
     requires { ⌜ from + 8 * n ≤ length (now s) ⌝ }
     ensures { λ r. ⌜ r ≡ indexOf key (fields 8 (now (s .entry)) from n) ⌝ }
 {

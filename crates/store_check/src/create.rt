@@ -1,0 +1,34 @@
+// A fresh store.
+use store::head::numbers_right;
+use store::head::store_size;
+use rules::Verdict;
+ghost use mathlib.Core.Path.{_≡_};
+ghost use lib.ListN.{length, replicate};
+ghost use Rattle.store.specs.Created.{Created};
+
+// Makes every byte zero.
+fn clear(s: &mut [u8])
+    ensures { λ _. ⌜ now (s .exit) ≡ replicate (length (now (s .entry))) 0 ⌝ }
+{
+    let mut i = 0;
+    while i < s.len() {
+        s[i] = 0;
+        i += 1;
+    }
+}
+
+// Writes a fresh store of `parts` partitions and the book, of `cap` rows each. Refused, it leaves the bytes.
+pub fn create(s: &mut [u8], parts: usize, cap: usize) -> Verdict
+    ensures { λ r. ⌜ Created (now (s .entry)) (now (s .exit)) parts cap r ⌝ }
+{
+    if !numbers_right(parts, cap) {
+        return rules::refused(9, 0, 0);
+    }
+    if s.len() != store_size(parts, cap) {
+        return rules::refused(10, 0, 0);
+    }
+    clear(s);
+    s[0] = parts as u8;
+    words::write16(s, 1, cap as u16);
+    rules::accepted()
+}
