@@ -33,12 +33,12 @@ use Rattle.listing.specs.Store.{storeText}
 use Rattle.meaning.specs.Carried.{Carried}
 use Rattle.chain.specs.Chain.{Event, Chain, begins, goes-on}
 use Rattle.chain.proofs.Theorem.{sized}
-use Rattle.schedule.specs.Layout.{eventCount}
-use Rattle.schedule.specs.Questions.{Laid, question22, question23, bytesRefusal, Allowed, scheduleRefusal}
+use Rattle.schedule_check.specs.Layout.{eventCount}
+use Rattle.schedule_check.specs.Questions.{Laid, question22, question23, bytesRefusal, Allowed, scheduleRefusal}
 use Rattle.schedule.specs.Events.{callAt, callsOf}
 use Rattle.schedule.specs.Run.{madeIn, answerLines, Ran, Run, Printed}
 use Rattle.schedule.specs.Going.{Going, Went}
-use Rattle.schedule.proofs.Steps.{laid}
+use Rattle.schedule_check.proofs.Steps.{laid}
 
 -- ---- what is allowed
 

@@ -13,8 +13,8 @@ use Rattle.rules.proofs.Each.{each-at}
 use Rattle.agents.specs.declared.Agent.{Agent}
 use Rattle.agents.specs.declared.Answer.{Answer}
 use Rattle.meaning.specs.Carried.{Carried}
-use Rattle.schedule.specs.Layout.{requestCount, eventCount, idOf, workflowOf, argumentsOf, kindAt, slotAt}
-use Rattle.schedule.specs.Questions.{eventRight, rightAt, question23}
+use Rattle.schedule_check.specs.Layout.{requestCount, eventCount, idOf, workflowOf, argumentsOf, kindAt, slotAt}
+use Rattle.schedule_check.specs.Questions.{eventRight, rightAt, question23}
 use Rattle.schedule.specs.Events.{callOf, callAt}
 
 -- a call that is the same

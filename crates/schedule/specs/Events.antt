@@ -4,7 +4,7 @@ use Prim.Native.Nat.{ℕ, zero, suc}
 use lib.Dec.{eqb}
 use Rattle.rules.specs.Basics.{if_then_else_}
 use Rattle.rules.specs.Calls.{Call, arrival, retry, turn, crash, restart}
-use Rattle.schedule.specs.Layout.{idOf, workflowOf, argumentsOf, kindAt, slotAt, indexAt}
+use Rattle.schedule_check.specs.Layout.{idOf, workflowOf, argumentsOf, kindAt, slotAt, indexAt}
 
 -- The call of an event: 0 arrival, 1 turn, 2 crash, 3 retry, 4 restart. The slot is not read for a restart.
 unfoldable pub callOf : (schedule : List ℕ) → (kind slot request : ℕ) → Call

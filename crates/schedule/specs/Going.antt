@@ -4,7 +4,7 @@ use Prim.Native.Nat.{ℕ}
 use Rattle.agents.specs.declared.Agent.{Agent}
 use Rattle.text.specs.Text.{Appended}
 use Rattle.chain.specs.Chain.{Event}
-use Rattle.schedule.specs.Layout.{eventCount}
+use Rattle.schedule_check.specs.Layout.{eventCount}
 use Rattle.schedule.specs.Run.{answerLines, Ran}
 
 -- the first i events were run, and their answers printed

@@ -1,5 +1,3 @@
-pub mod Layout
-pub mod Questions
 pub mod Events
 pub mod Run
 pub mod Going

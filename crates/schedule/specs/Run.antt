@@ -12,8 +12,8 @@ use Rattle.agents.specs.Answers.{answerOf}
 use Rattle.listing.specs.Lines.{eventsLine, refusedLine, answerLine}
 use Rattle.listing.specs.Store.{storeText}
 use Rattle.chain.specs.Chain.{Event, Chain}
-use Rattle.schedule.specs.Layout.{eventCount}
-use Rattle.schedule.specs.Questions.{scheduleRefusal}
+use Rattle.schedule_check.specs.Layout.{eventCount}
+use Rattle.schedule_check.specs.Questions.{scheduleRefusal}
 use Rattle.schedule.specs.Events.{callsOf}
 
 -- the calls that were made, the latest first

@@ -6,8 +6,8 @@ ghost use mathlib.Core.Path.{_≡_};
 ghost use Prim.Native.Nat.{_<_};
 ghost use Rattle.rules.specs.Calls.{Call};
 ghost use Rattle.meaning.specs.Carried.{Carried};
-ghost use Rattle.schedule.specs.Layout.{requestCount, eventCount, idOf, workflowOf, argumentsOf};
-ghost use Rattle.schedule.specs.Questions.{Laid, Allowed, eventRight};
+ghost use Rattle.schedule_check.specs.Layout.{requestCount, eventCount, idOf, workflowOf, argumentsOf};
+ghost use Rattle.schedule_check.specs.Questions.{Laid, Allowed, eventRight};
 ghost use Rattle.schedule.specs.Events.{callOf, callAt};
 
 // The arrival of request `r`.

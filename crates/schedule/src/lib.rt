@@ -1,4 +1,3 @@
-// A schedule of calls: its questions, its run, and what is printed.
+// The run of a schedule of calls, and what is printed.
 pub mod calls;
-pub mod check;
 pub mod run;

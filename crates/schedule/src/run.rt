@@ -1,7 +1,7 @@
 // The run of a schedule, printed into a buffer that the caller lends, on a store in another.
 use crate::calls::call_event;
-use crate::check::check_schedule;
 use rules::Verdict;
+use schedule_check::check_schedule;
 ghost use mathlib.Core.List.{[]};
 ghost use mathlib.Core.Path.{_≡_};
 ghost use Prim.Native.Nat.{_+_, _*_, _≤_};
@@ -9,7 +9,7 @@ ghost use lib.ListN.{length, take, replicate};
 ghost use Rattle.store.specs.Layout.{partsOf, capOf, sizeOf};
 ghost use Rattle.agents.specs.Slots.{noAgent};
 ghost use Rattle.chain.specs.Chain.{Chain};
-ghost use Rattle.schedule.specs.Questions.{Allowed};
+ghost use Rattle.schedule_check.specs.Questions.{Allowed};
 ghost use Rattle.schedule.specs.Run.{Run, Printed};
 ghost use Rattle.schedule.specs.Going.{Went};
 
@@ -46,28 +46,12 @@ fn run_on(pack: &[u8], s: &[u8], store: &mut [u8], out: &mut [u8]) -> usize
     listing::rows::print_store(store, out, b)
 }
 
-// A product of small numbers.
-fn times(a: usize, b: usize) -> usize
-    requires { ⌜ (a ≤ 9) × (b ≤ 256) ⌝ }
-    ensures { λ r. ⌜ (r ≡ a * b) × (r ≤ 2304) ⌝ }
-{
-    a * b
-}
-
-// The length of a store.
-fn store_size(parts: usize, cap: usize) -> usize
-    requires { ⌜ (parts ≤ 8) × (cap ≤ 256) ⌝ }
-    ensures { λ r. ⌜ r ≡ sizeOf parts cap ⌝ }
-{
-    3 + 2 * (parts + 1) + 12 * times(parts + 1, cap)
-}
-
 // The run on the first bytes of a buffer.
 fn run_in(pack: &[u8], s: &[u8], store: &mut [u8], out: &mut [u8]) -> usize
     requires { ⌜ Allowed (now s) × (27669 ≤ length (now store)) × (524288 ≤ length (now out)) ⌝ }
     ensures { λ r. ⌜ Run (now (pack .entry)) (now (s .entry)) (take r (now (out .exit))) × (r ≤ length (now (out .exit))) ⌝ }
 {
-    let size = store_size(store::head::partition_count(s), store::head::capacity(s));
+    let size = store::head::store_size(store::head::partition_count(s), store::head::capacity(s));
     run_on(pack, s, &mut store[..size], out)
 }
 

@@ -1,7 +1,7 @@
 // A fresh store.
+use rules::Verdict;
 use store::head::numbers_right;
 use store::head::store_size;
-use rules::Verdict;
 ghost use mathlib.Core.Path.{_≡_};
 ghost use lib.ListN.{length, replicate};
 ghost use Rattle.store.specs.Created.{Created};

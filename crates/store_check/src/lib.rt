@@ -1,5 +1,7 @@
 // Questions 9 to 12, put to any bytes; and a fresh store.
 pub mod create;
+
+use rules::Verdict;
 use store::head::capacity;
 use store::head::key_place;
 use store::head::numbers_right;
@@ -8,7 +10,6 @@ use store::head::store_size;
 use store::head::used_count;
 use store::head::value_place;
 use store::rows::seek;
-use rules::Verdict;
 ghost use mathlib.Core.Bool.{true};
 ghost use mathlib.Core.Path.{_≡_};
 ghost use Prim.Native.Nat.{_+_, _-_, _*_, _%_, _^_, _≤_, _<_};

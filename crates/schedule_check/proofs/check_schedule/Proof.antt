@@ -1,10 +1,10 @@
--- `schedule::check::check_schedule` meets its contract: the pack's no, or the schedule's. Assumes nothing.
+-- `schedule_check::check_schedule` meets its contract: the pack's no, or the schedule's. Assumes nothing.
 use mathlib.Core.Path.{_∙_}
 use borrow.Author.Needs.{needs}
-use Rattle.schedule.specs.Questions.{scheduleRefusal}
-use Rattle.schedule.proofs.Steps.{then-accepted, then-refused}
-use Rattle.schedule.proofs.check.check_schedule.Statement.{statement}
-use Rattle.schedule.proofs.check.check_schedule.Tie as tie
+use Rattle.schedule_check.specs.Questions.{scheduleRefusal}
+use Rattle.schedule_check.proofs.Steps.{then-accepted, then-refused}
+use Rattle.schedule_check.proofs.check_schedule.Statement.{statement}
+use Rattle.schedule_check.proofs.check_schedule.Tie as tie
 
 pub check-schedule-spec : {M : Type 1} → statement M
 unfolding scheduleRefusal

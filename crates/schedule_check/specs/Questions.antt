@@ -11,7 +11,7 @@ use Rattle.rules.specs.Questions.{No, number, ask, orElse}
 use Rattle.pack.specs.Refusal.{packRefusal}
 use Rattle.store.specs.Layout.{partsOf, capOf}
 use Rattle.store.specs.Questions.{numbersRight, question9}
-use Rattle.schedule.specs.Layout.{requestCount, eventCount, lengthFor, kindAt, indexAt}
+use Rattle.schedule_check.specs.Layout.{requestCount, eventCount, lengthFor, kindAt, indexAt}
 
 -- 22. Is the length 6 + 24g + 2e, within limits: g at most 64, e at most 1,024? (No file of fewer than six bytes has that length.)
 unfoldable pub question22 : (schedule : List ℕ) → Bool

@@ -1,13 +1,13 @@
--- `schedule::check::check_bytes` meets its contract, question by question. Assumes nothing.
+-- `schedule_check::check_bytes` meets its contract, question by question. Assumes nothing.
 use mathlib.Core.Path.{_≡_, sym, _∙_}
 use Prim.Native.Nat.{_≤_}
 use native.Mathlib.Omega.{arith}
 use borrow.Author.Needs.{needs}
 use borrow.Author.Tests.{not-false}
 use lib.ListN.{length}
-use Rattle.schedule.proofs.Steps.{laid, no-22, no-23, no-9, no-no}
-use Rattle.schedule.proofs.check.check_bytes.Statement.{statement}
-use Rattle.schedule.proofs.check.check_bytes.Tie as tie
+use Rattle.schedule_check.proofs.Steps.{laid, no-22, no-23, no-9, no-no}
+use Rattle.schedule_check.proofs.check_bytes.Statement.{statement}
+use Rattle.schedule_check.proofs.check_bytes.Tie as tie
 
 -- behind a yes to 22 there are three bytes
 long : (c : tie.After-events-right) → 3 ≤ length (c .before .before .before .before .args .s .now)

@@ -1,4 +1,4 @@
--- `schedule::check::events_right` meets its contract. The loop's invariant: the events that are left answer the whole. Assumes nothing.
+-- `schedule_check::events_right` meets its contract. The loop's invariant: the events that are left answer the whole. Assumes nothing.
 use mathlib.Core.Path.{_≡_, refl, sym, ap, _∙_}
 use Prim.Native.Nat.{_-_, _≤_}
 use native.Mathlib.Nat.{sub-zero}
@@ -6,10 +6,10 @@ use native.Mathlib.Omega.{arith}
 use borrow.Author.Needs.{needs}
 use Rattle.rules.specs.Basics.{eachFrom}
 use Rattle.rules.proofs.Each.{each-none, each-more, each-fails}
-use Rattle.schedule.specs.Questions.{rightAt, question23}
-use Rattle.schedule.proofs.Steps.{event-right, event-wrong}
-use Rattle.schedule.proofs.check.events_right.Statement.{statement}
-use Rattle.schedule.proofs.check.events_right.Tie as tie
+use Rattle.schedule_check.specs.Questions.{rightAt, question23}
+use Rattle.schedule_check.proofs.Steps.{event-right, event-wrong}
+use Rattle.schedule_check.proofs.events_right.Statement.{statement}
+use Rattle.schedule_check.proofs.events_right.Tie as tie
 
 abbrev Inv-loop : tie.InvT-loop
 Inv-loop s g e kinds indexes i₀ i = (i ≤ e) × (eachFrom (rightAt s) (e - i) i ≡ question23 s)

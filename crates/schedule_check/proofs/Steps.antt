@@ -15,8 +15,8 @@ use Rattle.rules.specs.declared.Verdict.the-variants.{Accepted, Refused}
 use Rattle.rules.proofs.Tests.{and-left, and-right}
 use Rattle.store.specs.Layout.{partsOf, capOf}
 use Rattle.store.specs.Questions.{numbersRight, question9}
-use Rattle.schedule.specs.Layout.{requestCount, eventCount, lengthFor}
-use Rattle.schedule.specs.Questions.{Laid, question22, eventRight, rightAt, question23, bytesRefusal}
+use Rattle.schedule_check.specs.Layout.{requestCount, eventCount, lengthFor}
+use Rattle.schedule_check.specs.Questions.{Laid, question22, eventRight, rightAt, question23, bytesRefusal}
 
 -- the test that the code makes of event i, g and e read before
 module _ (s : List ℕ) (g e i : ℕ) (r : Bool) (is-g : g ≡ requestCount s) (is-e : e ≡ eventCount s)

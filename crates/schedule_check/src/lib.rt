@@ -2,8 +2,7 @@
 use rules::Verdict;
 ghost use mathlib.Core.Path.{_≡_};
 ghost use Rattle.rules.specs.Verdicts.{verdictOf};
-ghost use Rattle.store.specs.Questions.{numbersRight};
-ghost use Rattle.schedule.specs.Questions.{eventRight, Laid, question22, question23, bytesRefusal, scheduleRefusal};
+ghost use Rattle.schedule_check.specs.Questions.{eventRight, Laid, question22, question23, bytesRefusal, scheduleRefusal};
 
 // Is an event's kind at most 4, and its index right for it? There are `g` requests.
 fn event_right(g: u8, kind: u8, index: u8) -> bool
@@ -58,22 +57,6 @@ fn events_right(s: &[u8]) -> bool
     true
 }
 
-// Is P 1 to 8, and C 5 to 256?
-fn numbers_right(parts: usize, cap: usize) -> bool
-    ensures { λ r. ⌜ r ≡ numbersRight parts cap ⌝ }
-{
-    if parts < 1 {
-        return false;
-    }
-    if 8 < parts {
-        return false;
-    }
-    if cap < 5 {
-        return false;
-    }
-    cap <= 256
-}
-
 // Questions 22, 23 and 9 of a schedule.
 fn check_bytes(s: &[u8]) -> Verdict
     ensures { λ r. ⌜ r ≡ verdictOf (bytesRefusal (now (s .entry))) ⌝ }
@@ -84,7 +67,7 @@ fn check_bytes(s: &[u8]) -> Verdict
     if !events_right(s) {
         return rules::refused(23, 0, 0);
     }
-    if !numbers_right(store::head::partition_count(s), store::head::capacity(s)) {
+    if !store::head::numbers_right(store::head::partition_count(s), store::head::capacity(s)) {
         return rules::refused(9, 0, 0);
     }
     rules::accepted()

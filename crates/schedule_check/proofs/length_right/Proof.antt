@@ -1,9 +1,9 @@
--- `schedule::check::length_right` meets its contract, by the tests that led to each return. Assumes nothing.
+-- `schedule_check::length_right` meets its contract, by the tests that led to each return. Assumes nothing.
 use native.Mathlib.Omega.{arith}
 use borrow.Author.Needs.{needs}
-use Rattle.schedule.proofs.Steps.{not-laid, laid-as}
-use Rattle.schedule.proofs.check.length_right.Statement.{statement}
-use Rattle.schedule.proofs.check.length_right.Tie as tie
+use Rattle.schedule_check.proofs.Steps.{not-laid, laid-as}
+use Rattle.schedule_check.proofs.length_right.Statement.{statement}
+use Rattle.schedule_check.proofs.length_right.Tie as tie
 
 pub length-right-spec : {M : Type 1} → statement M
 length-right-spec =

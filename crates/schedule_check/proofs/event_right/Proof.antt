@@ -1,8 +1,8 @@
--- `schedule::check::event_right` meets its contract, by the tests that led to each return. Assumes nothing.
+-- `schedule_check::event_right` meets its contract, by the tests that led to each return. Assumes nothing.
 use borrow.Author.Tests.{lt-leb, le-leb, eq-eqb, ne-eqb}
-use Rattle.schedule.specs.Questions.{eventRight}
-use Rattle.schedule.proofs.check.event_right.Statement.{statement}
-use Rattle.schedule.proofs.check.event_right.Tie as tie
+use Rattle.schedule_check.specs.Questions.{eventRight}
+use Rattle.schedule_check.proofs.event_right.Statement.{statement}
+use Rattle.schedule_check.proofs.event_right.Tie as tie
 
 ruleset tests = (lt-leb, le-leb, eq-eqb, ne-eqb)
 
