@@ -13,7 +13,7 @@ use Rattle.rules.specs.Blocks.{Work, Block, close, within, runFrom}
 use Rattle.rules.specs.Instructions as Instructions
 use Rattle.rules.specs.Blocks as Blocks
 use Rattle.rules.specs.Checked.{Stands, Checked}
-use Rattle.pack.specs.Questions.{stands}
+use Rattle.code.specs.Questions.{stands}
 
 pub past : (code : Code) (w : Work) (n : ℕ) → length code ≤ w .place .position → runFrom code n w ≡ close w 0
 unfolding Blocks.runFrom Instructions.actAt Instructions.act Blocks.within

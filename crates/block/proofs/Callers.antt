@@ -22,13 +22,14 @@ use Rattle.store.specs.Rows.{Row, rowsOf}
 use Rattle.store.specs.Layout.{partsOf, capOf}
 use Rattle.store.specs.Sound.{Sound}
 use Rattle.operation.specs.Operations.{begin}
-use Rattle.pack.specs.Layout.{count, operationsOf, operandsOf, operationAt, wordAt}
+use Rattle.code.specs.Layout.{operationAt, wordAt}
+use Rattle.code.specs.Meaning.{codeOf}
+use Rattle.code.specs.Meaning as Meaning
+use Rattle.code.proofs.Decoded.{instruction-at}
+use Rattle.pack.specs.Layout.{count, operationsOf, operandsOf}
 use Rattle.pack.specs.Refusal.{packRefusal}
-use Rattle.pack.specs.Meaning.{codeOf}
-use Rattle.pack.specs.Meaning as Meaning
 use Rattle.pack.proofs.Sizes.{length-operations, length-operands}
 use Rattle.pack.proofs.Laws.{accepted-laid, accepted-workflow}
-use Rattle.pack.proofs.Decoded.{instruction-at}
 use Rattle.block.specs.declared.write.BlockOutcome.{BlockOutcome}
 use Rattle.block.specs.declared.write.BlockOutcome.the-variants.{Result, NoRoom}
 use Rattle.block.specs.Run.{Right}

@@ -12,10 +12,10 @@ use lib.Seq.{drop-cons}
 use Rattle.rules.specs.Instructions.{RETURN, instructionAt}
 use Rattle.rules.specs.Blocks.{isEnd, throughEnd, behindEnd}
 use Rattle.operation.specs.Operations.{end}
-use Rattle.pack.specs.Layout.{operationAt, registerAt, wordAt}
-use Rattle.pack.specs.Meaning.{decode, codeOf}
-use Rattle.pack.specs.Meaning as Meaning
-use Rattle.pack.proofs.Decoded.{by-operation, length-code, instruction-at}
+use Rattle.code.specs.Layout.{operationAt, registerAt, wordAt}
+use Rattle.code.specs.Meaning.{decode, codeOf}
+use Rattle.code.specs.Meaning as Meaning
+use Rattle.code.proofs.Decoded.{by-operation, length-code, instruction-at}
 
 is-end : (op d w : ℕ) → isEnd (decode op d w) ≡ eqb op end
 unfolding Meaning.decode

@@ -19,13 +19,13 @@ use Rattle.operation.specs.declared.Operand.the-variants.{Jump}
 use Rattle.operation.specs.Parts.{sourceOf, targetOf}
 use Rattle.operation.specs.Operations.{begin, end, put, return, operandOf}
 use Rattle.operation.specs.Operations as Operations
-use Rattle.pack.specs.Layout.{operationAt, wordAt}
-use Rattle.pack.specs.Questions.{insideAt, putsBefore, inRange, isNoEnd, question6}
-use Rattle.pack.specs.Questions as Questions
-use Rattle.pack.specs.Refusal.{instructionNo}
-use Rattle.pack.proofs.Judged.{yes-5, yes-6, yes-7, operand-ranged, stood, lands-right, counted-put}
-use Rattle.pack.proofs.Steps.{stays-inside, puts-next}
-use Rattle.pack.proofs.Decoded.{by-operation, right-at, operation-known}
+use Rattle.code.specs.Layout.{operationAt, wordAt}
+use Rattle.code.specs.Questions.{insideAt, putsBefore, inRange, isNoEnd, question6}
+use Rattle.code.specs.Questions as Questions
+use Rattle.code.specs.Refusal.{instructionNo}
+use Rattle.code.proofs.Judged.{yes-5, yes-6, yes-7, operand-ranged, stood, lands-right, counted-put}
+use Rattle.code.proofs.Steps.{stays-inside, puts-next}
+use Rattle.code.proofs.Decoded.{by-operation, right-at, operation-known}
 use Rattle.instruction.specs.Step.{putsOf, Sourced, Fits}
 use Rattle.block.specs.Run.{Right, Inside}
 use Rattle.instruction.specs.declared.Running.{Running}

@@ -21,13 +21,13 @@ use Rattle.operation.specs.declared.Operand.the-variants.{Jump}
 use Rattle.operation.specs.Parts.{sourceOf, targetOf}
 use Rattle.operation.specs.Operations.{begin, end, return, operandOf}
 use Rattle.operation.specs.Operations as Operations
-use Rattle.pack.specs.Layout.{operationAt, wordAt, registerAt}
-use Rattle.pack.specs.Questions.{insideAt, putsBefore}
-use Rattle.pack.specs.Meaning.{decode, instructionOf, codeOf}
-use Rattle.pack.specs.Meaning as Meaning
-use Rattle.pack.proofs.Judged.{target-ahead, target-below}
-use Rattle.pack.proofs.Steps.{begins}
-use Rattle.pack.proofs.Decoded.{by-operation, length-code, instruction-at, checked-code}
+use Rattle.code.specs.Layout.{operationAt, wordAt, registerAt}
+use Rattle.code.specs.Questions.{insideAt, putsBefore}
+use Rattle.code.specs.Meaning.{decode, instructionOf, codeOf}
+use Rattle.code.specs.Meaning as Meaning
+use Rattle.code.proofs.Judged.{target-ahead, target-below}
+use Rattle.code.proofs.Steps.{begins}
+use Rattle.code.proofs.Decoded.{by-operation, length-code, instruction-at, checked-code}
 use Rattle.instruction.specs.Pending.{over, seen, rowsIn, newIn, Kept}
 use Rattle.instruction.specs.Step.{placeOf, workOf, Stepped, putsOf}
 use Rattle.block.specs.Run.{blockOf, runOf, Right, Inside}

@@ -8,9 +8,9 @@ use lib.ListN.{length}
 use Rattle.rules.specs.Blocks.{Block, runFrom}
 use Rattle.rules.specs.Keys.{tableOf}
 use Rattle.store.specs.Rows.{Row}
-use Rattle.pack.specs.Questions.{insideAt, putsBefore}
-use Rattle.pack.specs.Refusal.{codeNo}
-use Rattle.pack.specs.Meaning.{codeOf}
+use Rattle.code.specs.Questions.{insideAt, putsBefore}
+use Rattle.code.specs.Refusal.{codeNo}
+use Rattle.code.specs.Meaning.{codeOf}
 use Rattle.instruction.specs.declared.Running.{Running}
 use Rattle.instruction.specs.Pending.{seen, rowsIn, newIn, Kept}
 use Rattle.instruction.specs.Step.{workOf}

@@ -14,8 +14,8 @@ use Rattle.store.specs.Rows.{Row, lookup, rowsOf}
 use Rattle.store.specs.Layout.{partsOf, capOf}
 use Rattle.store.specs.Sound.{Sound}
 use Rattle.operation.specs.Operations as Operations
-use Rattle.pack.specs.Layout.{operationAt}
-use Rattle.pack.specs.Meaning.{codeOf}
+use Rattle.code.specs.Layout.{operationAt}
+use Rattle.code.specs.Meaning.{codeOf}
 use Rattle.block.specs.declared.write.BlockOutcome.{BlockOutcome}
 use Rattle.block.specs.declared.write.BlockOutcome.the-variants.{Result, NoRoom}
 use Rattle.block.specs.Run.{Right}

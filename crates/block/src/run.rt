@@ -4,7 +4,7 @@ ghost use mathlib.Core.Path.{_≡_};
 ghost use Prim.Native.Nat.{ℕ, _+_, _*_, _≤_, _<_};
 ghost use lib.ListN.{length};
 ghost use Rattle.rules.specs.Blocks.{behindEnd};
-ghost use Rattle.pack.specs.Meaning.{codeOf};
+ghost use Rattle.code.specs.Meaning.{codeOf};
 ghost use Rattle.store.specs.Rows.{rowsOf};
 ghost use Rattle.store.specs.Layout.{partsOf};
 ghost use Rattle.store.specs.Sound.{Sound};
@@ -41,7 +41,7 @@ fn run_on(ops: &[u8], operands: &[u8], store: &[u8], partition: usize, start: Ru
                 pending,
             };
         }
-        let w = pack::word_in(operands, at);
+        let w = code::word_in(operands, at);
         x = step(store, partition, x, b, w);
     }
     let pending = x.pending;

@@ -19,8 +19,8 @@ use Rattle.rules.proofs.Keys.{data-put}
 use Rattle.store.specs.Rows.{Row, putRow, countNew, keysIn}
 use Rattle.operation.specs.Parts.{operationOf, registerOf, sourceOf, targetOf}
 use Rattle.operation.specs.Operations.{get, put, has}
-use Rattle.pack.specs.Meaning.{decode, instructionOf}
-use Rattle.pack.specs.Meaning as Meaning
+use Rattle.code.specs.Meaning.{decode, instructionOf}
+use Rattle.code.specs.Meaning as Meaning
 use Rattle.instruction.specs.Pending.{seen, rowsIn, Kept}
 use Rattle.instruction.specs.Step.{placeOf, workOf, Stepped, putsOf, sourceBy, Sourced}
 use Rattle.instruction.specs.declared.pending.Pending.{Pending}

@@ -7,7 +7,7 @@ ghost use Prim.Native.Nat.{_+_, _%_, _^_, _≤_, _<_};
 ghost use Rattle.rules.specs.Basics.{if_then_else_};
 ghost use Rattle.rules.specs.Instructions.{moves, act, next, goto, becomes, Instruction};
 ghost use Rattle.operation.specs.Parts.{operationOf};
-ghost use Rattle.pack.specs.Meaning.{decode, instructionOf};
+ghost use Rattle.code.specs.Meaning.{decode, instructionOf};
 ghost use Rattle.store.specs.Rows.{Row, rowsOf};
 ghost use Rattle.store.specs.Layout.{partsOf};
 ghost use Rattle.store.specs.Sound.{Sound};

@@ -19,13 +19,15 @@ use Rattle.rules.specs.Calls as Rules
 use Rattle.rules.specs.Demand3.{SoundAgent}
 use Rattle.rules.proofs.Updates.{none-some, false-true}
 use Rattle.words.specs.Words.{le}
-use Rattle.pack.specs.Layout.{count, sizeOf, firstOf, total, operationByte, operandWord, operationsOf, operandsOf, operationAt}
-use Rattle.pack.specs.Questions.{insideAt}
+use Rattle.code.specs.Layout.{operationAt}
+use Rattle.code.specs.Questions.{insideAt}
+use Rattle.code.specs.Meaning.{decode}
+use Rattle.code.proofs.Decoded.{by-operation, operation-known, side-known}
+use Rattle.pack.specs.Layout.{count, sizeOf, firstOf, total, operationByte, operandWord, operationsOf, operandsOf}
 use Rattle.pack.specs.Refusal.{packRefusal}
-use Rattle.pack.specs.Meaning.{decode, packOf}
+use Rattle.pack.specs.Meaning.{packOf}
 use Rattle.pack.proofs.Sizes.{within, length-operations}
 use Rattle.rules.proofs.Tests.{and-left, and-right}
-use Rattle.pack.proofs.Decoded.{by-operation, operation-known, side-known}
 use Rattle.pack.proofs.Laws.{workflow-at, byte-at, accepted-laid, accepted-workflow, length-workflow, instruction-in}
 use Rattle.store.specs.Rows.{lookup}
 use Rattle.store.specs.Layout.{partsOf}

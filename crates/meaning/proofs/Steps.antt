@@ -12,9 +12,9 @@ use lib.ListN.{length, getD}
 use Rattle.rules.specs.Basics.{if_then_else_, each, eachFrom}
 use Rattle.rules.specs.Keys.{bookKey}
 use Rattle.words.specs.Words.{le}
+use Rattle.code.specs.Questions.{insideAt}
 use Rattle.pack.specs.Layout.{count, sizeOf, total, operationsOf}
 use Rattle.pack.specs.Laid.{Laid}
-use Rattle.pack.specs.Questions.{insideAt}
 use Rattle.pack.proofs.Sizes.{length-operations}
 use Rattle.rules.proofs.Tests.{and-left, and-right}
 use Rattle.store.specs.Rows.{Row, lookup, rowsOf}

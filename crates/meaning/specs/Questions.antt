@@ -10,8 +10,8 @@ use Rattle.rules.specs.Basics.{if_then_else_, each}
 use Rattle.rules.specs.Questions.{No, number, ask, orElse}
 use Rattle.rules.specs.Store.{Request}
 use Rattle.rules.specs.Calls.{Call, arrival, retry, turn, crash, restart, stopped, refusal}
+use Rattle.code.specs.Questions.{insideAt}
 use Rattle.pack.specs.Layout.{count, sizeOf, total, operationsOf}
-use Rattle.pack.specs.Questions.{insideAt}
 use Rattle.pack.specs.Refusal.{packRefusal}
 use Rattle.pack.specs.Meaning.{packOf}
 use Rattle.store.specs.Rows.{Row, rowsOf}

@@ -136,7 +136,7 @@ fn sound(pack: &[u8], store: &[u8], a: Agent) -> bool
             if ops.len() <= at {
                 return false;
             }
-            if pack::is_inside(ops, 0, at) {
+            if code::is_inside(ops, 0, at) {
                 return false;
             }
             a.step <= a.position

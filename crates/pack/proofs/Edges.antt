@@ -12,9 +12,11 @@ use Rattle.rules.specs.Questions.{no, number, ask, orElse, firstNo}
 use Rattle.rules.specs.Instructions.{ADD, SUB, Place, moves, act}
 use Rattle.rules.specs.Keys.{dataKey, logKey, bookKey}
 use Rattle.operation.specs.Operations.{sideOf, operandOf, fixedOf}
+use Rattle.code.specs.Questions.{legal, question4, inRange, registerRight, question5, insideAt, stands, isNoEnd, landsFrom, lands, question6, putsBefore, counted, question7, question8}
+use Rattle.code.specs.Refusal.{instructionNo, codeNo}
 use Rattle.pack.specs.Layout.{firstOf, operationsOf, operandsOf}
-use Rattle.pack.specs.Questions.{question1, sizeRight, question2, question3, legal, question4, inRange, registerRight, question5, insideAt, stands, isNoEnd, landsFrom, lands, question6, putsBefore, counted, question7, question8}
-use Rattle.pack.specs.Refusal.{layoutNo, instructionNo, codeNo, packRefusal}
+use Rattle.pack.specs.Questions.{question1, sizeRight, question2, question3}
+use Rattle.pack.specs.Refusal.{layoutNo, packRefusal}
 
 -- 01 01 00, an operation byte, 00 00 00 00: one workflow of one instruction with operand 0
 abbrev single : (byte : ℕ) → List ℕ

@@ -12,14 +12,17 @@ use Rattle.words.proofs.Laws.{le-lt}
 use Rattle.rules.specs.Instructions.{BEGIN, instructionAt}
 use Rattle.rules.specs.Checked.{CheckedPack, Checked}
 use Rattle.rules.proofs.Questions.{orElse-none}
-use Rattle.pack.specs.Layout.{count, sizeOf, operationsAt, operandsAt, operationByte, operandWord, operationsOf, operandsOf, wordAt}
+use Rattle.rules.proofs.Chains.{each-yes}
+use Rattle.code.specs.Layout.{wordAt}
+use Rattle.code.specs.Refusal.{instructionNo}
+use Rattle.code.specs.Meaning.{instructionOf, codeOf, Bounded}
+use Rattle.code.proofs.Decoded.{length-listOf, getD-listOf, length-code, instruction-at, right-at, checked-code, bounded-at}
+use Rattle.pack.specs.Layout.{count, sizeOf, operationsAt, operandsAt, operationByte, operandWord, operationsOf, operandsOf}
 use Rattle.pack.specs.Laid.{Laid}
-use Rattle.pack.specs.Refusal.{instructionNo, workflowNo, packRefusal}
-use Rattle.pack.specs.Meaning.{instructionOf, codeOf, packOf, Bounded}
-use Rattle.pack.proofs.Chains.{each-yes}
+use Rattle.pack.specs.Refusal.{workflowNo, packRefusal}
+use Rattle.pack.specs.Meaning.{packOf}
 use Rattle.pack.proofs.Sizes.{length-operations}
 use Rattle.pack.proofs.Workflows.{pack-laid}
-use Rattle.pack.proofs.Decoded.{length-listOf, getD-listOf, length-code, instruction-at, right-at, checked-code, bounded-at}
 
 -- a number in a part of a list
 le-part : (n k a : ℕ) (xs : List ℕ) (at : ℕ) → at + n ≤ k → le n (take k (drop a xs)) at ≡ le n xs (a + at)

@@ -1,36 +1,24 @@
--- From an instruction's no to a workflow's, to a pack's and to an opening's. Assumes nothing.
-use mathlib.Core.Path.{_≡_, refl, _∙_, ap}
+-- From a workflow's no to a pack's and to an opening's. Assumes nothing.
+use mathlib.Core.Path.{_≡_, refl, _∙_}
 use mathlib.Core.Bool.{Bool, true, false}
 use mathlib.Core.List.{List, []}
 use mathlib.Core.Option.{Option, none, some}
-use Prim.Native.Nat.{ℕ, _+_, _-_, _*_, _≤_, _<_}
+use Prim.Native.Nat.{ℕ, _+_, _*_, _≤_, _<_}
 use native.Mathlib.Omega.{arith}
 use borrow.Author.Tests.{ltb-true, lt-ltb, le-ltb}
-use lib.ListN.{length, take, drop}
+use lib.ListN.{take, drop}
 use Rattle.rules.specs.declared.Verdict.{Verdict}
 use Rattle.rules.specs.declared.Verdict.the-variants.{Accepted, Refused}
-use Rattle.rules.specs.Questions.{No, no, number, ask, firstNo}
+use Rattle.rules.specs.Questions.{No, number, ask, firstNo}
 use Rattle.rules.specs.Verdicts.{verdictOf}
 use Rattle.rules.proofs.Questions.{ask-none, orElse-none}
+use Rattle.rules.proofs.Chains.{or-yes, accepted, refused-first}
+use Rattle.code.specs.Refusal.{codeNo}
 use Rattle.pack.specs.Layout.{count, sizeOf, firstOf, total, operationsOf, operandsOf}
 use Rattle.pack.specs.Laid.{Laid}
-use Rattle.pack.specs.Questions.{question8, question17}
-use Rattle.pack.specs.Refusal.{instructionNo, codeNo, workflowNo, layoutNo, packRefusal, openRefusal, opened}
-use Rattle.pack.proofs.Chains.{or-yes, accepted, refused-first, first-all}
+use Rattle.pack.specs.Questions.{question17}
+use Rattle.pack.specs.Refusal.{workflowNo, layoutNo, packRefusal, openRefusal, opened}
 use Rattle.pack.proofs.Sizes.{laid}
-
--- the walk from the start, then 8
-module _ (w : ℕ) (ops ws : List ℕ) (v : Verdict) (p : v ≡ verdictOf (firstNo (instructionNo w ops ws) (length ops - 0) 0)) where
-  walked : v ≡ verdictOf (firstNo (instructionNo w ops ws) (length ops) 0)
-  walked = p ∙ ap verdictOf (first-all (instructionNo w ops ws) (length ops))
-
-  pub code-refused : (q w′ i : ℕ) → v ≡ Refused q w′ i → v ≡ verdictOf (codeNo w ops ws)
-  unfolding codeNo
-  code-refused q w′ i r = refused-first v _ _ q w′ i walked r
-
-  pub code-walked : (t : Bool) → v ≡ Accepted → question8 ops ≡ t → codeNo w ops ws ≡ ask (no 8 w (length ops - 1)) t none
-  unfolding codeNo
-  code-walked t a e = or-yes _ _ (accepted v _ walked a) ∙ rw e
 
 -- the parts in hand are the workflow's, `first` being the number of instructions before it
 module _ (p : List ℕ) (w first size : ℕ) (e : first ≡ firstOf p w) (s : size ≡ sizeOf p w) where

@@ -4,7 +4,6 @@ use mathlib.Core.List.{List}
 use Prim.Native.Nat.{ℕ, zero, suc, _+_, _*_}
 use lib.ListN.{getD, take, drop}
 use Rattle.words.specs.Words.{le}
-use Rattle.operation.specs.Parts.{operationOf, registerOf}
 
 -- m, the number of workflows
 abbrev pub count : List ℕ → ℕ
@@ -44,13 +43,3 @@ operationByte p w i = getD p (operationsAt p w + i) 0
 
 unfoldable pub operandWord : List ℕ → (w i : ℕ) → ℕ
 operandWord p w i = le 4 p (operandsAt p w + 4 * i)
-
--- Of a workflow's own operation bytes and operand bytes: the operation, the register d and the operand word w of instruction i.
-abbrev pub operationAt : (ops : List ℕ) (i : ℕ) → ℕ
-operationAt ops i = operationOf (getD ops i 0)
-
-abbrev pub registerAt : (ops : List ℕ) (i : ℕ) → ℕ
-registerAt ops i = registerOf (getD ops i 0)
-
-abbrev pub wordAt : (ws : List ℕ) (i : ℕ) → ℕ
-wordAt ws i = le 4 ws (4 * i)

@@ -1,28 +1,15 @@
 -- The order of the questions: the first no is the refusal. Assumes nothing: these are definitions.
 use mathlib.Core.List.{List, []}
 use mathlib.Core.Option.{Option, none, some}
-use Prim.Native.Nat.{ℕ, _-_}
-use lib.ListN.{length}
-use Rattle.rules.specs.Questions.{No, no, number, ask, orElse, firstNo}
+use Prim.Native.Nat.{ℕ}
+use Rattle.rules.specs.Questions.{No, number, ask, orElse, firstNo}
+use Rattle.code.specs.Refusal.{codeNo}
 use Rattle.pack.specs.Layout.{count, operationsOf, operandsOf}
-use Rattle.pack.specs.Questions.{question1, question2, question3, question4, question5, question6, question7, question8, question17}
+use Rattle.pack.specs.Questions.{question1, question2, question3, question17}
 
 -- 1 to 3
 unfoldable pub layoutNo : List ℕ → Option No
 layoutNo p = ask (number 1) (question1 p) (ask (number 2) (question2 p) (ask (number 3) (question3 p) none))
-
--- 4 to 7, put to instruction i of workflow w
-unfoldable pub instructionNo : (w : ℕ) (ops ws : List ℕ) (i : ℕ) → Option No
-instructionNo w ops ws i =
-    ask (no 4 w i) (question4 ops i)
-    (ask (no 5 w i) (question5 ops ws i)
-    (ask (no 6 w i) (question6 ops ws i)
-    (ask (no 7 w i) (question7 ops i) none)))
-
--- Within a workflow, questions 4 to 7 are put instruction by instruction; then 8, which names the last.
-unfoldable pub codeNo : (w : ℕ) (ops ws : List ℕ) → Option No
-codeNo w ops ws =
-    orElse (firstNo (instructionNo w ops ws) (length ops) 0) (ask (no 8 w (length ops - 1)) (question8 ops) none)
 
 abbrev pub workflowNo : List ℕ → (w : ℕ) → Option No
 workflowNo p w = codeNo w (operationsOf p w) (operandsOf p w)

@@ -17,10 +17,11 @@ use Rattle.rules.specs.Verdicts.{verdictOf}
 use Rattle.rules.specs.declared.Verdict.{Verdict}
 use Rattle.rules.specs.declared.Verdict.the-variants.{Refused}
 use Rattle.words.specs.Words.{le}
-use Rattle.pack.specs.Layout.{sizeOf, operationsAt, operandsAt, operationsOf, operandsOf, wordAt}
-use Rattle.pack.specs.Meaning.{decode, codeOf}
+use Rattle.code.specs.Layout.{wordAt}
+use Rattle.code.specs.Meaning.{decode, codeOf}
+use Rattle.code.proofs.Decoded.{length-code, instruction-at}
+use Rattle.pack.specs.Layout.{sizeOf, operationsAt, operandsAt, operationsOf, operandsOf}
 use Rattle.pack.specs.Refusal.{openRefusal, opened}
-use Rattle.pack.proofs.Decoded.{length-code, instruction-at}
 use Rattle.pack.proofs.Sizes.{operations-within, operands-within}
 use Rattle.pack.proofs.Workflows.{open-laid, open-below}
 use Rattle.reader.specs.Readers.{partOf, openedNumber, openingOf, operationsFrom, operandsFrom, Opened, operationsIn, operandsIn, readAt, Read}

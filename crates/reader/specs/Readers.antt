@@ -11,8 +11,9 @@ use Rattle.rules.specs.Instructions.{instructionAt}
 use Rattle.rules.specs.Questions.{No}
 use Rattle.rules.specs.Verdicts.{verdictOf}
 use Rattle.operation.specs.Operations.{return}
-use Rattle.pack.specs.Layout.{sizeOf, operationsAt, operandsAt, operationsOf, operandsOf, wordAt}
-use Rattle.pack.specs.Meaning.{instructionOf, codeOf}
+use Rattle.code.specs.Layout.{wordAt}
+use Rattle.code.specs.Meaning.{instructionOf, codeOf}
+use Rattle.pack.specs.Layout.{sizeOf, operationsAt, operandsAt, operationsOf, operandsOf}
 use Rattle.pack.specs.Refusal.{openRefusal, opened}
 use Rattle.reader.specs.declared.Instruction.{Instruction}
 use Rattle.reader.specs.declared.Opening.{Opening}

@@ -113,7 +113,7 @@ fn instruction_in(
     }
     Instruction {
         byte: bytes[i],
-        word: pack::word_in(words, i),
+        word: code::word_in(words, i),
     }
 }
 

@@ -1,6 +1,7 @@
 pub mod Tests
 pub mod Updates
 pub mod Questions
+pub mod Chains
 pub mod Each
 pub mod Keys
 pub mod Follow

@@ -17,11 +17,13 @@ use Rattle.rules.specs.Store.{Request}
 use Rattle.rules.specs.Calls.{codeBy, canTurn, canAct, turnIn, turnOn}
 use Rattle.rules.specs.Calls as Calls
 use Rattle.rules.proofs.Updates.{false-true}
-use Rattle.pack.specs.Layout.{count, sizeOf, operationsOf, operandsOf, operationAt, wordAt}
-use Rattle.pack.specs.Meaning.{decode, codeOf, packOf}
-use Rattle.pack.specs.Meaning as Meaning
+use Rattle.code.specs.Layout.{operationAt, wordAt}
+use Rattle.code.specs.Meaning.{decode, codeOf}
+use Rattle.code.specs.Meaning as Meaning
+use Rattle.code.proofs.Decoded.{by-operation, operation-known, instruction-at, length-code}
+use Rattle.pack.specs.Layout.{count, sizeOf, operationsOf, operandsOf}
+use Rattle.pack.specs.Meaning.{packOf}
 use Rattle.pack.proofs.Sizes.{length-operations}
-use Rattle.pack.proofs.Decoded.{by-operation, operation-known, instruction-at, length-code}
 use Rattle.pack.proofs.Laws.{workflow-at, accepted-laid, accepted-workflow, length-workflow, length-pack, accepted-checked}
 use Rattle.store.specs.Rows.{lookup, storeOf}
 use Rattle.agents.specs.declared.Agent.{Agent}

@@ -14,9 +14,10 @@ use Rattle.rules.specs.Store.{Request, Store}
 use Rattle.rules.specs.Calls.{gives, withSlot, canWrite, throughBlock}
 use Rattle.rules.specs.Calls as Calls
 use Rattle.rules.proofs.Updates.{false-true}
-use Rattle.pack.specs.Meaning.{decode, codeOf, packOf}
-use Rattle.pack.specs.Meaning as Meaning
-use Rattle.pack.proofs.Decoded.{instruction-at}
+use Rattle.code.specs.Meaning.{decode, codeOf}
+use Rattle.code.specs.Meaning as Meaning
+use Rattle.code.proofs.Decoded.{instruction-at}
+use Rattle.pack.specs.Meaning.{packOf}
 use Rattle.pack.proofs.Laws.{workflow-at}
 use Rattle.store.specs.Rows.{Row, rowsOf, storeOf, keysIn}
 use Rattle.store.specs.Layout.{partsOf}

@@ -5,7 +5,7 @@ ghost use mathlib.Core.Path.{_≡_};
 ghost use Prim.Native.Nat.{ℕ, _+_, _≤_, _<_};
 ghost use lib.ListN.{length};
 ghost use Rattle.rules.specs.Instructions.{Place, moves, act};
-ghost use Rattle.pack.specs.Meaning.{decode, codeOf};
+ghost use Rattle.code.specs.Meaning.{decode, codeOf};
 ghost use Rattle.store.specs.Sound.{Sound};
 ghost use Rattle.agents.specs.Slots.{held};
 ghost use Rattle.instruction.specs.Step.{placeOf, Sourced};

@@ -2,8 +2,8 @@
 use borrow.Author.Needs.{needs}
 use mathlib.Core.Path.{refl, sym, _∙_}
 use Prim.Native.Nat.{_<_}
+use Rattle.code.specs.Questions as Q
 use Rattle.pack.specs.Layout.{count}
-use Rattle.pack.specs.Questions as Q
 use Rattle.meaning.specs.Questions.{bookRows}
 use Rattle.meaning.proofs.Book.{got-some}
 use Rattle.meaning.proofs.Steps.{workflow-below, sound-none, sound-long, sound-inside, sound-rest}

@@ -2,7 +2,7 @@
 use borrow.Author.Needs.{needs}
 use mathlib.Core.Path.{sym, _∙_, ap}
 use Rattle.rules.specs.Verdicts.{verdictOf}
-use Rattle.pack.proofs.Chains.{accepted}
+use Rattle.rules.proofs.Chains.{accepted}
 use Rattle.pack.proofs.Sizes.{laid}
 use Rattle.pack.proofs.Workflows.{layout-refused, layout-fine}
 use Rattle.pack.proofs.check.Statement.{statement}

@@ -7,9 +7,10 @@ use native.Mathlib.Omega.{arith}
 use lib.ListN.{length}
 use Rattle.rules.specs.Questions.{firstNo}
 use Rattle.rules.specs.Verdicts.{verdictOf}
+use Rattle.rules.proofs.Chains.{first-done, first-yes, first-stop}
+use Rattle.code.specs.Refusal.{codeNo}
 use Rattle.pack.specs.Layout.{firstOf, operationsOf, operandsOf}
-use Rattle.pack.specs.Refusal.{codeNo, workflowNo}
-use Rattle.pack.proofs.Chains.{first-done, first-yes, first-stop}
+use Rattle.pack.specs.Refusal.{workflowNo}
 use Rattle.pack.proofs.Sizes.{first-next, few-instructions, operations-within, operands-within, length-operations, length-operands}
 use Rattle.pack.proofs.Workflows.{operations-are, operands-are, parts-of}
 use Rattle.pack.proofs.check_workflows.Statement.{statement}

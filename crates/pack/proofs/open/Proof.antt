@@ -6,7 +6,7 @@ use native.Mathlib.Omega.{arith}
 use Rattle.pack.specs.Laid.{Laid}
 use Rattle.rules.specs.Questions.{ask}
 use Rattle.rules.specs.Verdicts.{verdictOf}
-use Rattle.pack.proofs.Chains.{accepted}
+use Rattle.rules.proofs.Chains.{accepted}
 use Rattle.pack.proofs.Workflows.{pack-laid, pack-refused, pack-fine, is-below, not-below}
 use Rattle.pack.proofs.open.Statement.{statement}
 use Rattle.pack.proofs.open.Tie as tie

@@ -7,7 +7,7 @@ use native.Mathlib.Numerals.{add-one}
 use native.Mathlib.Omega.{arith}
 use lib.ListN.{set}
 use Rattle.rules.specs.Blocks as Blocks
-use Rattle.pack.specs.Meaning.{codeOf}
+use Rattle.code.specs.Meaning.{codeOf}
 use Rattle.agents.specs.declared.Answer.the-variants.{Moved}
 use Rattle.turn.specs.Turned.{behindBlock}
 use Rattle.turn.proofs.Standing.{behind-short}

@@ -5,7 +5,8 @@ use mathlib.Core.Path.{_≡_, sym, _∙_, ap, subst}
 use Prim.Native.Nat.{ℕ, _/_, _%_, _*_, _^_, _<_}
 use native.Mathlib.Omega.{arith}
 use lib.ListN.{length, getD}
-use Rattle.pack.specs.Layout.{count, sizeOf, operationsOf, operandsOf, wordAt}
+use Rattle.code.specs.Layout.{wordAt}
+use Rattle.pack.specs.Layout.{count, sizeOf, operationsOf, operandsOf}
 use Rattle.pack.proofs.Sizes.{length-operands}
 use Rattle.pack.proofs.Laws.{accepted-laid}
 use Rattle.store.proofs.Sound.{store-ok}

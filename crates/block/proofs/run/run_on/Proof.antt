@@ -7,9 +7,9 @@ use borrow.Author.Needs.{needs}
 use lib.ListN.{length, getD}
 use Rattle.rules.specs.Instructions.{act}
 use Rattle.store.specs.Rows.{rowsOf}
-use Rattle.pack.specs.Meaning.{instructionOf}
+use Rattle.code.specs.Meaning.{instructionOf}
 use Rattle.operation.specs.Operations.{end}
-use Rattle.pack.specs.Layout.{operationAt, wordAt}
+use Rattle.code.specs.Layout.{operationAt, wordAt}
 use Rattle.instruction.specs.Step.{placeOf, putsOf, Stepped}
 use Rattle.block.specs.Run.{Inside, runOf}
 use Rattle.block.proofs.Inside.{fits-here}

@@ -1,0 +1,238 @@
+-- A workflow to which each question says yes is `Checked` in the sense of the rules. Assumes nothing.
+use mathlib.Core.Path.{_≡_, refl, sym, _∙_, ap, subst}
+use mathlib.Core.Bool.{Bool, true, false, not, _&&_}
+use mathlib.Core.List.{List, _∷_}
+use mathlib.Core.Option.{none}
+use Prim.Native.Nat.{ℕ, zero, suc, _+_, _-_, _≤_, _<_}
+use native.Mathlib.Nat.{add-zero, zero-add, add-suc, suc-add, le-of-suc-le-suc, not-suc-le-zero}
+use native.Mathlib.Omega.{arith}
+use native.Mathlib.Numerals.{add-one}
+use borrow.Author.Tests.{ltb-true, leb-true, not-true, eqb-true}
+use lib.Dec.{eqb, ltb, leb}
+use lib.ListN.{length, getD, drop}
+use lib.Seq.{drop-cons}
+use Rattle.rules.specs.Basics.{if_then_else_}
+use Rattle.rules.specs.Instructions.{Code, Instruction, RETURN, instructionAt}
+use Rattle.rules.specs.Blocks.{isEnd, throughEnd}
+use Rattle.rules.specs.Checked.{Side, outside, inside, sideBehind, sideAt, Lands, Jumps, Stands, Checked}
+use Rattle.rules.specs.Instructions.{Code, Instruction, RETURN, instructionAt}
+use Rattle.rules.specs.Blocks.{isEnd, throughEnd}
+use Rattle.rules.proofs.Positions.{side-next}
+use Rattle.rules.proofs.Questions.{ask-none, orElse-none}
+use Rattle.rules.proofs.Each.{each-at}
+use Rattle.rules.proofs.Tests.{and-left}
+use Rattle.rules.proofs.Chains.{each-yes}
+use Rattle.operation.specs.declared.Operand.the-variants.{Jump}
+use Rattle.operation.specs.Parts.{targetOf, sourceOf}
+use Rattle.operation.specs.Operations.{end, return, sideOf, operandOf}
+use Rattle.code.specs.Layout.{operationAt, registerAt, wordAt}
+use Rattle.code.specs.Questions.{legal, inRange, insideBehind, insideAt, stands, isNoEnd, landsFrom, lands, question4, question8}
+use Rattle.code.specs.Refusal.{instructionNo, codeNo}
+use Rattle.code.specs.Meaning.{decode, instructionOf, listOf, codeOf, Bounded}
+use Rattle.code.proofs.Judged.{target-ahead, target-below, operand-ranged, stands-right, lands-right, yes-4, yes-5, yes-6}
+
+-- lists made of a function
+module _ {A : Type 0} (f : ℕ → A) where
+  pub length-listOf : (n i : ℕ) → length (listOf f n i) ≡ n
+  unfolding listOf
+  length-listOf zero i = refl
+  length-listOf (suc n) i = ap suc (length-listOf n (suc i))
+
+  listed : (n i k : ℕ) (d : A) → k < n → getD (listOf f n i) k d ≡ f (i + k)
+  unfolding listOf
+  listed zero i k d h = absurd (not-suc-le-zero h)
+  listed (suc n) i zero d h = rw add-zero
+  listed (suc n) i (suc k) d h = rw (add-suc, ← suc-add) (listed n (suc i) k d (le-of-suc-le-suc h))
+
+  pub getD-listOf : (n k : ℕ) (d : A) → k < n → getD (listOf f n 0) k d ≡ f k
+  getD-listOf n k d h = listed n 0 k d h ∙ ap f (zero-add k)
+
+-- to show something of each of the twelve operations
+pub by-operation : (P : ℕ → Type 0) → P 0 → P 1 → P 2 → P 3 → P 4 → P 5 → P 6 → P 7 → P 8 → P 9 → P 10 → P 11 → (op : ℕ) → op < 12 → P op
+by-operation P a b c d e f g h i j k l zero q = a
+by-operation P a b c d e f g h i j k l (suc zero) q = b
+by-operation P a b c d e f g h i j k l (suc (suc zero)) q = c
+by-operation P a b c d e f g h i j k l (suc (suc (suc zero))) q = d
+by-operation P a b c d e f g h i j k l (suc (suc (suc (suc zero)))) q = e
+by-operation P a b c d e f g h i j k l (suc (suc (suc (suc (suc zero))))) q = f
+by-operation P a b c d e f g h i j k l (suc (suc (suc (suc (suc (suc zero)))))) q = g
+by-operation P a b c d e f g h i j k l (suc (suc (suc (suc (suc (suc (suc zero))))))) q = h
+by-operation P a b c d e f g h i j k l (suc (suc (suc (suc (suc (suc (suc (suc zero)))))))) q = i
+by-operation P a b c d e f g h i j k l (suc (suc (suc (suc (suc (suc (suc (suc (suc zero))))))))) q = j
+by-operation P a b c d e f g h i j k l (suc (suc (suc (suc (suc (suc (suc (suc (suc (suc zero)))))))))) q = k
+by-operation P a b c d e f g h i j k l (suc (suc (suc (suc (suc (suc (suc (suc (suc (suc (suc zero))))))))))) q = l
+by-operation P a b c d e f g h i j k l (suc (suc (suc (suc (suc (suc (suc (suc (suc (suc (suc (suc n)))))))))))) q = absurd (omega arith)
+
+abbrev sideFor : Bool → Side
+sideFor true = inside
+sideFor false = outside
+
+module _ (d w : ℕ) where
+  decoded-side : (b : Bool) (op : ℕ) → op < 12 → sideBehind (sideFor b) (decode op d w) ≡ sideFor (insideBehind op b)
+  unfolding decode
+  decoded-side b = by-operation (λ op. sideBehind (sideFor b) (decode op d w) ≡ sideFor (insideBehind op b)) refl refl refl refl refl refl refl refl refl refl refl refl
+
+  decoded-end : (op : ℕ) → op < 12 → isEnd (decode op d w) ≡ eqb op end
+  unfolding decode
+  decoded-end = by-operation (λ op. isEnd (decode op d w) ≡ eqb op end) refl refl refl refl refl refl refl refl refl refl refl refl
+
+some-through : (x : Instruction) (rest : Code) → 0 < throughEnd (x ∷ rest)
+some-through x rest = go (isEnd x)
+  where
+    go : (b : Bool) → 0 < (if_then_else_ b 1 (suc (throughEnd rest)))
+    go true = omega arith
+    go false = omega arith
+
+through-next : (x : Instruction) (rest : Code) → isEnd x ≡ false → throughEnd (x ∷ rest) ≡ suc (throughEnd rest)
+through-next x rest e = rw e
+
+module _ (ops ws : List ℕ) where
+  pub length-code : length (codeOf ops ws) ≡ length ops
+  unfolding codeOf
+  length-code = length-listOf (λ i. instructionOf (getD ops i 0) (wordAt ws i)) (length ops) 0
+
+  -- how an instruction is read from operation byte and operand word
+  pub instruction-at : (i : ℕ) → i < length ops → instructionAt (codeOf ops ws) i ≡ instructionOf (getD ops i 0) (wordAt ws i)
+  unfolding codeOf
+  instruction-at i h = getD-listOf (λ i. instructionOf (getD ops i 0) (wordAt ws i)) (length ops) i (RETURN 0) h
+
+  in-code : (i : ℕ) → i < length ops → i < length (codeOf ops ws)
+  in-code i h = omega (arith, length-code)
+
+  module _ (known : (i : ℕ) → i < length ops → operationAt ops i < 12) where
+    -- the two definitions of a side agree
+    pub side-known : (i : ℕ) → i ≤ length ops → sideAt (codeOf ops ws) i ≡ sideFor (insideAt ops i)
+    unfolding insideAt
+    side-known zero h = refl
+    side-known (suc i) h =
+        side-next outside (codeOf ops ws) i (in-code i h)
+        ∙ ap (λ s. sideBehind s (instructionAt (codeOf ops ws) i)) (side-known i (omega arith))
+        ∙ ap (sideBehind (sideFor (insideAt ops i))) (instruction-at i h)
+        ∙ decoded-side (registerAt ops i) (wordAt ws i) (insideAt ops i) (operationAt ops i) (known i h)
+
+    not-end : (j : ℕ) → j < length ops → eqb (operationAt ops j) end ≡ false → isEnd (instructionAt (codeOf ops ws) j) ≡ false
+    not-end j h e = ap isEnd (instruction-at j h) ∙ decoded-end (registerAt ops j) (wordAt ws j) (operationAt ops j) (known j h) ∙ e
+
+    no-end-through : (n j : ℕ) → j + n < length ops → ((k : ℕ) → j ≤ k → k < j + n → isNoEnd ops k ≡ true) → n < throughEnd (drop j (codeOf ops ws))
+    unfolding isNoEnd
+    no-end-through zero j h f =
+        rw (drop-cons (codeOf ops ws) j (RETURN 0) (in-code j (omega arith))) (some-through (instructionAt (codeOf ops ws) j) (drop (suc j) (codeOf ops ws)))
+    no-end-through (suc n) j h f =
+        let q = not-true (eqb (operationAt ops j) end) (f j (omega arith) (omega arith)) in
+        let r = no-end-through n (suc j) (omega arith) (λ k l m. f k (omega arith) (omega arith)) in
+        rw (drop-cons (codeOf ops ws) j (RETURN 0) (in-code j (omega arith)))
+        (rw (through-next (instructionAt (codeOf ops ws) j) (drop (suc j) (codeOf ops ws)) (not-end j (omega arith) q)) (omega arith))
+
+    jump-lands : (i target : ℕ) (b : Bool) → i < target → target < length ops → landsFrom b ops i target ≡ true → Lands (sideFor b) (codeOf ops ws) i target
+    unfolding landsFrom
+    jump-lands i t false h l e = side-known t (omega arith) ∙ ap sideFor (not-true (insideAt ops t) e)
+    jump-lands i t true h l e =
+        let n = rw add-one at (no-end-through (t - (i + 1)) (i + 1) (omega arith) (each-at (isNoEnd ops) (t - (i + 1)) (i + 1) e)) in
+        omega arith
+
+    jumps-right : (i w : ℕ) → i < length ops → inRange Jump (length ops) i w ≡ true → landsFrom (insideAt ops i) ops i (targetOf w) ≡ true → Jumps (codeOf ops ws) i (targetOf w)
+    jumps-right i w h r l =
+        let a = target-ahead Jump (length ops) i w refl r in
+        let b = target-below Jump (length ops) i w refl r in (
+          a,
+          in-code (targetOf w) b,
+          subst (λ s. Lands s (codeOf ops ws) i (targetOf w)) (sym (side-known i (omega arith))) (jump-lands i (targetOf w) (insideAt ops i) a b l),
+        )
+
+    module _ (i : ℕ) (h : i < length ops) (d w : ℕ) where
+      stands-outside : not (insideAt ops i) ≡ true → sideAt (codeOf ops ws) i ≡ outside
+      stands-outside s = side-known i (omega arith) ∙ ap sideFor (not-true (insideAt ops i) s)
+
+      stands-inside : insideAt ops i ≡ true → sideAt (codeOf ops ws) i ≡ inside
+      stands-inside s = side-known i (omega arith) ∙ ap sideFor s
+
+      abbrev Right : ℕ → Type 0
+      Right op =
+          inRange (operandOf op) (length ops) i w ≡ true → stands (sideOf op) (insideAt ops i) ≡ true →
+          lands (operandOf op) (insideAt ops i) ops i (targetOf w) ≡ true → Stands (codeOf ops ws) i (decode op d w)
+
+      stands-all : (op : ℕ) → op < 12 → Right op
+      unfolding decode sideOf operandOf stands lands
+      stands-all =
+          by-operation Right
+          (λ r s l. tt)
+          (λ r s l. tt)
+          (λ r s l. tt)
+          (λ r s l. tt)
+          (λ r s l. jumps-right i w h r l)
+          (λ r s l. jumps-right i w h r l)
+          (λ r s l. stands-outside s)
+          (λ r s l. stands-inside s)
+          (λ r s l. stands-inside s)
+          (λ r s l. stands-inside s)
+          (λ r s l. stands-inside s)
+          (λ r s l. stands-outside s)
+
+module _ (w : ℕ) (ops ws : List ℕ) (e : codeNo w ops ws ≡ none) where
+  -- each instruction is right
+  pub right-at : (i : ℕ) → i < length ops → instructionNo w ops ws i ≡ none
+  unfolding codeNo
+  right-at i h = rw zero-add at (each-yes (instructionNo w ops ws) (length ops) 0 i (orElse-none _ _ e .0) h)
+
+  pub operation-known : (i : ℕ) → i < length ops → operationAt ops i < 12
+  unfolding question4 legal
+  operation-known i h = let l = leb-true (operationAt ops i) 11 (and-left (leb (operationAt ops i) 11) _ (yes-4 w ops ws i (right-at i h))) in omega arith
+
+  stands-at : (i : ℕ) → i < length ops → Stands (codeOf ops ws) i (instructionAt (codeOf ops ws) i)
+  stands-at i h =
+      subst (λ x. Stands (codeOf ops ws) i x) (sym (instruction-at ops ws i h))
+      (stands-all ops ws operation-known i h (registerAt ops i) (wordAt ws i) (operationAt ops i) (operation-known i h)
+      (operand-ranged ops ws i (yes-5 w ops ws i (right-at i h)))
+      (stands-right ops ws i (yes-6 w ops ws i (right-at i h)))
+      (lands-right ops ws i (yes-6 w ops ws i (right-at i h))))
+
+  returns-at-last : operationAt ops (length ops - 1) ≡ return
+  unfolding codeNo question8
+  returns-at-last = eqb-true (operationAt ops (length ops - 1)) return (ask-none _ (question8 ops) _ (orElse-none _ _ e .1) .0)
+
+  pub checked-code : 0 < length ops → Checked (codeOf ops ws)
+  unfolding decode
+  checked-code h =
+      record {
+        some-instruction = in-code ops ws 0 h;
+        stands = λ i l. stands-at i (omega (arith, length-code ops ws));
+        last-returns =
+            λ i l.
+            let k = length-code ops ws in
+            let q : i ≡ length ops - 1 = omega arith in
+            let o : operationAt ops i ≡ return = ap (operationAt ops) q ∙ returns-at-last in
+            (registerAt ops i, instruction-at ops ws i (omega arith) ∙ ap (λ n. decode n (registerAt ops i) (wordAt ws i)) o);
+      }
+
+-- an operand in range names registers and partitions from 0 to 7
+module _ (d size i w : ℕ) (h : d < 8) where
+  abbrev InBounds : ℕ → Type 0
+  InBounds op = inRange (operandOf op) size i w ≡ true → Bounded (decode op d w)
+
+  jump-bounded : inRange Jump size i w ≡ true → (d < 8) × (sourceOf w < 8)
+  unfolding inRange
+  jump-bounded r = (h, ltb-true (sourceOf w) 8 (and-left (ltb (sourceOf w) 8) (ltb i (targetOf w)) (and-left (ltb (sourceOf w) 8 && ltb i (targetOf w)) _ r)))
+
+  pub bounded-all : (op : ℕ) → op < 12 → InBounds op
+  unfolding decode operandOf inRange
+  bounded-all =
+      by-operation InBounds
+      (λ r. h)
+      (λ r. (h, ltb-true w 8 r))
+      (λ r. (h, ltb-true w 8 r))
+      (λ r. (h, ltb-true w 8 r))
+      jump-bounded
+      jump-bounded
+      (λ r. ltb-true w 8 r)
+      (λ r. h)
+      (λ r. (h, ltb-true w 8 r))
+      (λ r. (h, ltb-true w 8 r))
+      (λ r. (h, ltb-true w 8 r))
+      (λ r. h)
+
+module _ (w : ℕ) (ops ws : List ℕ) (e : codeNo w ops ws ≡ none) where
+  pub bounded-at : (i : ℕ) → i < length ops → Bounded (instructionAt (codeOf ops ws) i)
+  bounded-at i h =
+      subst Bounded (sym (instruction-at ops ws i h))
+      (bounded-all (registerAt ops i) (length ops) i (wordAt ws i) (omega arith) (operationAt ops i) (operation-known w ops ws e i h)
+      (operand-ranged ops ws i (yes-5 w ops ws i (right-at w ops ws e i h))))

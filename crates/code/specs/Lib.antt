@@ -1,0 +1,4 @@
+pub mod Layout
+pub mod Questions
+pub mod Refusal
+pub mod Meaning
