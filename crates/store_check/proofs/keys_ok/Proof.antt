@@ -2,7 +2,7 @@
 use borrow.Author.Needs.{needs}
 use mathlib.Core.Bool.{true}
 use mathlib.Core.Path.{_≡_, refl, sym, _∙_}
-use Prim.Native.Nat.{_+_, _*_, _-_, _%_, _≤_, _<_}
+use Prim.Native.Nat.{_+_, _*_, _-_, _≤_}
 use native.Mathlib.Omega.{arith}
 use borrow.Author.Tests.{not-true, not-false}
 use lib.ListN.{length, length-set}
@@ -22,12 +22,6 @@ abbrev μ-loop : tie.MeasureT-loop
 -- the key that was read is of a form
 is-form : (e : tie.Else1 Inv-loop μ-loop) → isForm (e .before .before .before .before .before .before .before .args .book) (e .before .before .read64 .result) ≡ true
 is-form e = sym (e .before .form .ensures) ∙ not-false _ (e .if1 .left)
-
--- its place is one of the table
-room : (c : tie.Else2 Inv-loop μ-loop) →
-    let r = c .before .before .before .before .before in
-    r .read64 .result % 8179 < length (r .before .before .loop .marks)
-room c = omega arith
 
 pub keys-ok-spec : {M : Type 1} → statement M
 keys-ok-spec =
@@ -55,7 +49,7 @@ keys-ok-spec =
     let lp = r .before .before in
     let a = lp .before .before .before .args in
     sym (key-twice (a .s .now) (a .from) (a .n) (lp .loop .i) (lp .loop .at) (r .read64 .result) (lp .loop .inv .0) (r .before .loop-test .taken) (lp .loop .inv .1) (r .read64 .ensures) (a .book) (sym (c .before .seen .ensures) ∙ c .if2 .taken)))
-    room
+    (λ c. omega arith)
     (λ c. omega arith)
     (λ c. omega arith)
     (λ c. omega arith)
@@ -66,7 +60,7 @@ keys-ok-spec =
       omega arith,
       simp length-set (lp .loop .inv .2),
       key-more (a .s .now) (a .from) (a .n) (lp .loop .i) (lp .loop .at) (r .read64 .result) (lp .loop .inv .0) (r .before .loop-test .taken) (lp .loop .inv .1) (r .read64 .ensures) (a .book) (is-form (c .before .before .before)) (sym (c .before .seen .ensures) ∙ c .if2 .left) (lp .loop .inv .3),
-      mark-more (a .s .now) (a .from) (a .n) (lp .loop .i) (lp .loop .at) (r .read64 .result) (lp .loop .inv .0) (r .before .loop-test .taken) (lp .loop .inv .1) (r .read64 .ensures) (lp .loop .marks) (a .mark) (room c) (lp .loop .inv .4),
+      mark-more (a .s .now) (a .from) (a .n) (lp .loop .i) (lp .loop .at) (r .read64 .result) (lp .loop .inv .0) (r .before .loop-test .taken) (lp .loop .inv .1) (r .read64 .ensures) (lp .loop .marks) (a .mark) (omega arith) (lp .loop .inv .4),
     ))
     (λ c. search needs)
     (λ c. let lp = c .before in
