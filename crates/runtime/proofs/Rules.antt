@@ -12,7 +12,7 @@ use Rattle.rules.specs.Instructions.{Pack}
 use Rattle.rules.specs.Store.{Request}
 use Rattle.rules.specs.Calls.{Agent, State, gives, done, withSlot, start, again, refusal, rule, arrival, retry, turn, crash, canTurn}
 use Rattle.rules.specs.Calls as Calls
-use Rattle.runtime.specs.Booking.{bookRefusal}
+use Rattle.booking.specs.Booking.{bookRefusal}
 
 module _ (pack : Pack) (s : State) (slot : ℕ) where
   -- ── crash ──

@@ -21,7 +21,7 @@ use Rattle.meaning.specs.Questions.{lentRefusal, lentFor}
 use Rattle.meaning.proofs.Asked.{lent-pack, lent-store, lent-14}
 use Rattle.meaning.proofs.Carry.{tidy-typed, is-stopped, is-refused, is-done}
 use Rattle.runtime.proofs.Rules.{arrival-15, arrival-16, arrival-17, arrival-rest}
-use Rattle.runtime.proofs.Booking.{is-unbooked, arrives, as-booked}
+use Rattle.booking.proofs.Booking.{is-unbooked, arrives, as-booked}
 use Rattle.runtime.proofs.arrival.Statement.{statement}
 use Rattle.runtime.proofs.arrival.Tie as tie
 

@@ -44,7 +44,7 @@ use Rattle.meaning.specs.Questions.{bookRows, lentFor}
 use Rattle.meaning.specs.Carried.{Wrote, Carried}
 use Rattle.meaning.proofs.Contents.{contents-book}
 use Rattle.meaning.proofs.Carry.{wrote-nothing, carried-refused, refused-by}
-use Rattle.runtime.specs.Booking.{bookKeys, bookValues, withRequest, bookRefusal, ensured, Booked}
+use Rattle.booking.specs.Booking.{bookKeys, bookValues, withRequest, bookRefusal, ensured, Booked}
 
 -- ── members and rows ──
 

@@ -1,10 +1,10 @@
--- `runtime::write_request` meets its contract. Assumes nothing.
+-- `booking::write_request` meets its contract. Assumes nothing.
 use borrow.Author.Needs.{needs}
 use mathlib.Core.Path.{refl}
 use native.Mathlib.Omega.{arith}
-use Rattle.runtime.proofs.Booking.{code-formed, code-room, code-stored}
-use Rattle.runtime.proofs.write_request.Statement.{statement}
-use Rattle.runtime.proofs.write_request.Tie as tie
+use Rattle.booking.proofs.Booking.{code-formed, code-room, code-stored}
+use Rattle.booking.proofs.write_request.Statement.{statement}
+use Rattle.booking.proofs.write_request.Tie as tie
 
 pub write-request-spec : {M : Type 1} → statement M
 write-request-spec =

@@ -1,4 +1,4 @@
--- `runtime::book_request` meets its contract. Assumes nothing.
+-- `booking::book_request` meets its contract. Assumes nothing.
 use borrow.Author.Needs.{needs}
 use mathlib.Core.Path.{_≡_, sym, _∙_, ap}
 use Prim.Native.Nat.{ℕ}
@@ -13,9 +13,9 @@ use Rattle.store.proofs.Sound.{store-ok}
 use Rattle.meaning.specs.State.{contentsOf, argumentsOf, valueIn}
 use Rattle.meaning.specs.Questions.{bookRows}
 use Rattle.meaning.proofs.Book.{booked-some, booked-none, got-none}
-use Rattle.runtime.proofs.Booking.{booked-18, booked-19, booked-known, booked-new, wrote-request, length-after, book-keys}
-use Rattle.runtime.proofs.book_request.Statement.{statement}
-use Rattle.runtime.proofs.book_request.Tie as tie
+use Rattle.booking.proofs.Booking.{booked-18, booked-19, booked-known, booked-new, wrote-request, length-after, book-keys}
+use Rattle.booking.proofs.book_request.Statement.{statement}
+use Rattle.booking.proofs.book_request.Tie as tie
 
 sounds : (c : tie.After-booked-workflow-arg) → Sound (c .before .before .args .store .now)
 sounds c = store-ok _ (c .before .before .pre) .0

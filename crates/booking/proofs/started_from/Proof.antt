@@ -1,9 +1,9 @@
--- `runtime::started_from` meets its contract. Assumes nothing.
+-- `booking::started_from` meets its contract. Assumes nothing.
 use borrow.Author.Needs.{needs}
 use mathlib.Core.Path.{_∙_}
 use Rattle.agents.specs.Slots.{startedWith}
-use Rattle.runtime.proofs.started_from.Statement.{statement}
-use Rattle.runtime.proofs.started_from.Tie as tie
+use Rattle.booking.proofs.started_from.Statement.{statement}
+use Rattle.booking.proofs.started_from.Tie as tie
 
 pub started-from-spec : {M : Type 1} → statement M
 started-from-spec =

@@ -1,4 +1,4 @@
--- `runtime::argument` meets its contract. Assumes nothing.
+-- `booking::argument` meets its contract. Assumes nothing.
 use borrow.Author.Needs.{needs}
 use mathlib.Core.Path.{_≡_, _∙_, ap}
 use Prim.Native.Nat.{ℕ}
@@ -7,8 +7,8 @@ use Rattle.store.specs.Answers.{gotOf}
 use Rattle.rules.specs.Keys.{bookKey}
 use Rattle.meaning.specs.Questions.{bookRows}
 use Rattle.meaning.proofs.Book.{got-value, got-zero}
-use Rattle.runtime.proofs.argument.Statement.{statement}
-use Rattle.runtime.proofs.argument.Tie as tie
+use Rattle.booking.proofs.argument.Statement.{statement}
+use Rattle.booking.proofs.argument.Tie as tie
 
 got : (c : tie.After-get) → c .get .result ≡ gotOf (lookup (bookKey (c .before .before .before .args .id) (c .before .before .before .args .j)) (bookRows (c .before .before .before .args .store .now)))
 got c =

@@ -1,11 +1,11 @@
--- `runtime::same_request` meets its contract: each return by the tests that led to it. Assumes nothing.
+-- `booking::same_request` meets its contract: each return by the tests that led to it. Assumes nothing.
 use borrow.Author.Needs.{needs}
 use mathlib.Core.Path.{refl, _∙_, ap}
 use borrow.Author.Tests.{eq-eqb, ne-eqb}
 use lib.Dec.{eqb}
-use Rattle.runtime.proofs.Booking.{equal-as, unequal-as, and-last}
-use Rattle.runtime.proofs.same_request.Statement.{statement}
-use Rattle.runtime.proofs.same_request.Tie as tie
+use Rattle.booking.proofs.Booking.{equal-as, unequal-as, and-last}
+use Rattle.booking.proofs.same_request.Statement.{statement}
+use Rattle.booking.proofs.same_request.Tie as tie
 
 pub same-request-spec : {M : Type 1} → statement M
 same-request-spec =
