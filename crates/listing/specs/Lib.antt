@@ -1,3 +1,2 @@
-pub mod Lines
 pub mod Order
 pub mod Store

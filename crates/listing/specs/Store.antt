@@ -4,7 +4,7 @@ use mathlib.Core.List.{List, [], _∷_, _++_}
 use Prim.Native.Nat.{ℕ, zero, suc, _+_, _-_, _^_}
 use Rattle.store.specs.Layout.{partsOf}
 use Rattle.store.specs.Rows.{Row, rowsOf}
-use Rattle.listing.specs.Lines.{storedLine}
+use Rattle.lines.specs.Lines.{storedLine}
 use Rattle.listing.specs.Order.{between}
 
 -- the lines of rows, in their order

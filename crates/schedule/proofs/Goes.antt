@@ -28,7 +28,7 @@ use Rattle.agents.specs.Slots.{noAgent}
 use Rattle.agents.specs.Answers.{answerOf}
 use Rattle.text.specs.Text.{Appended}
 use Rattle.text.proofs.Laws.{appended-none, appended-then}
-use Rattle.listing.specs.Lines.{eventsLine, refusedLine, answerLine}
+use Rattle.lines.specs.Lines.{eventsLine, refusedLine, answerLine}
 use Rattle.listing.specs.Store.{storeText}
 use Rattle.meaning.specs.Carried.{Carried}
 use Rattle.chain.specs.Chain.{Event, Chain, begins, goes-on}

@@ -9,7 +9,7 @@ use Rattle.rules.specs.Calls.{Call}
 use Rattle.store.specs.Layout.{partsOf, capOf}
 use Rattle.agents.specs.declared.Agent.{Agent}
 use Rattle.agents.specs.Answers.{answerOf}
-use Rattle.listing.specs.Lines.{eventsLine, refusedLine, answerLine}
+use Rattle.lines.specs.Lines.{eventsLine, refusedLine, answerLine}
 use Rattle.listing.specs.Store.{storeText}
 use Rattle.chain.specs.Chain.{Event, Chain}
 use Rattle.schedule_check.specs.Layout.{eventCount}

@@ -26,7 +26,7 @@ fn run_events(pack: &[u8], s: &[u8], store: &mut [u8], out: &mut [u8], n: usize)
         let o = call_event(pack, s, store, agents, i);
         agents = o.agents;
         let answer = o.answer;
-        at = listing::lines::answer_line(out, at, i as u64, answer);
+        at = lines::answer_line(out, at, i as u64, answer);
         i += 1;
     }
     at
@@ -41,9 +41,9 @@ fn run_on(pack: &[u8], s: &[u8], store: &mut [u8], out: &mut [u8]) -> usize
     let parts = store::head::partition_count(s);
     let cap = store::head::capacity(s);
     store_check::create::create(store, parts, cap);
-    let a = listing::lines::events_line(out, 0, e);
+    let a = lines::events_line(out, 0, e);
     let b = run_events(pack, s, store, out, a);
-    listing::rows::print_store(store, out, b)
+    listing::print_store(store, out, b)
 }
 
 // The run on the first bytes of a buffer.
@@ -66,6 +66,6 @@ pub fn run(pack: &[u8], schedule: &[u8], store: &mut [u8; 27_669], out: &mut [u8
             question,
             workflow,
             instruction,
-        } => listing::lines::refused_line(out, 0, question),
+        } => lines::refused_line(out, 0, question),
     }
 }

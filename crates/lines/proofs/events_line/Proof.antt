@@ -1,0 +1,22 @@
+-- `lines::events_line` meets its contract, piece by piece. Assumes nothing.
+use native.Mathlib.Omega.{arith}
+use borrow.Author.Needs.{needs}
+use Rattle.text.proofs.Laws.{appended-then}
+use Rattle.lines.specs.Lines.{eventsLine}
+use Rattle.lines.proofs.events_line.Statement.{statement}
+use Rattle.lines.proofs.events_line.Tie as tie
+
+pub events-line-spec : {M : Type 1} → statement M
+unfolding eventsLine
+events-line-spec =
+    tie.close
+    (tie.spec
+    (λ c. search needs)
+    (λ c κs. search needs)
+    (λ c κs. search needs)
+    (λ c κs. search needs)
+    (λ c. search needs)
+    (λ c. let d3 = c .before .before in
+    let d2 = d3 .before .before .before .before in
+    let d1 = d2 .before .before .before .before in
+    (appended-then (d1 .append-bytes .ensures) (appended-then (d2 .append-field .ensures .0) (d3 .append-byte .ensures)), omega arith)))
