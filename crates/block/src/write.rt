@@ -35,7 +35,7 @@ fn commit(store: &mut [u8], partition: usize, ran: Ran, id: u32, step: u16)
     let n = rows.count;
     let keys = rows.keys;
     let values = rows.values;
-    store::rows::put_all(store, partition, &keys[..n], &values[..n]);
+    store_write::put_all(store, partition, &keys[..n], &values[..n]);
 }
 
 // Question 21: is there a free row for the log row and for each new key? Where there is one for every key, none is sought.
@@ -50,7 +50,7 @@ fn has_room(store: &[u8], partition: usize, pending: Pending) -> bool
         return true;
     }
     let keys = pending.keys;
-    let fresh = store::rows::count_new(store, partition, &keys[..n]);
+    let fresh = store_write::count_new(store, partition, &keys[..n]);
     used + (1 + fresh) <= cap
 }
 

@@ -78,7 +78,7 @@ fn write_request(store: &mut [u8], id: u32, workflow: u32, a0: u32, a1: u32, a2:
     let key = id as u64 * 8;
     let keys = [key, key + 1, key + 2, key + 3, key + 4];
     let values = [workflow, a0, a1, a2, a3];
-    store::rows::put_all(store, book, &keys, &values);
+    store_write::put_all(store, book, &keys, &values);
 }
 
 // Questions 18 and 19; then a new id is booked, and a known one stays as it is.

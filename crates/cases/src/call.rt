@@ -84,7 +84,7 @@ pub fn make_call(pack: &[u8], store: &mut [u8], records: &mut [u8], call: u8, w:
         return answer_of(pack::open(pack, w[0]));
     }
     if call == 2 {
-        return answer_of(store_check::create::create(store, w[0] as usize, w[1] as usize));
+        return answer_of(store_write::create::create(store, w[0] as usize, w[1] as usize));
     }
     let o = runtime_call(pack, store, slots::read_slots(records), call, w);
     let agents = o.agents;

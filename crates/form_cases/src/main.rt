@@ -187,7 +187,7 @@ fn started(pack: &[u8], store: &mut [u8]) -> Agent {
 // That agent from its arrival to its reply, and one turn more, with the store after each of the two.
 fn write_agent(pack: &[u8], store: &mut [u8]) {
     write_text(b"create: ");
-    write_verdict(store_check::create::create(store, 2, 5));
+    write_verdict(store_write::create::create(store, 2, 5));
     let a = started(pack, store);
     let left = write_turns(pack, store, a, 12);
     cases::print::print_store(store);

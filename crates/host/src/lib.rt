@@ -66,7 +66,7 @@ pub extern "C" fn sarthule_create(
     if answer.len() < 12 {
         return 100;
     }
-    let v = store_check::create::create(store, partitions, rows);
+    let v = store_write::create::create(store, partitions, rows);
     answers::write_answer(answer, answers::judge(v))
 }
 

@@ -40,7 +40,7 @@ fn run_on(pack: &[u8], s: &[u8], store: &mut [u8], out: &mut [u8]) -> usize
     let e = words::read16(s, 4) as u64;
     let parts = store::head::partition_count(s);
     let cap = store::head::capacity(s);
-    store_check::create::create(store, parts, cap);
+    store_write::create::create(store, parts, cap);
     let a = lines::events_line(out, 0, e);
     let b = run_events(pack, s, store, out, a);
     listing::print_store(store, out, b)

@@ -1,4 +1,4 @@
--- `store_check::create::clear` meets its contract. The loop: the first i bytes are zero, the others are as they were. Assumes nothing.
+-- `store_write::create::clear` meets its contract. The loop: the first i bytes are zero, the others are as they were. Assumes nothing.
 use borrow.Author.Needs.{needs}
 use mathlib.Core.List.{_++_, append-nil}
 use mathlib.Core.Path.{_≡_, refl, _∙_}
@@ -7,8 +7,8 @@ use native.Mathlib.Omega.{arith}
 use borrow.Author.Fill.{fill-more}
 use lib.ListN.{length, drop, replicate, length-set}
 use lib.Seq.{drop-length}
-use Rattle.store_check.proofs.create.clear.Statement.{statement}
-use Rattle.store_check.proofs.create.clear.Tie as tie
+use Rattle.store_write.proofs.create.clear.Statement.{statement}
+use Rattle.store_write.proofs.create.clear.Tie as tie
 
 abbrev Inv-loop : tie.InvT-loop
 Inv-loop s₀ i₀ s i = (i ≤ length s) × (length s ≡ length s₀) × (s ≡ replicate i 0 ++ drop i s₀)

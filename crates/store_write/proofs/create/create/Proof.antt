@@ -1,4 +1,4 @@
--- `store_check::create::create` meets its contract. Assumes nothing.
+-- `store_write::create::create` meets its contract. Assumes nothing.
 use borrow.Author.Needs.{needs}
 use mathlib.Core.Path.{sym, _∙_}
 use Prim.Native.Nat.{_≤_}
@@ -6,9 +6,9 @@ use native.Mathlib.Omega.{arith}
 use borrow.Author.Tests.{not-true, not-false}
 use lib.ListN.{length, length-set}
 use Rattle.store.proofs.Sound.{numbers-mean}
-use Rattle.store_check.proofs.Fresh.{fresh-written, created-9, created-10, created-fresh}
-use Rattle.store_check.proofs.create.create.Statement.{statement}
-use Rattle.store_check.proofs.create.create.Tie as tie
+use Rattle.store_write.proofs.Fresh.{fresh-written, created-9, created-10, created-fresh}
+use Rattle.store_write.proofs.create.create.Statement.{statement}
+use Rattle.store_write.proofs.create.create.Tie as tie
 
 -- question 9 was answered yes
 right : (c : tie.Else1) →
