@@ -1,11 +1,8 @@
 // Cases, each a schedule or a single call on any bytes: found in a file, run, and printed.
 //
 // Every function is proved safe: it reads and writes within its bytes, and ends. Proved besides: where the parts of a case end
-// (`parts`), and where the rows of a store are (`rows`). The calls that are made here have the promises of their own crates. Only
-// executed, and held to the second supplier's output: which call a case stands for, the texts of the lines, and their order.
+// (`parts`). The calls that are made here have the promises of their own crates. Only executed, and held to the second supplier's
+// output: which call a case stands for.
 pub mod call;
-pub mod lines;
 pub mod parts;
-pub mod print;
-pub mod rows;
 pub mod run;

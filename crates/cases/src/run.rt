@@ -1,7 +1,7 @@
 // A case is run and printed.
 use crate::call;
 use crate::parts;
-use crate::print;
+use case_print::print;
 use libc::STDOUT_FILENO;
 ghost use mathlib.Core.Path.{_≡_};
 ghost use Prim.Native.Nat.{_≤_};

@@ -9,10 +9,10 @@ fn print_numbered(c: &[u8], number: u64, buffer: &mut [u8]) -> usize
     ensures { λ r. ⌜ r ≤ length (now (c .entry)) ⌝ }
 {
     let mut line = [0u8; 32];
-    let n = cases::lines::case_line(&mut line, number);
+    let n = case_print::lines::case_line(&mut line, number);
     let size = cases::run::print_case(c, &line[..n], true, buffer);
     if size == 0 {
-        cases::print::print_malformed(number);
+        case_print::print::print_malformed(number);
     }
     size
 }

@@ -151,7 +151,7 @@ fn is_moved(answer: Answer) -> bool {
 
 // A call's answer, and the record that it left.
 fn write_call(answer: Answer, a: Agent) {
-    cases::print::print_answer(answer);
+    case_print::print::print_answer(answer);
     write_record(a);
 }
 
@@ -190,9 +190,9 @@ fn write_agent(pack: &[u8], store: &mut [u8]) {
     write_verdict(store_write::create::create(store, 2, 5));
     let a = started(pack, store);
     let left = write_turns(pack, store, a, 12);
-    cases::print::print_store(store);
+    case_print::print::print_store(store);
     write_turns(pack, store, left, 1);
-    cases::print::print_store(store);
+    case_print::print::print_store(store);
 }
 
 fn main() {
