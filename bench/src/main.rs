@@ -3,11 +3,13 @@
 //!     bench                   times all cases: nanoseconds for each side, and the ratio
 //!     bench list              the cases' names
 //!     bench once CASE SIDE    does one case once, inside `bench_measured`: for counts of instructions
+//!     bench calls [FILES]     compares the single calls of generated files (25): no times
 //!
 //! SIDE is `ours`, `reference`, or `pass`: one pass over all bytes that each call is lent, which adds their words up and is the limit
 //! that no check of them can go below. Each case is first done by both sides, and their answers and rows are compared. Times are
 //! the best of many runs, since another program on the machine can only add to them.
 
+mod calls;
 mod inputs;
 mod sides;
 
@@ -194,6 +196,16 @@ fn once(case: &Case, side: &str) {
     }
 }
 
+fn compare_calls(files: &str) {
+    match calls::compare(files.parse().expect("a number of files")) {
+        Ok(compared) => println!("compared {compared} calls: no difference"),
+        Err(difference) => {
+            println!("{difference}");
+            std::process::exit(1);
+        }
+    }
+}
+
 fn main() {
     let words: Vec<String> = std::env::args().skip(1).collect();
     let words: Vec<&str> = words.iter().map(String::as_str).collect();
@@ -213,6 +225,8 @@ fn main() {
                 println!("{:<26} {ours:>11.0} {theirs:>14.0} {:>6.2} {limit:>13.0}", case.name, ours / theirs);
             }
         }
-        _ => eprintln!("bench | bench list | bench once CASE SIDE"),
+        ["calls"] => compare_calls("25"),
+        ["calls", files] => compare_calls(files),
+        _ => eprintln!("bench | bench list | bench once CASE SIDE | bench calls [FILES]"),
     }
 }

@@ -1,0 +1,67 @@
+//! Generated single calls on any bytes, done by the library through its C interface and by the reference.
+
+use crate::sides::{answer, bytes, Lent};
+use reference::cases::{self, CallCase, Case, Order, Performed};
+use reference::{generate, Store};
+
+/// How many cases a file has: as many as the gate's own file.
+const CASES: usize = 1000;
+
+/// The bytes of an opened workflow's two parts; empty on a refusal.
+type Parts = (Vec<u8>, Vec<u8>);
+
+/// The rows of each partition by rising key; of bytes that are no store the bytes.
+fn rows(bytes: &[u8]) -> Result<Vec<Vec<(u64, u32)>>, Vec<u8>> {
+    let store = Store::lay_out(bytes).map_err(|_| bytes.to_vec())?;
+    Ok((0..=store.shape().book()).map(|partition| store.sorted_rows(partition)).collect())
+}
+
+fn ours(case: &CallCase, lent: &mut Lent) -> (sarthule::Answer, Parts) {
+    let none = Parts::default();
+    match case.order {
+        Order::Check => (sarthule::check(&lent.pack), none),
+        Order::Open { workflow } => {
+            let (answer, parts) = sarthule::open(&lent.pack, workflow);
+            let part = |(from, length): (usize, usize)| lent.pack[from..from + length].to_vec();
+            (answer, (part(parts.operations), part(parts.operands)))
+        }
+        Order::Create { partitions, rows } => {
+            (sarthule::create(&mut lent.store, partitions as usize, rows as usize), none)
+        }
+        Order::Call(call) => (lent.perform(&call), none),
+    }
+}
+
+/// What differs between the two, if anything does. Where a call is refused, nothing lent may have changed, byte for byte.
+fn difference(case: &CallCase) -> Option<&'static str> {
+    let mut lent = Lent { pack: case.pack.clone(), store: case.store.clone(), slots: bytes(&case.slots) };
+    let (found, parts) = ours(case, &mut lent);
+    let Performed { outcome, opened, store, slots } = case.perform();
+    let expected = opened.map_or(Parts::default(), |part| (part.operations.to_vec(), part.operands.to_vec()));
+    let refused = matches!(found, sarthule::Answer::Refused { .. });
+    let tests = [
+        ("the answer", found == answer(outcome)),
+        ("the parts", parts == expected),
+        ("the rows", rows(&lent.store) == rows(&store)),
+        ("the slots", lent.slots == bytes(&slots)),
+        ("what a refusal leaves", !refused || (lent.store == case.store && lent.slots == bytes(&case.slots))),
+        ("the pack", lent.pack == case.pack),
+    ];
+    tests.iter().find(|(_, same)| !same).map(|(what, _)| *what)
+}
+
+/// Compares the single calls of so many generated files, and says how many they were or which is the first that differs.
+pub fn compare(files: u64) -> Result<usize, String> {
+    let mut compared = 0;
+    for seed in 1..=files {
+        let cases = cases::read_all(&generate::file(seed, CASES));
+        for (number, case) in cases.iter().enumerate() {
+            let Some(Case::Call(case)) = case else { continue };
+            if let Some(what) = difference(case) {
+                return Err(format!("seed {seed}, case {number}: {what} differs ({:?})", case.order));
+            }
+            compared += 1;
+        }
+    }
+    Ok(compared)
+}
