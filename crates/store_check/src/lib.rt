@@ -1,5 +1,4 @@
 // Questions 9 to 12, put to any bytes.
-
 use rules::Verdict;
 use store::head::capacity;
 use store::head::key_place;

@@ -1,7 +1,9 @@
 -- `block::logged` meets its contract. Assumes nothing.
-use mathlib.Core.Path.{sym, ap, _∙_}
+use mathlib.Core.Path.{_≡_, sym, ap, _∙_}
 use Prim.Native.Nat.{ℕ}
+use native.Mathlib.Omega.{arith}
 use borrow.Author.Needs.{needs}
+use Rattle.rules.specs.Keys.{logKey}
 use Rattle.store.specs.Rows.{lookup, rowsOf}
 use Rattle.store.specs.Answers.{gotOf}
 use Rattle.block.proofs.Writes.{log-at}
@@ -16,7 +18,8 @@ logged-spec =
     (λ c κs. search needs)
     (λ c.
     let lk = c .before in
-    let a = lk .before .before .args in
-    let k = lk .log-key .ensures in
+    let st = lk .before .before in
+    let a = st .args in
     let rs = rowsOf (a .store .now) (a .partition) in
-    c .get .ensures ∙ ap (λ (j : ℕ). gotOf (lookup j rs)) (k .0) ∙ ap gotOf (sym (log-at rs (a .id) (a .step) (k .1) (k .2)))))
+    let key : lk .log-key .result ≡ logKey (a .id) (a .step) = lk .log-key .ensures .0 in
+    c .get .ensures ∙ ap (λ (j : ℕ). gotOf (lookup j rs)) key ∙ ap gotOf (sym (log-at rs (a .id) (a .step) (omega (arith, st .fits .id .fits)) (omega (arith, st .fits .step .fits))))))
