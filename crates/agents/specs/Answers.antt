@@ -1,6 +1,7 @@
 -- The code's answers in the document's words: number and values for each case. Assumes nothing: these are definitions.
 use mathlib.Core.List.{List}
 use Rattle.rules.specs.Questions.{no}
+use Rattle.rules.specs.Blocks.{yields}
 use Rattle.rules.specs.Calls as Rules
 use Rattle.agents.specs.declared.Agent.{Agent}
 use Rattle.agents.specs.declared.Answer.{Answer}
@@ -11,7 +12,7 @@ use Rattle.agents.specs.declared.Outcome.{Outcome}
 unfoldable pub answerOf : Answer → Rules.Answer
 answerOf Done = Rules.done
 answerOf Moved = Rules.moved
-answerOf (Reply id value) = Rules.reply id value
+answerOf (Reply id value) = Rules.reply id (yields value)
 answerOf (Refused question workflow instruction) = Rules.refused (no question workflow instruction)
 
 -- an answer, with what it leaves in the slots

@@ -7,6 +7,7 @@ use mathlib.Core.Path.{_≡_}
 use Prim.Native.Nat.{ℕ, zero, suc, _<_}
 use lib.ListN.{length, getD, replicate}
 use Rattle.rules.specs.Basics.{if_then_else_}
+use Rattle.rules.specs.Courses.{going}
 use Rattle.rules.specs.Calls as Rules
 use Rattle.agents.specs.declared.Agent.{Agent}
 
@@ -20,7 +21,7 @@ agentAt records slot = getD records slot (record { «in_use» = false; id = 0; p
 
 -- the agent of a record in use
 abbrev pub held : Agent → Rules.Agent
-held r = record { id = r .id; place = record { position = r .position; registers = r .registers }; step = r .step }
+held r = record { id = r .id; course = going (record { position = r .position; registers = r .registers }); step = r .step }
 
 -- what a record means: an agent, or none
 unfoldable pub agentOf : Agent → Option Rules.Agent
@@ -30,7 +31,7 @@ agentOf r = if r .«in_use» then some (held r) else none
 unfoldable pub recordOf : Option Rules.Agent → Agent
 recordOf none = noAgent
 recordOf (some a) =
-    record { «in_use» = true; id = a .id; position = a .place .position; step = a .step; registers = a .place .registers }
+    record { «in_use» = true; id = a .id; position = a .course .place .position; step = a .step; registers = a .course .place .registers }
 
 -- the slots that records stand for: none from the last record on
 unfoldable pub slotsOf : List Agent → (slot : ℕ) → Option Rules.Agent

@@ -4,6 +4,7 @@ use mathlib.Core.Option.{Option, none, some}
 use Prim.Native.Nat.{ℕ}
 use lib.ListN.{length}
 use Rattle.rules.specs.Questions.{No}
+use Rattle.rules.specs.Blocks.{yields}
 use Rattle.rules.specs.Calls.{Answer, done, moved, reply, refused}
 use Rattle.agents.specs.declared.Agent.{Agent}
 use Rattle.slots.specs.Records.{puts, withSlots}
@@ -12,14 +13,14 @@ use Rattle.slots.specs.Records.{puts, withSlots}
 unfoldable pub numberOf : Answer → ℕ
 numberOf done = 0
 numberOf moved = 1
-numberOf (reply id value) = 2
+numberOf (reply id (yields value)) = 2
 numberOf (refused n) = 3
 
 -- its three words
 unfoldable pub valuesOf : Answer → List ℕ
 valuesOf done = 0 ∷ 0 ∷ 0 ∷ []
 valuesOf moved = 0 ∷ 0 ∷ 0 ∷ []
-valuesOf (reply id value) = id ∷ value ∷ 0 ∷ []
+valuesOf (reply id (yields value)) = id ∷ value ∷ 0 ∷ []
 valuesOf (refused n) = n .question ∷ n .workflow ∷ n .instruction ∷ []
 
 -- the answer buffer with words of 4 bytes each from its start on

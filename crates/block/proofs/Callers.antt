@@ -4,53 +4,30 @@ use mathlib.Core.List.{List}
 use mathlib.Core.Logic.{_≢_}
 use mathlib.Core.Option.{Option, none, some}
 use mathlib.Core.Path.{_≡_, refl, sym, ap, ap₂, _∙_, subst, fun-ext}
-use Prim.Native.Nat.{ℕ, _+_, _*_, _<_}
+use Prim.Native.Nat.{ℕ, suc, _+_, _<_}
 use native.Mathlib.Omega.{arith}
 use native.Mathlib.Decide.{ℕ-discrete}
 use borrow.Author.Tests.{lt-ltb}
 use lib.Dec.{ltb, leb}
 use lib.ListN.{length}
 use Rattle.rules.specs.Basics.{if_then_else_, update}
-use Rattle.rules.specs.Instructions.{Instruction, Code, Place, opens, act, actAt}
+use Rattle.rules.specs.Instructions.{Code, Place}
 use Rattle.rules.specs.Instructions as Instructions
-use Rattle.rules.specs.Blocks.{Block, runBlock, rowsNeeded}
-use Rattle.rules.specs.Store.{Request, Store, written}
-use Rattle.rules.specs.Calls.{Agent, State, canWrite, passes, throughBlock}
+use Rattle.rules.specs.Blocks.{Block, yields, runBlock, rowsNeeded}
+use Rattle.rules.specs.Blocks as Blocks
+use Rattle.rules.specs.Courses.{Course}
+use Rattle.rules.specs.Store.{Request, Store, sought, withRow, written}
+use Rattle.rules.specs.Store as Stores
+use Rattle.rules.specs.Calls.{Agent, State, canWrite, movesTo, throughBlock}
 use Rattle.rules.specs.Calls as Calls
 use Rattle.rules.proofs.Updates.{update-same, update-other}
 use Rattle.store.specs.Rows.{Row, rowsOf}
 use Rattle.store.specs.Layout.{partsOf, capOf}
 use Rattle.store.specs.Sound.{Sound}
-use Rattle.operation.specs.Operations.{begin}
-use Rattle.code.specs.Layout.{operationAt, wordAt}
-use Rattle.code.specs.Meaning.{codeOf}
-use Rattle.code.specs.Meaning as Meaning
-use Rattle.code.proofs.Decoded.{instruction-at}
-use Rattle.pack.specs.Layout.{count, operationsOf, operandsOf}
-use Rattle.pack.specs.Refusal.{packRefusal}
-use Rattle.pack.proofs.Sizes.{length-operations, length-operands}
-use Rattle.pack.proofs.Laws.{accepted-laid, accepted-workflow}
 use Rattle.block.specs.declared.write.BlockOutcome.{BlockOutcome}
 use Rattle.block.specs.declared.write.BlockOutcome.the-variants.{Result, NoRoom}
-use Rattle.block.specs.Run.{Right}
-use Rattle.block.specs.Through.{tableIn, logIn, hasRoom, Committed, Through}
+use Rattle.block.specs.Through.{outcomeOf, loggedValue, tableIn, logIn, hasRoom, Committed, Through}
 use Rattle.block.specs.Store.{storeIn, hadRoom}
-
--- ---- the pack
-
-pub accepted-right : (p : List ℕ) → packRefusal p ≡ none → (w : ℕ) → w < count p → Right (operationsOf p w) (operandsOf p w)
-accepted-right p e w h =
-    let l = accepted-laid p e in
-    record {
-      sized = length-operands p l w h ∙ ap (λ (n : ℕ). 4 * n) (sym (length-operations p l w h));
-      workflow = w;
-      yes = accepted-workflow p e w h;
-    }
-
--- an instruction with operation 6 opens the block of the partition that its operand names
-pub begin-opens : (ops ws : List ℕ) (at : Place) → at .position < length ops → operationAt ops (at .position) ≡ begin → actAt (codeOf ops ws) at ≡ opens (wordAt ws (at .position))
-unfolding Instructions.actAt Instructions.act Meaning.decode
-begin-opens ops ws at h e = ap (λ (i : Instruction). act i at) (instruction-at ops ws (at .position) h) ∙ rw e refl
 
 -- ---- the store
 
@@ -70,7 +47,7 @@ module _ (book : List Row → ℕ → Option Request) where
     pub rows-in : storeIn book xs .rows p ≡ tableIn (rowsOf xs p)
     rows-in = λ i k. if_then_else_ (lt-ltb p (partsOf xs) h i) (tableIn (rowsOf xs p) k) none
 
-    pub log-in : storeIn book xs .log p ≡ logIn (rowsOf xs p)
+    pub log-in : storeIn book xs .log .usual p ≡ logIn (rowsOf xs p)
     log-in = λ i id t. if_then_else_ (lt-ltb p (partsOf xs) h i) (logIn (rowsOf xs p) id t) none
 
   -- the rules' rows, and no others
@@ -85,7 +62,26 @@ module _ (book : List Row → ℕ → Option Request) where
     more-used = used-in ys p still ∙ c .used ∙ ap (λ (n : ℕ). n + rowsNeeded b) (sym (used-in xs p h))
 
     abbrev with-row : (ℕ → ℕ → Option ℕ) → ℕ → ℕ → Option ℕ
-    with-row l = update l id (update (l id) t (some (b .result)))
+    with-row l = update l id (update (l id) t (some (loggedValue (b .result))))
+
+    log-usual : storeIn book ys .log ≡ record { usual = update (storeIn book xs .log .usual) p (with-row (storeIn book xs .log .usual p)) }
+    log-usual = λ i.
+        record {
+          usual =
+              changed (storeIn book xs .log .usual) (storeIn book ys .log .usual) p (with-row (storeIn book xs .log .usual p))
+              (log-in ys p still ∙ c .log ∙ ap with-row (sym (log-in xs p h)))
+              (λ q n j m u. if_then_else_ (ltb q (c .parts j)) (logIn (c .others q n j) m u) none) i;
+        }
+
+    row-as : (v : Blocks.Result) →
+        record {
+          usual =
+              update (storeIn book xs .log .usual) p
+              (update (storeIn book xs .log .usual p) id (update (storeIn book xs .log .usual p id) t (some (loggedValue v))));
+        }
+        ≡ withRow (storeIn book xs .log) p id t v
+    unfolding Stores.withRow
+    row-as (yields v) = refl
 
     pub committed-store : storeIn book ys ≡ written (storeIn book xs) p id t b
     committed-store =
@@ -98,9 +94,7 @@ module _ (book : List Row → ℕ → Option Request) where
           rows =
               changed (storeIn book xs .rows) (storeIn book ys .rows) p (b .table) (rows-in ys p still ∙ c .table)
               (λ q n j k. if_then_else_ (ltb q (c .parts j)) (tableIn (c .others q n j) k) none) i;
-          log =
-              changed (storeIn book xs .log) (storeIn book ys .log) p (with-row (storeIn book xs .log p)) (log-in ys p still ∙ c .log ∙ ap with-row (sym (log-in xs p h)))
-              (λ q n j m u. if_then_else_ (ltb q (c .parts j)) (logIn (c .others q n j) m u) none) i;
+          log = (log-usual ∙ row-as (b .result)) i;
           bookUsed = length (same-book i);
           book = book (same-book i);
         }
@@ -110,7 +104,7 @@ module _ (book : List Row → ℕ → Option Request) where
 -- the three ways through a block
 data Came (xs ys : List ℕ) (p id t : ℕ) (b : Block) (r : BlockOutcome) (o : Option ℕ) : Type 0 where
   found : (v : ℕ) → o ≡ some v → r ≡ Result v → ys ≡ xs → Came xs ys p id t b r o
-  wrote : o ≡ none → hasRoom xs p b ≡ true → r ≡ Result (b .result) → Committed xs ys p id t b → Came xs ys p id t b r o
+  wrote : o ≡ none → hasRoom xs p b ≡ true → r ≡ outcomeOf (b .result) → Committed xs ys p id t b → Came xs ys p id t b r o
   full : o ≡ none → hasRoom xs p b ≡ false → r ≡ NoRoom → ys ≡ xs → Came xs ys p id t b r o
 
 came : (xs ys : List ℕ) (p id t : ℕ) (b : Block) (r : BlockOutcome) (o : Option ℕ) → Through xs ys p id t b r o → Came xs ys p id t b r o
@@ -118,9 +112,15 @@ unfolding Through
 came xs ys p id t b r (some v) (e, q) = found v refl e q
 came xs ys p id t b r none q = go (hasRoom xs p b) refl q
   where
-    go : (m : Bool) → hasRoom xs p b ≡ m → if_then_else_ m ((r ≡ Result (b .result)) × Committed xs ys p id t b) ((r ≡ NoRoom) × (ys ≡ xs)) → Came xs ys p id t b r none
+    go : (m : Bool) → hasRoom xs p b ≡ m → if_then_else_ m ((r ≡ outcomeOf (b .result)) × Committed xs ys p id t b) ((r ≡ NoRoom) × (ys ≡ xs)) → Came xs ys p id t b r none
     go true m (e, c) = wrote refl m e c
     go false m (e, c) = full refl m e c
+
+had : (v : Blocks.Result) → hadRoom (outcomeOf v) ≡ true
+had (yields v) = refl
+
+result-as : {v : ℕ} {r : BlockOutcome} (w : Blocks.Result) → r ≡ outcomeOf w → r ≡ Result v → w ≡ yields v
+result-as {v} {r} (yields w) e f = let q : w ≡ v = cc in ap yields q
 
 same-result : {v w : ℕ} {r : BlockOutcome} → r ≡ Result v → r ≡ Result w → v ≡ w
 same-result {v} {w} {r} e f = cc
@@ -128,12 +128,15 @@ same-result {v} {w} {r} e f = cc
 never-both : {A : Type 0} {v : ℕ} {r : BlockOutcome} → r ≡ Result v → r ≡ NoRoom → A
 never-both {v} {r} e f = let z : _≡_ {A = ℕ} 0 1 = cc in absurd (omega arith)
 
+never-wrote : {A : Type 0} {r : BlockOutcome} (v : Blocks.Result) → r ≡ outcomeOf v → r ≡ NoRoom → A
+never-wrote {r} (yields v) e f = never-both e f
+
 -- Agent a stands at BEGIN of a block of partition p: xs are the bytes before, ys those that the block leaves, r is what it comes to, o what
 -- its log row says.
-module _ (book : List Row → ℕ → Option Request) (xs ys : List ℕ) (p : ℕ) (h : p < partsOf xs) (a : Agent) (code : Code) (r : BlockOutcome) (o : Option ℕ)
-    (through : Through xs ys p (a .id) (a .step) (runBlock code (a .place) (tableIn (rowsOf xs p))) r o) where
+module _ (book : List Row → ℕ → Option Request) (xs ys : List ℕ) (p : ℕ) (h : p < partsOf xs) (a : Agent) (code : Code) (from : Place) (onto : Blocks.Result → Course) (r : BlockOutcome) (o : Option ℕ)
+    (through : Through xs ys p (a .id) (a .step) (runBlock code from (tableIn (rowsOf xs p))) r o) where
   abbrev block : Block
-  block = runBlock code (a .place) (tableIn (rowsOf xs p))
+  block = runBlock code from (tableIn (rowsOf xs p))
 
   abbrev way : Came xs ys p (a .id) (a .step) block r o
   way = came xs ys p (a .id) (a .step) block r o through
@@ -141,34 +144,39 @@ module _ (book : List Row → ℕ → Option Request) (xs ys : List ℕ) (p : �
   abbrev holding : (ℕ → Option Agent) → List ℕ → State
   holding slots zs = record { store = storeIn book zs; slots = slots }
 
-  same-block : runBlock code (a .place) (storeIn book xs .rows p) ≡ block
-  same-block = ap (runBlock code (a .place)) (rows-in book xs p h)
+  same-block : runBlock code from (storeIn book xs .rows p) ≡ block
+  same-block = ap (runBlock code from) (rows-in book xs p h)
 
-  room-as : canWrite (storeIn book xs) a code p none ≡ hasRoom xs p block
+  room-as : canWrite (storeIn book xs) code from p none ≡ hasRoom xs p block
   unfolding Calls.canWrite
   room-as = ap₂ (λ (n : ℕ) (b : Block). leb (n + rowsNeeded b) (capOf xs)) (used-in book xs p h) same-block
 
   -- question 21 says yes exactly where the code had room
-  pub can-write : canWrite (storeIn book xs) a code p o ≡ hadRoom r
+  pub can-write : canWrite (storeIn book xs) code from p (sought o) ≡ hadRoom r
   unfolding Calls.canWrite
   can-write = go way
     where
-      go : Came xs ys p (a .id) (a .step) block r o → canWrite (storeIn book xs) a code p o ≡ hadRoom r
-      go (found v e f q) = ap (canWrite (storeIn book xs) a code p) e ∙ sym (ap hadRoom f)
-      go (wrote e m f c) = ap (canWrite (storeIn book xs) a code p) e ∙ room-as ∙ m ∙ sym (ap hadRoom f)
-      go (full e m f q) = ap (canWrite (storeIn book xs) a code p) e ∙ room-as ∙ m ∙ sym (ap hadRoom f)
+      go : Came xs ys p (a .id) (a .step) block r o → canWrite (storeIn book xs) code from p (sought o) ≡ hadRoom r
+      go (found v e f q) = ap (λ w. canWrite (storeIn book xs) code from p (sought w)) e ∙ sym (ap hadRoom f)
+      go (wrote e m f c) = ap (λ w. canWrite (storeIn book xs) code from p (sought w)) e ∙ room-as ∙ m ∙ sym (ap hadRoom f ∙ had (block .result))
+      go (full e m f q) = ap (λ w. canWrite (storeIn book xs) code from p (sought w)) e ∙ room-as ∙ m ∙ sym (ap hadRoom f)
 
   -- and then the rules pass the block with the code's result, in a state that holds the bytes left
-  pub passes-block : (slots : ℕ → Option Agent) (slot v : ℕ) → r ≡ Result v → throughBlock (holding slots xs) slot a code p o ≡ passes (holding slots ys) slot a code v
+  pub passes-block : (slots : ℕ → Option Agent) (slot v : ℕ) → r ≡ Result v →
+      throughBlock (holding slots xs) slot a code from p onto (sought o) ≡ movesTo (holding slots ys) slot a (onto (yields v)) (suc (a .step))
   unfolding Calls.throughBlock
   passes-block slots slot v z = go way
     where
-      go : Came xs ys p (a .id) (a .step) block r o → throughBlock (holding slots xs) slot a code p o ≡ passes (holding slots ys) slot a code v
-      go (found w e f q) = ap (throughBlock (holding slots xs) slot a code p) e ∙ ap₂ (λ zs n. passes (holding slots zs) slot a code n) (sym q) (same-result f z)
+      go : Came xs ys p (a .id) (a .step) block r o →
+          throughBlock (holding slots xs) slot a code from p onto (sought o) ≡ movesTo (holding slots ys) slot a (onto (yields v)) (suc (a .step))
+      go (found w e f q) =
+          ap (λ w. throughBlock (holding slots xs) slot a code from p onto (sought w)) e
+          ∙ ap₂ (λ zs n. movesTo (holding slots zs) slot a (onto (yields n)) (suc (a .step))) (sym q) (same-result f z)
       go (wrote e m f c) =
-          ap (throughBlock (holding slots xs) slot a code p) e
-          ∙ ap (λ (b : Block). passes (record { store = written (storeIn book xs) p (a .id) (a .step) b; slots = slots }) slot a code (b .result)) same-block
-          ∙ ap₂ (λ (s : Store) (n : ℕ). passes (record { store = s; slots = slots }) slot a code n) (sym (committed-store book xs ys p (a .id) (a .step) block h c)) (same-result f z)
+          ap (λ w. throughBlock (holding slots xs) slot a code from p onto (sought w)) e
+          ∙ ap (λ (b : Block). movesTo (record { store = written (storeIn book xs) p (a .id) (a .step) b; slots = slots }) slot a (onto (b .result)) (suc (a .step))) same-block
+          ∙ ap₂ (λ (s : Store) (n : Blocks.Result). movesTo (record { store = s; slots = slots }) slot a (onto n) (suc (a .step)))
+          (sym (committed-store book xs ys p (a .id) (a .step) block h c)) (result-as (block .result) f z)
       go (full e m f q) = never-both z f
 
   -- a no to question 21 changes nothing
@@ -177,7 +185,7 @@ module _ (book : List Row → ℕ → Option Request) (xs ys : List ℕ) (p : �
     where
       go : Came xs ys p (a .id) (a .step) block r o → ys ≡ xs
       go (found v e f q) = q
-      go (wrote e m f c) = never-both f z
+      go (wrote e m f c) = never-wrote (block .result) f z
       go (full e m f q) = q
 
   -- P, C and the book stay, and the store is sound

@@ -1,90 +1,42 @@
 -- An instruction of a workflow that is right and stands inside a block: what the questions say of it. Assumes nothing.
 use mathlib.Core.Bool.{Bool, true, false}
 use mathlib.Core.List.{List}
-use mathlib.Core.Option.{none}
 use mathlib.Core.Path.{_≡_, refl, sym, ap, _∙_, subst}
-use Prim.Native.Nat.{ℕ, zero, suc, _+_, _-_, _%_, _≤_, _<_}
+use Prim.Native.Nat.{ℕ, zero, suc, _+_, _-_, _≤_, _<_}
 use native.Mathlib.Nat.{add-zero}
 use native.Mathlib.Numerals.{add-one}
 use native.Mathlib.Omega.{arith}
-use borrow.Author.Tests.{ltb-true, eqb-true, eqb-false, not-true}
-use lib.Dec.{ltb, eqb}
+use borrow.Author.Tests.{eqb-false, not-true}
+use lib.Dec.{eqb}
 use lib.ListN.{length, getD}
 use Rattle.rules.specs.Basics.{if_then_else_}
 use Rattle.rules.specs.Verdicts.{verdictOf}
 use Rattle.rules.specs.declared.Verdict.the-variants.{Accepted}
-use Rattle.rules.proofs.Tests.{no-yes, and-left}
 use Rattle.rules.proofs.Each.{each-at}
 use Rattle.operation.specs.declared.Operand.the-variants.{Jump}
-use Rattle.operation.specs.Parts.{sourceOf, targetOf}
-use Rattle.operation.specs.Operations.{begin, end, put, return, operandOf}
+use Rattle.operation.specs.Parts.{targetOf}
+use Rattle.operation.specs.Operations.{end, put, operandOf}
 use Rattle.operation.specs.Operations as Operations
 use Rattle.code.specs.Layout.{operationAt, wordAt}
-use Rattle.code.specs.Questions.{insideAt, putsBefore, inRange, isNoEnd, question6}
+use Rattle.code.specs.Questions.{insideAt, putsBefore, isNoEnd}
 use Rattle.code.specs.Questions as Questions
 use Rattle.code.specs.Refusal.{instructionNo}
-use Rattle.code.proofs.Judged.{yes-5, yes-6, yes-7, operand-ranged, stood, lands-right, counted-put}
+use Rattle.code.proofs.Judged.{yes-7, lands-right, counted-put}
 use Rattle.code.proofs.Steps.{stays-inside, puts-next}
-use Rattle.code.proofs.Decoded.{by-operation, right-at, operation-known}
-use Rattle.instruction.specs.Step.{putsOf, Sourced, Fits}
-use Rattle.block.specs.Run.{Right, Inside}
+use Rattle.code.proofs.Right.{yes-at, known-at, yes-6-at, no-begin, no-return}
+use Rattle.instruction.specs.Step.{putsOf, Fits}
+use Rattle.instruction.proofs.Sourced.{sourced-at}
+use Rattle.code.specs.Right.{Right}
+use Rattle.block.specs.Run.{Inside}
 use Rattle.instruction.specs.declared.Running.{Running}
 
--- the register that an operand in range names
-sourced : (op size i w : ℕ) → op < 12 → inRange (operandOf op) size i w ≡ true → Sourced op w
-unfolding Operations.operandOf Questions.inRange
-sourced op size i w h r =
-    by-operation (λ (n : ℕ). inRange (operandOf n) size i w ≡ true → Sourced n w)
-    (λ e n. absurd (n refl))
-    below8
-    below8
-    below8
-    (λ e n. low e)
-    (λ e n. low e)
-    below8
-    (λ e n. let l = eqb-true w 0 e in omega arith)
-    below8
-    below8
-    below8
-    (λ e n. let l = eqb-true w 0 e in omega arith)
-    op h r
-  where
-    below8 : {n : ℕ} → ltb w 8 ≡ true → (n ≡ 0 → ⊥) → w ≡ w % 8
-    below8 e n = let l = ltb-true w 8 e in omega arith
-
-    low : inRange Jump size i w ≡ true → sourceOf w ≡ w % 8
-    low e = let l = ltb-true (sourceOf w) 8 (and-left (ltb (sourceOf w) 8) (ltb i (targetOf w)) (and-left _ (ltb (targetOf w) size) e)) in omega arith
-
 module _ (ops ws : List ℕ) (right : Right ops ws) where
-  yes-at : (i : ℕ) → i < length ops → instructionNo (right .workflow) ops ws i ≡ none
-  yes-at i h = right-at (right .workflow) ops ws (right .yes) i h
-
-  pub known-at : (i : ℕ) → i < length ops → operationAt ops i < 12
-  known-at i h = operation-known (right .workflow) ops ws (right .yes) i h
-
-  pub ranged-at : (i : ℕ) → i < length ops → inRange (operandOf (operationAt ops i)) (length ops) i (wordAt ws i) ≡ true
-  ranged-at i h = operand-ranged ops ws i (yes-5 (right .workflow) ops ws i (yes-at i h))
-
-  pub sourced-at : (i : ℕ) → i < length ops → Sourced (operationAt ops i) (wordAt ws i)
-  sourced-at i h = sourced (operationAt ops i) (length ops) i (wordAt ws i) (known-at i h) (ranged-at i h)
-
   module _ (i : ℕ) (h : i < length ops) (s : insideAt ops i ≡ true) where
-    yes-6-at : question6 ops ws i ≡ true
-    yes-6-at = yes-6 (right .workflow) ops ws i (yes-at i h)
-
-    pub no-begin : operationAt ops i ≡ begin → ⊥
-    unfolding Operations.sideOf Questions.stands
-    no-begin e = no-yes (stood ops ws i begin true e s yes-6-at)
-
-    pub no-return : operationAt ops i ≡ return → ⊥
-    unfolding Operations.sideOf Questions.stands
-    no-return e = no-yes (stood ops ws i return true e s yes-6-at)
-
     accepted : Accepted ≡ verdictOf (instructionNo (right .workflow) ops ws i)
-    accepted = ap verdictOf (sym (yes-at i h))
+    accepted = ap verdictOf (sym (yes-at ops ws right i h))
 
     put-room : operationAt ops i ≡ put → putsBefore ops i < 16
-    put-room e = counted-put ops i e (yes-7 (right .workflow) ops ws i (yes-at i h))
+    put-room e = counted-put ops i e (yes-7 (right .workflow) ops ws i (yes-at ops ws right i h))
 
     module _ (n : operationAt ops i ≡ end → ⊥) where
       pub inside-next : insideAt ops (suc i) ≡ true
@@ -115,16 +67,16 @@ module _ (ops ws : List ℕ) (right : Right ops ws) where
       (k : ℕ) → suc i ≤ k → k < targetOf (wordAt ws i) → isNoEnd ops k ≡ true
   unfolding Questions.lands Questions.landsFrom
   jump-no-end i h s j k l l′ =
-      let q = rw (j, s) at (lands-right ops ws i (yes-6-at i h s)) in
+      let q = rw (j, s) at (lands-right ops ws i (yes-6-at ops ws right i h)) in
       each-at (isNoEnd ops) (targetOf (wordAt ws i) - (i + 1)) (i + 1) q k (omega arith) (omega arith)
 
   -- what the code's step asks for
   pub fits-here : (x : Running) (w : ℕ) → x .place .position < length ops → Inside ops x → (operationAt ops (x .place .position) ≡ end → ⊥) → w ≡ wordAt ws (x .place .position) → Fits (getD ops (x .place .position) 0) w x
   fits-here x w h on n e =
       record {
-        known = omega (arith, known-at (x .place .position) h, no-return (x .place .position) h (on .inside));
-        no-begin = no-begin (x .place .position) h (on .inside);
+        known = omega (arith, known-at ops ws right (x .place .position) h, no-return ops ws right (x .place .position) h (on .inside));
+        no-begin = no-begin ops ws right (x .place .position) h (on .inside);
         no-end = n;
-        sourced = rw e (sourced-at (x .place .position) h);
+        sourced = rw e (sourced-at ops ws right (x .place .position) h);
         room = λ q. omega (arith, on .few, put-room (x .place .position) h (on .inside) q);
       }

@@ -1,25 +1,30 @@
 -- A run inside a block of a workflow that is right: it goes forward, stays inside, has room for its PUTs, and the rules' run goes on as it
 -- does. Assumes nothing.
-use mathlib.Core.Bool.{Bool, true, false}
+use mathlib.Core.Bool.{true}
 use mathlib.Core.List.{List, []}
 use mathlib.Core.Logic.{_⊎_, inl, inr}
+use mathlib.Core.Option.{some}
 use mathlib.Core.Path.{_≡_, refl, sym, ap, _∙_, subst}
 use Prim.Native.Nat.{ℕ, suc, _+_, _-_, _≤_, _<_}
 use native.Mathlib.Numerals.{add-one}
 use native.Mathlib.Omega.{arith}
-use lib.Dec.{ltb, eqb}
+use borrow.Author.Tests.{eqb-true}
 use lib.ListN.{length, getD}
-use Rattle.rules.specs.Basics.{if_then_else_}
-use Rattle.rules.specs.Instructions.{Instruction, act, actAt, goto, next}
-use Rattle.rules.specs.Blocks.{Work, Block, close, within, runFrom, runBlock}
+use Rattle.rules.specs.Instructions.{Instruction, Act, moves, opens, closes, reads, puts, returns, act}
+use Rattle.rules.specs.Shapes.{outside, shape}
+use Rattle.rules.specs.Blocks.{yields, closing, Work, Block, close, within, runFrom, runBlock}
 use Rattle.rules.specs.Instructions as Instructions
 use Rattle.rules.specs.Blocks as Blocks
 use Rattle.rules.specs.Keys.{tableOf}
+use Rattle.rules.proofs.Updates.{none-some}
+use Rattle.rules.proofs.Shapes.{Agrees, agrees}
+use Rattle.rules.proofs.Blocks.{past, enough}
 use Rattle.store.specs.Rows.{Row, countNew, keysIn}
 use Rattle.store.specs.Rows as Rows
-use Rattle.operation.specs.declared.Operand.the-variants.{Jump}
-use Rattle.operation.specs.Parts.{sourceOf, targetOf}
-use Rattle.operation.specs.Operations.{begin, end, return, operandOf}
+use Rattle.operation.specs.declared.Operand.{Operand}
+use Rattle.operation.specs.declared.Operand.the-variants.{Any, Below8, Jump, Zero}
+use Rattle.operation.specs.Parts.{targetOf}
+use Rattle.operation.specs.Operations.{begin, end, operandOf}
 use Rattle.operation.specs.Operations as Operations
 use Rattle.code.specs.Layout.{operationAt, wordAt, registerAt}
 use Rattle.code.specs.Questions.{insideAt, putsBefore}
@@ -27,49 +32,47 @@ use Rattle.code.specs.Meaning.{decode, instructionOf, codeOf}
 use Rattle.code.specs.Meaning as Meaning
 use Rattle.code.proofs.Judged.{target-ahead, target-below}
 use Rattle.code.proofs.Steps.{begins}
-use Rattle.code.proofs.Decoded.{by-operation, length-code, instruction-at, checked-code}
+use Rattle.code.proofs.Decoded.{targetBy, decoded-shape, decoded-end, length-code, instruction-at}
+use Rattle.code.proofs.Right.{known-at, ranged-at, right-checked, not-outside}
 use Rattle.instruction.specs.Pending.{over, seen, rowsIn, newIn, Kept}
 use Rattle.instruction.specs.Step.{placeOf, workOf, Stepped, putsOf}
-use Rattle.block.specs.Run.{blockOf, runOf, Right, Inside}
+use Rattle.code.specs.Right.{Right}
+use Rattle.block.specs.Run.{blockOf, runOf, Inside}
 use Rattle.block.specs.Through.{tableIn}
 use Rattle.instruction.specs.declared.pending.Pending.{Pending}
 use Rattle.instruction.specs.declared.Running.{Running}
 use Rattle.block.specs.declared.run.Ran.{Ran}
-use Rattle.block.proofs.Ahead.{past, enough}
-use Rattle.block.proofs.Inside.{known-at, ranged-at, no-begin, no-return, inside-next, puts-behind, stretch, jump-no-end}
+use Rattle.block.proofs.Inside.{inside-next, puts-behind, stretch, jump-no-end}
 
 -- ---- where a step leads
 
 module _ (d w : ℕ) (rs : List Row) (x : Running) where
   probe : Work → Block
-  probe v = record { table = v .table; newKeys = v .place .position; result = 0 }
+  probe v = record { table = v .table; newKeys = v .place .position; result = yields 0 }
 
   abbrev Lands : ℕ → ℕ → Type 0
   Lands op n = (n ≡ suc (x .place .position)) ⊎ ((operandOf op ≡ Jump) × (n ≡ targetOf w))
 
-  abbrev Leads : ℕ → Type 0
-  Leads op = (op ≡ begin → ⊥) → (op ≡ end → ⊥) → (op ≡ return → ⊥) → (n : ℕ) → within (act (decode op d w) (placeOf (x .place))) (workOf rs x) probe .newKeys ≡ n → Lands op n
+  -- only a jump has a target
+  jumps : (o : Operand) (n : ℕ) → targetBy o w ≡ some n → (o ≡ Jump) × (n ≡ targetOf w)
+  jumps Any n e = none-some n refl e
+  jumps Below8 n e = none-some n refl e
+  jumps Jump n e = (refl, cc)
+  jumps Zero n e = none-some n refl e
 
-  jump-leads : (op : ℕ) → operandOf op ≡ Jump → (t : Bool) (n : ℕ) → if_then_else_ t (goto (placeOf (x .place)) (targetOf w)) (next (placeOf (x .place))) .position ≡ n → Lands op n
-  jump-leads op j true n e = inr (j, sym e)
-  jump-leads op j false n e = inl (sym e)
-
-  leads : (op : ℕ) → op < 12 → Leads op
-  unfolding probe Meaning.decode Instructions.act Blocks.within Operations.operandOf
-  leads =
-      by-operation Leads
-      (λ a b c n e. inl (sym e))
-      (λ a b c n e. inl (sym e))
-      (λ a b c n e. inl (sym e))
-      (λ a b c n e. inl (sym e))
-      (λ a b c n e. jump-leads 4 refl (ltb (getD (x .place .registers) d 0) (getD (x .place .registers) (sourceOf w) 0)) n e)
-      (λ a b c n e. jump-leads 5 refl (eqb (getD (x .place .registers) d 0) (getD (x .place .registers) (sourceOf w) 0)) n e)
-      (λ a b c n e. absurd (a refl))
-      (λ a b c n e. absurd (b refl))
-      (λ a b c n e. inl (sym e))
-      (λ a b c n e. inl (sym e))
-      (λ a b c n e. inl (sym e))
-      (λ a b c n e. absurd (c refl))
+  leads : (op : ℕ) → op < 12 → (shape (decode op d w) .stands ≡ some outside → ⊥) → (op ≡ end → ⊥) →
+      (n : ℕ) → within (act (decode op d w) (placeOf (x .place))) (workOf rs x) probe .newKeys ≡ n → Lands op n
+  unfolding probe Blocks.within
+  leads op k out e n f = go (act (decode op d w) (placeOf (x .place))) (agrees (decode op d w) (placeOf (x .place))) f
+    where
+      go : (y : Act) → Agrees (decode op d w) (placeOf (x .place)) y → within y (workOf rs x) probe .newKeys ≡ n → Lands op n
+      go (moves to) (on, inl p) q = inl (sym q ∙ p)
+      go (moves to) (on, inr p) q = inr (jumps (operandOf op) n (sym (decoded-shape d w op k .2) ∙ p ∙ ap some q))
+      go (reads j to) (s, on, p) q = inl (sym q ∙ p _)
+      go (puts j v) a q = inl (sym q)
+      go (opens p) a q = absurd (out (ap (λ (y : Instruction). shape y .stands) a))
+      go (closes v) a q = absurd (e (eqb-true op end (sym (decoded-end d w op) ∙ ap closing (a .1))))
+      go (returns v) a q = absurd (out a)
 
 -- ---- one step of the loop
 
@@ -79,7 +82,8 @@ module _ (ops ws : List ℕ) (right : Right ops ws) where
     lands-at : Lands (registerAt ops (x .place .position)) (wordAt ws (x .place .position)) rs x (operationAt ops (x .place .position)) (y .place .position)
     unfolding probe
     lands-at =
-        leads (registerAt ops (x .place .position)) (wordAt ws (x .place .position)) rs x (operationAt ops (x .place .position)) (known-at ops ws right (x .place .position) h) (no-begin ops ws right (x .place .position) h (on .inside)) n (no-return ops ws right (x .place .position) h (on .inside)) (y .place .position)
+        leads (registerAt ops (x .place .position)) (wordAt ws (x .place .position)) rs x (operationAt ops (x .place .position)) (known-at ops ws right (x .place .position) h)
+        (not-outside ops ws right (x .place .position) h (on .inside) (registerAt ops (x .place .position)) (wordAt ws (x .place .position))) n (y .place .position)
         (ap (λ (b : Block). b .newKeys) (t .goes (probe (registerAt ops (x .place .position)) (wordAt ws (x .place .position)) rs x)))
 
     pub record Further : Type 0 where
@@ -127,13 +131,13 @@ module _ (ops ws : List ℕ) (right : Right ops ws) where
         ∙ ap (λ (i : Instruction). within (act i (placeOf (x .place))) (workOf rs x) (runFrom (codeOf ops ws) m)) (instruction-at ops ws (x .place .position) h)
         ∙ t .goes (runFrom (codeOf ops ws) m)
         ∙ ap (λ (a : ℕ). runFrom (codeOf ops ws) a (workOf rs y)) (sym q)
-        ∙ sym (enough (codeOf ops ws) (checked-code (right .workflow) ops ws (right .yes) (omega arith)) (length ops - y .place .position) (m - (length ops - y .place .position)) (workOf rs y) (omega arith))
+        ∙ sym (enough (codeOf ops ws) (right-checked ops ws right (omega arith)) (length ops - y .place .position) (m - (length ops - y .place .position)) (workOf rs y) (omega arith))
 
   -- ---- where the loop ends
 
   module _ (rs : List Row) (x : Running) (r : Ran) (pending : r .pending ≡ x .pending) where
-    closed : (v : ℕ) → r .result ≡ v → blockOf rs r ≡ close (workOf rs x) v
-    closed v e = λ i. record { table = tableOf (seen (rowsIn (pending i)) rs); newKeys = newIn (pending i) rs; result = e i }
+    closed : (v : ℕ) → r .result ≡ v → blockOf rs r ≡ close (workOf rs x) (yields v)
+    closed v e = λ i. record { table = tableOf (seen (rowsIn (pending i)) rs); newKeys = newIn (pending i) rs; result = yields (e i) }
 
     -- at END
     pub run-ends : x .place .position < length ops → operationAt ops (x .place .position) ≡ end → (d : ℕ) → d ≡ registerAt ops (x .place .position) → r .result ≡ getD (x .place .registers) d 0 → blockOf rs r ≡ runOf ops ws rs x

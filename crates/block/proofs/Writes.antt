@@ -25,7 +25,7 @@ use Rattle.store.proofs.Search.{new-small, changed-parts, changed-cap, changed-
 use Rattle.store.proofs.Sound.{keys-put, length-put-all, log-form}
 use Rattle.instruction.specs.Pending.{over, seen, rowsIn, newIn, Sized, Kept}
 use Rattle.block.specs.Run.{blockOf}
-use Rattle.block.specs.Through.{logIn, hasRoom, Committed, Through}
+use Rattle.block.specs.Through.{outcomeOf, logIn, hasRoom, Committed, Through}
 use Rattle.instruction.specs.declared.pending.Pending.{Pending}
 use Rattle.block.specs.declared.run.Ran.{Ran}
 use Rattle.block.specs.declared.write.BlockOutcome.{BlockOutcome}
@@ -219,12 +219,12 @@ new-few q rs k = omega (arith, count-few (keysIn (rowsIn q)) rs, ap length (keys
 
 module _ (xs ys : List ℕ) (p id t : ℕ) (b b′ : Block) (e : b ≡ b′) where
   -- what is shown of the block that the code ran holds of the rules' block
-  same-block : (r : BlockOutcome) → if_then_else_ (hasRoom xs p b) ((r ≡ Result (b .result)) × Committed xs ys p id t b) ((r ≡ NoRoom) × (ys ≡ xs)) → Through xs ys p id t b′ r none
+  same-block : (r : BlockOutcome) → if_then_else_ (hasRoom xs p b) ((r ≡ outcomeOf (b .result)) × Committed xs ys p id t b) ((r ≡ NoRoom) × (ys ≡ xs)) → Through xs ys p id t b′ r none
   unfolding Through
-  same-block r = subst (λ (a : Block). if_then_else_ (hasRoom xs p a) ((r ≡ Result (a .result)) × Committed xs ys p id t a) ((r ≡ NoRoom) × (ys ≡ xs))) e
+  same-block r = subst (λ (a : Block). if_then_else_ (hasRoom xs p a) ((r ≡ outcomeOf (a .result)) × Committed xs ys p id t a) ((r ≡ NoRoom) × (ys ≡ xs))) e
 
-  pub through-room : hasRoom xs p b ≡ true → Committed xs ys p id t b → Through xs ys p id t b′ (Result (b .result)) none
-  through-room l c = same-block (Result (b .result)) (rw l (refl, c))
+  pub through-room : hasRoom xs p b ≡ true → Committed xs ys p id t b → Through xs ys p id t b′ (outcomeOf (b .result)) none
+  through-room l c = same-block (outcomeOf (b .result)) (rw l (refl, c))
 
   pub through-no-room : hasRoom xs p b ≡ false → ys ≡ xs → Through xs ys p id t b′ NoRoom none
   through-no-room l c = same-block NoRoom (rw l (refl, c))

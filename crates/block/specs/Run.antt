@@ -1,26 +1,18 @@
 -- The run of a block from where it stands to END, as the rules have it. Assumes nothing: these are definitions.
 use mathlib.Core.Bool.{true}
 use mathlib.Core.List.{List}
-use mathlib.Core.Option.{none}
 use mathlib.Core.Path.{_≡_}
-use Prim.Native.Nat.{ℕ, _-_, _*_, _≤_}
+use Prim.Native.Nat.{ℕ, _-_, _≤_}
 use lib.ListN.{length}
-use Rattle.rules.specs.Blocks.{Block, runFrom}
+use Rattle.rules.specs.Blocks.{Block, yields, runFrom}
 use Rattle.rules.specs.Keys.{tableOf}
 use Rattle.store.specs.Rows.{Row}
 use Rattle.code.specs.Questions.{insideAt, putsBefore}
-use Rattle.code.specs.Refusal.{codeNo}
 use Rattle.code.specs.Meaning.{codeOf}
 use Rattle.instruction.specs.declared.Running.{Running}
 use Rattle.instruction.specs.Pending.{seen, rowsIn, newIn, Kept}
 use Rattle.instruction.specs.Step.{workOf}
 use Rattle.block.specs.declared.run.Ran.{Ran}
-
--- operation bytes and operand bytes of a workflow to which questions 4 to 8 say yes
-pub record Right (ops ws : List ℕ) : Type 0 where
-  pub sized : length ws ≡ 4 * length ops
-  pub workflow : ℕ
-  pub yes : codeNo workflow ops ws ≡ none
 
 -- a run stands inside a block, with no more pending keys than the block has had PUTs
 pub record Inside (ops : List ℕ) (x : Running) : Type 0 where
@@ -34,4 +26,4 @@ runOf ops ws rs x = runFrom (codeOf ops ws) (length ops - x .place .position) (w
 
 -- what a run that came to END stands for
 abbrev pub blockOf : (rs : List Row) → Ran → Block
-blockOf rs r = record { table = tableOf (seen (rowsIn (r .pending)) rs); newKeys = newIn (r .pending) rs; result = r .result }
+blockOf rs r = record { table = tableOf (seen (rowsIn (r .pending)) rs); newKeys = newIn (r .pending) rs; result = yields (r .result) }

@@ -20,7 +20,7 @@ storeIn book xs =
       room = capOf xs;
       used = λ p. if ltb p (partsOf xs) then length (rowsOf xs p) else 0;
       rows = λ p k. if ltb p (partsOf xs) then tableIn (rowsOf xs p) k else none;
-      log = λ p id t. if ltb p (partsOf xs) then logIn (rowsOf xs p) id t else none;
+      log = record { usual = λ p id t. if ltb p (partsOf xs) then logIn (rowsOf xs p) id t else none };
       bookUsed = length (rowsOf xs (partsOf xs));
       book = book (rowsOf xs (partsOf xs));
     }

@@ -8,7 +8,8 @@ use Prim.Native.Nat.{ℕ, _+_, _<_}
 use lib.Dec.{leb}
 use lib.ListN.{length}
 use Rattle.rules.specs.Basics.{if_then_else_, update}
-use Rattle.rules.specs.Blocks.{Table, Block, runBlock, rowsNeeded}
+use Rattle.rules.specs.Blocks.{Table, Block, yields, runBlock, rowsNeeded}
+use Rattle.rules.specs.Blocks as Rules
 use Rattle.rules.specs.Keys.{tableOf, logOf}
 use Rattle.store.specs.Rows.{Row, lookup, rowsOf}
 use Rattle.store.specs.Layout.{partsOf, capOf}
@@ -18,7 +19,14 @@ use Rattle.code.specs.Layout.{operationAt}
 use Rattle.code.specs.Meaning.{codeOf}
 use Rattle.block.specs.declared.write.BlockOutcome.{BlockOutcome}
 use Rattle.block.specs.declared.write.BlockOutcome.the-variants.{Result, NoRoom}
-use Rattle.block.specs.Run.{Right}
+use Rattle.code.specs.Right.{Right}
+
+-- what a block's result is to the code, and in its log row
+abbrev pub outcomeOf : Rules.Result → BlockOutcome
+outcomeOf (yields v) = Result v
+
+abbrev pub loggedValue : Rules.Result → ℕ
+loggedValue (yields v) = v
 
 -- the table of data that a partition's rows stand for
 abbrev pub tableIn : (rs : List Row) → Table
@@ -51,7 +59,7 @@ pub record Committed (xs ys : List ℕ) (p id t : ℕ) (b : Block) : Type 0 wher
   pub parts : partsOf ys ≡ partsOf xs
   pub cap : capOf ys ≡ capOf xs
   pub table : tableIn (rowsOf ys p) ≡ b .table
-  pub log : logIn (rowsOf ys p) ≡ update (logIn (rowsOf xs p)) id (update (logIn (rowsOf xs p) id) t (some (b .result)))
+  pub log : logIn (rowsOf ys p) ≡ update (logIn (rowsOf xs p)) id (update (logIn (rowsOf xs p) id) t (some (loggedValue (b .result))))
   pub used : length (rowsOf ys p) ≡ length (rowsOf xs p) + rowsNeeded b
   pub others : (q : ℕ) → q ≢ p → rowsOf ys q ≡ rowsOf xs q
 
@@ -60,4 +68,4 @@ pub record Committed (xs ys : List ℕ) (p id t : ℕ) (b : Block) : Type 0 wher
 unfoldable pub Through : (xs ys : List ℕ) (p id t : ℕ) → Block → BlockOutcome → (log : Option ℕ) → Type 0
 Through xs ys p id t b r (some v) = (r ≡ Result v) × (ys ≡ xs)
 Through xs ys p id t b r none =
-    if hasRoom xs p b then ((r ≡ Result (b .result)) × Committed xs ys p id t b) else ((r ≡ NoRoom) × (ys ≡ xs))
+    if hasRoom xs p b then ((r ≡ outcomeOf (b .result)) × Committed xs ys p id t b) else ((r ≡ NoRoom) × (ys ≡ xs))

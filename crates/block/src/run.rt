@@ -1,15 +1,12 @@
 // The run of a block, from BEGIN to END.
-ghost use mathlib.Core.List.{List};
 ghost use mathlib.Core.Path.{_≡_};
-ghost use Prim.Native.Nat.{ℕ, _+_, _*_, _≤_, _<_};
-ghost use lib.ListN.{length};
-ghost use Rattle.rules.specs.Blocks.{behindEnd};
-ghost use Rattle.code.specs.Meaning.{codeOf};
+ghost use Prim.Native.Nat.{_≤_};
 ghost use Rattle.store.specs.Rows.{rowsOf};
 ghost use Rattle.store.specs.Layout.{partsOf};
 ghost use Rattle.store.specs.Sound.{Sound};
 ghost use Rattle.instruction.specs.Pending.{Kept};
-ghost use Rattle.block.specs.Run.{Right, Inside, runOf, blockOf};
+ghost use Rattle.code.specs.Right.{Right};
+ghost use Rattle.block.specs.Run.{Inside, runOf, blockOf};
 ghost use Rattle.block.specs.Through.{Ready, blockAt};
 use instruction::Running;
 use instruction::Spot;
@@ -67,19 +64,4 @@ pub(crate) fn run(
     };
     let start = Running { place, pending };
     run_on(ops, operands, store, partition, start)
-}
-
-// The position behind the END of the block that BEGIN at `begin` opens.
-pub fn behind_end(ops: &[u8], begin: usize) -> usize
-    requires { ⌜ begin < length (now ops) ⌝ }
-    ensures { λ r. ⌜ ((ws : List ℕ) → r ≡ behindEnd (codeOf (now (ops .entry)) ws) begin) ⌝ }
-{
-    let mut i = begin + 1;
-    while i < ops.len() {
-        if operation::operation_of(ops[i]) == operation::END {
-            return i + 1;
-        }
-        i += 1;
-    }
-    i
 }

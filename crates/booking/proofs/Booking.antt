@@ -348,11 +348,11 @@ module _ (store : List ℕ) (id : ℕ) (q : Request) where
 
 -- The agent that an arrival starts has the arguments given, new or known.
 pub arrives : (s : Calls.State) (slot id : ℕ) (q : Request) (o : Option Request) → Calls.asBooked q o ≡ true →
-    Calls.arrive s slot id q o ≡ gives Calls.done (withSlot (record { store = ensured (s .store) id q o; slots = s .slots }) slot (some (record { id = id; place = start q; step = 0 })))
+    Calls.arrive s slot id q o ≡ gives Calls.done (withSlot (record { store = ensured (s .store) id q o; slots = s .slots }) slot (some (record { id = id; course = start q; step = 0 })))
 unfolding Calls.arrive ensured
 arrives s slot id q none e = refl
 arrives s slot id q (some known) e =
-    ap (λ (x : Request). gives Calls.done (withSlot s slot (some (record { id = id; place = start x; step = 0 })))) (sym (same-asked q known e))
+    ap (λ (x : Request). gives Calls.done (withSlot s slot (some (record { id = id; course = start x; step = 0 })))) (sym (same-asked q known e))
 
 -- behind questions 18 and 19
 pub as-booked : (s : Store) (id : ℕ) (q : Request) → bookRefusal s id q ≡ none → Calls.asBooked q (s .book id) ≡ true

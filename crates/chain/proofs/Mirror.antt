@@ -41,10 +41,13 @@ fresh-contents P C =
       used = λ p. if-same (ltb p P) 0 i;
       rows = λ p k. (ap (λ o. if_then_else_ (ltb p P) o none) (if-same (ltb k (2 ^ 32)) none) ∙ if-same (ltb p P) none) i;
       log =
-          λ p id t.
-          (ap (λ o. if_then_else_ (ltb p P) (if_then_else_ (ltb id (2 ^ 32)) o none) none) (if-same (ltb t 65536) none)
-          ∙ ap (λ o. if_then_else_ (ltb p P) o none) (if-same (ltb id (2 ^ 32)) none)
-          ∙ if-same (ltb p P) none) i;
+          record {
+            usual =
+                λ p id t.
+                (ap (λ o. if_then_else_ (ltb p P) (if_then_else_ (ltb id (2 ^ 32)) o none) none) (if-same (ltb t 65536) none)
+                ∙ ap (λ o. if_then_else_ (ltb p P) o none) (if-same (ltb id (2 ^ 32)) none)
+                ∙ if-same (ltb p P) none) i;
+          };
       bookUsed = 0;
       book = λ id. if-same (ltb id (2 ^ 32)) none i;
     }

@@ -10,6 +10,7 @@ use Rattle.rules.specs.Questions.{No, number}
 use Rattle.rules.specs.Store.{Request}
 use Rattle.rules.specs.Calls.{Call, turn, rule}
 use Rattle.rules.specs.Calls as Calls
+use Rattle.rules.specs.Blocks.{Result}
 use Rattle.rules.specs.Plain.{Reply, accepted, firstReplies}
 use Rattle.pack.specs.Layout.{count, sizeOf}
 use Rattle.pack.specs.Meaning.{packOf}
@@ -65,7 +66,7 @@ pub record InTime (pack : List ℕ) (before : List Event) (store : List ℕ) (re
   pub booked : contentsOf (storeOf store) .book (agent .id) ≡ some request
   pub workflow : request .workflow < count pack
   pub at-most : turns ≤ sizeOf pack (request .workflow)
-  pub last : turns ≡ sizeOf pack (request .workflow) → (value : ℕ) × (answerOf answer ≡ Calls.reply (agent .id) value)
+  pub last : turns ≡ sizeOf pack (request .workflow) → (value : Result) × (answerOf answer ≡ Calls.reply (agent .id) value)
 
 -- Demand 3, for any pack, any P and C, and any list of calls.
 pub record Demand3 (pack : List ℕ) (P C : ℕ) : Type 0 where

@@ -1,30 +1,33 @@
 -- A workflow to which each question says yes is `Checked` in the sense of the rules. Assumes nothing.
 use mathlib.Core.Path.{_≡_, refl, sym, _∙_, ap, subst}
-use mathlib.Core.Bool.{Bool, true, false, not, _&&_}
+use mathlib.Core.Bool.{Bool, true, false, _&&_}
 use mathlib.Core.List.{List, _∷_}
-use mathlib.Core.Option.{none}
+use mathlib.Core.Option.{Option, none, some, Option·getD}
 use Prim.Native.Nat.{ℕ, zero, suc, _+_, _-_, _≤_, _<_}
 use native.Mathlib.Nat.{add-zero, zero-add, add-suc, suc-add, le-of-suc-le-suc, not-suc-le-zero}
 use native.Mathlib.Omega.{arith}
+use native.Mathlib.Decide.{decLt}
 use native.Mathlib.Numerals.{add-one}
-use borrow.Author.Tests.{ltb-true, leb-true, not-true, eqb-true}
+use borrow.Author.Tests.{ltb-true, leb-true, not-true, eqb-true, ne-eqb}
 use lib.Dec.{eqb, ltb, leb}
-use lib.ListN.{length, getD, drop}
+use lib.ListN.{length, getD, drop, List·getD-eq-default}
 use lib.Seq.{drop-cons}
 use Rattle.rules.specs.Basics.{if_then_else_}
-use Rattle.rules.specs.Instructions.{Code, Instruction, RETURN, instructionAt}
-use Rattle.rules.specs.Blocks.{isEnd, throughEnd}
-use Rattle.rules.specs.Checked.{Side, outside, inside, sideBehind, sideAt, Lands, Jumps, Stands, Checked}
-use Rattle.rules.specs.Instructions.{Code, Instruction, RETURN, instructionAt}
-use Rattle.rules.specs.Blocks.{isEnd, throughEnd}
+use Rattle.rules.specs.Shapes.{Side, outside, inside, shape}
+use Rattle.rules.specs.Checked.{sideBehind, sideAt, Lands, Jumps, StandsOn, GoesTo, Stands, Checked}
+use Rattle.rules.specs.Instructions.{Code, Instruction, BEGIN, RETURN, instructionAt}
+use Rattle.rules.specs.Blocks.{closing, isEnd, throughEnd}
 use Rattle.rules.proofs.Positions.{side-next}
 use Rattle.rules.proofs.Questions.{ask-none, orElse-none}
 use Rattle.rules.proofs.Each.{each-at}
 use Rattle.rules.proofs.Tests.{and-left}
 use Rattle.rules.proofs.Chains.{each-yes}
-use Rattle.operation.specs.declared.Operand.the-variants.{Jump}
+use Rattle.operation.specs.declared.Side as Declared
+use Rattle.operation.specs.declared.Side.the-variants.{Anywhere, Inside, Outside}
+use Rattle.operation.specs.declared.Operand.{Operand}
+use Rattle.operation.specs.declared.Operand.the-variants.{Any, Below8, Jump, Zero}
 use Rattle.operation.specs.Parts.{targetOf, sourceOf}
-use Rattle.operation.specs.Operations.{end, return, sideOf, operandOf}
+use Rattle.operation.specs.Operations.{begin, end, return, sideOf, operandOf}
 use Rattle.code.specs.Layout.{operationAt, registerAt, wordAt}
 use Rattle.code.specs.Questions.{legal, inRange, insideBehind, insideAt, stands, isNoEnd, landsFrom, lands, question4, question8}
 use Rattle.code.specs.Refusal.{instructionNo, codeNo}
@@ -63,18 +66,96 @@ by-operation P a b c d e f g h i j k l (suc (suc (suc (suc (suc (suc (suc (suc (
 by-operation P a b c d e f g h i j k l (suc (suc (suc (suc (suc (suc (suc (suc (suc (suc (suc zero))))))))))) q = l
 by-operation P a b c d e f g h i j k l (suc (suc (suc (suc (suc (suc (suc (suc (suc (suc (suc (suc n)))))))))))) q = absurd (omega arith)
 
-abbrev sideFor : Bool → Side
+abbrev pub sideFor : Bool → Side
 sideFor true = inside
 sideFor false = outside
 
-module _ (d w : ℕ) where
-  decoded-side : (b : Bool) (op : ℕ) → op < 12 → sideBehind (sideFor b) (decode op d w) ≡ sideFor (insideBehind op b)
-  unfolding decode
-  decoded-side b = by-operation (λ op. sideBehind (sideFor b) (decode op d w) ≡ sideFor (insideBehind op b)) refl refl refl refl refl refl refl refl refl refl refl refl
+-- the shape of an operation: where it stands, what begins behind it, where it may jump
+abbrev pub ownSide : Declared.Side → Option Side
+ownSide Anywhere = none
+ownSide Inside = some inside
+ownSide Outside = some outside
 
-  decoded-end : (op : ℕ) → op < 12 → isEnd (decode op d w) ≡ eqb op end
+abbrev pub behindOf : (operation : ℕ) → Option Side
+behindOf op = if_then_else_ (eqb op begin) (some inside) (if_then_else_ (eqb op end) (some outside) none)
+
+abbrev pub targetBy : Operand → (w : ℕ) → Option ℕ
+targetBy Any w = none
+targetBy Below8 w = none
+targetBy Jump w = some (targetOf w)
+targetBy Zero w = none
+
+-- is that of the instruction which its byte and operand stand for
+module _ (d w : ℕ) where
+  abbrev Decoded : (operation : ℕ) → Type 0
+  Decoded op =
+      (shape (decode op d w) .stands ≡ ownSide (sideOf op)) × (shape (decode op d w) .behind ≡ behindOf op)
+      × (shape (decode op d w) .target ≡ targetBy (operandOf op) w)
+
+  pub decoded-shape : (op : ℕ) → op < 12 → Decoded op
+  unfolding decode sideOf operandOf
+  decoded-shape =
+      by-operation Decoded
+      (refl, refl, refl)
+      (refl, refl, refl)
+      (refl, refl, refl)
+      (refl, refl, refl)
+      (refl, refl, refl)
+      (refl, refl, refl)
+      (refl, refl, refl)
+      (refl, refl, refl)
+      (refl, refl, refl)
+      (refl, refl, refl)
+      (refl, refl, refl)
+      (refl, refl, refl)
+
+  -- of any number: past B it reads as RETURN
+  pub decoded-behind : (op : ℕ) → shape (decode op d w) .behind ≡ behindOf op
   unfolding decode
-  decoded-end = by-operation (λ op. isEnd (decode op d w) ≡ eqb op end) refl refl refl refl refl refl refl refl refl refl refl refl
+  decoded-behind op = go (decLt op 12)
+    where
+      go : Dec (op < 12) → shape (decode op d w) .behind ≡ behindOf op
+      go (yes h) = decoded-shape op h .1
+      go (no n) =
+          let g : 12 ≤ op = omega arith in
+          rw (List·getD-eq-default, ne-eqb op begin (λ e. n (omega arith)), ne-eqb op end (λ e. n (omega arith))) refl
+
+  decoded-side : (inside : Bool) (op : ℕ) → sideBehind (sideFor inside) (decode op d w) ≡ sideFor (insideBehind op inside)
+  decoded-side b op = ap (λ o. Option·getD o (sideFor b)) (decoded-behind op) ∙ go (eqb op begin) (eqb op end)
+    where
+      go : (x y : Bool) →
+          Option·getD (if_then_else_ x (some inside) (if_then_else_ y (some outside) none)) (sideFor b) ≡ sideFor (if_then_else_ x true (if_then_else_ y false b))
+      go true y = refl
+      go false true = refl
+      go false false = refl
+
+  pub decoded-end : (op : ℕ) → isEnd (decode op d w) ≡ eqb op end
+  decoded-end op = ap closing (decoded-behind op) ∙ go (eqb op end) refl
+    where
+      go : (y : Bool) → eqb op end ≡ y → closing (if_then_else_ (eqb op begin) (some inside) (if_then_else_ y (some outside) none)) ≡ y
+      go true e = let n : op ≡ end = eqb-true op end e in rw n refl
+      go false e = either (eqb op begin)
+        where
+          either : (x : Bool) → closing (if_then_else_ x (some inside) none) ≡ false
+          either true = refl
+          either false = refl
+
+  -- only BEGIN opens a block
+  pub decoded-opens : (op : ℕ) → shape (decode op d w) .behind ≡ some inside → op ≡ begin
+  decoded-opens op e = go (eqb op begin) (eqb op end) refl (sym (decoded-behind op) ∙ e)
+    where
+      go : (x y : Bool) → eqb op begin ≡ x → if_then_else_ x (some inside) (if_then_else_ y (some outside) none) ≡ some inside → op ≡ begin
+      go true y q f = eqb-true op begin q
+      go false true q f = absurd (let z : _≡_ {A = ℕ} 0 1 = cc in omega arith)
+      go false false q f = absurd (let z : _≡_ {A = ℕ} 0 1 = cc in omega arith)
+
+  pub decoded-begin : (op p : ℕ) → decode op d w ≡ BEGIN p → (op ≡ begin) × (w ≡ p)
+  decoded-begin op p e =
+      let o = decoded-opens op (ap (λ x. shape x .behind) e) in
+      (o, same (sym (ap (λ n. decode n d w) o) ∙ e))
+    where
+      same : decode begin d w ≡ BEGIN p → w ≡ p
+      same f = unfold decode in let g : BEGIN w ≡ BEGIN p = f in cc
 
 some-through : (x : Instruction) (rest : Code) → 0 < throughEnd (x ∷ rest)
 some-through x rest = go (isEnd x)
@@ -108,10 +189,10 @@ module _ (ops ws : List ℕ) where
         side-next outside (codeOf ops ws) i (in-code i h)
         ∙ ap (λ s. sideBehind s (instructionAt (codeOf ops ws) i)) (side-known i (omega arith))
         ∙ ap (sideBehind (sideFor (insideAt ops i))) (instruction-at i h)
-        ∙ decoded-side (registerAt ops i) (wordAt ws i) (insideAt ops i) (operationAt ops i) (known i h)
+        ∙ decoded-side (registerAt ops i) (wordAt ws i) (insideAt ops i) (operationAt ops i)
 
     not-end : (j : ℕ) → j < length ops → eqb (operationAt ops j) end ≡ false → isEnd (instructionAt (codeOf ops ws) j) ≡ false
-    not-end j h e = ap isEnd (instruction-at j h) ∙ decoded-end (registerAt ops j) (wordAt ws j) (operationAt ops j) (known j h) ∙ e
+    not-end j h e = ap isEnd (instruction-at j h) ∙ decoded-end (registerAt ops j) (wordAt ws j) (operationAt ops j) ∙ e
 
     no-end-through : (n j : ℕ) → j + n < length ops → ((k : ℕ) → j ≤ k → k < j + n → isNoEnd ops k ≡ true) → n < throughEnd (drop j (codeOf ops ws))
     unfolding isNoEnd
@@ -140,33 +221,27 @@ module _ (ops ws : List ℕ) where
         )
 
     module _ (i : ℕ) (h : i < length ops) (d w : ℕ) where
-      stands-outside : not (insideAt ops i) ≡ true → sideAt (codeOf ops ws) i ≡ outside
-      stands-outside s = side-known i (omega arith) ∙ ap sideFor (not-true (insideAt ops i) s)
+      stands-on : (side : Declared.Side) → stands side (insideAt ops i) ≡ true → StandsOn (sideAt (codeOf ops ws) i) (ownSide side)
+      unfolding stands
+      stands-on Anywhere s = tt
+      stands-on Inside s = side-known i (omega arith) ∙ ap sideFor s
+      stands-on Outside s = side-known i (omega arith) ∙ ap sideFor (not-true (insideAt ops i) s)
 
-      stands-inside : insideAt ops i ≡ true → sideAt (codeOf ops ws) i ≡ inside
-      stands-inside s = side-known i (omega arith) ∙ ap sideFor s
+      goes-to : (o : Operand) → inRange o (length ops) i w ≡ true → lands o (insideAt ops i) ops i (targetOf w) ≡ true →
+          GoesTo (codeOf ops ws) i (targetBy o w)
+      unfolding lands
+      goes-to Any r l = tt
+      goes-to Below8 r l = tt
+      goes-to Jump r l = jumps-right i w h r l
+      goes-to Zero r l = tt
 
-      abbrev Right : ℕ → Type 0
-      Right op =
-          inRange (operandOf op) (length ops) i w ≡ true → stands (sideOf op) (insideAt ops i) ≡ true →
+      stands-all : (op : ℕ) → op < 12 → inRange (operandOf op) (length ops) i w ≡ true → stands (sideOf op) (insideAt ops i) ≡ true →
           lands (operandOf op) (insideAt ops i) ops i (targetOf w) ≡ true → Stands (codeOf ops ws) i (decode op d w)
-
-      stands-all : (op : ℕ) → op < 12 → Right op
-      unfolding decode sideOf operandOf stands lands
-      stands-all =
-          by-operation Right
-          (λ r s l. tt)
-          (λ r s l. tt)
-          (λ r s l. tt)
-          (λ r s l. tt)
-          (λ r s l. jumps-right i w h r l)
-          (λ r s l. jumps-right i w h r l)
-          (λ r s l. stands-outside s)
-          (λ r s l. stands-inside s)
-          (λ r s l. stands-inside s)
-          (λ r s l. stands-inside s)
-          (λ r s l. stands-inside s)
-          (λ r s l. stands-outside s)
+      stands-all op k r s l =
+          let e = decoded-shape d w op k in (
+            subst (StandsOn (sideAt (codeOf ops ws) i)) (sym (e .0)) (stands-on (sideOf op) s),
+            subst (GoesTo (codeOf ops ws) i) (sym (e .2)) (goes-to (operandOf op) r l),
+          )
 
 module _ (w : ℕ) (ops ws : List ℕ) (e : codeNo w ops ws ≡ none) where
   -- each instruction is right

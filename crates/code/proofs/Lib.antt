@@ -2,3 +2,4 @@ pub mod Judged
 pub mod Steps
 pub mod Walked
 pub mod Decoded
+pub mod Right

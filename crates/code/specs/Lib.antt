@@ -1,4 +1,5 @@
 pub mod Layout
 pub mod Questions
 pub mod Refusal
+pub mod Right
 pub mod Meaning

@@ -7,6 +7,7 @@ use native.Mathlib.Omega.{arith}
 use borrow.Author.Tests.{le-leb, lt-leb}
 use lib.ListN.{length}
 use Rattle.rules.specs.Questions.{No}
+use Rattle.rules.specs.Blocks.{yields}
 use Rattle.rules.specs.Calls.{Answer, done, moved, reply, refused}
 use Rattle.rules.specs.declared.Verdict.{Verdict}
 use Rattle.pack.specs.Layout.{sizeOf, operationsAt, operandsAt}
@@ -55,7 +56,7 @@ pub seven-words : (answer : List ℕ) (a : Answer) (x y z u : ℕ)
 unfolding Records.puts Answers.valuesOf
 seven-words answer done x y z u = refl
 seven-words answer moved x y z u = refl
-seven-words answer (reply id value) x y z u = refl
+seven-words answer (reply id (yields value)) x y z u = refl
 seven-words answer (refused n) x y z u = refl
 
 -- the words of an opening, by what its questions came to

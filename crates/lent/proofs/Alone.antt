@@ -6,7 +6,9 @@ use Prim.Native.Nat.{ℕ}
 use native.Mathlib.Omega.{arith}
 use lib.ListN.{replicate, set}
 use Rattle.rules.specs.Questions.{No}
-use Rattle.rules.specs.Instructions.{Code, Pack, Act, moves, opens, closes, reads, puts, returns}
+use Rattle.rules.specs.Instructions.{Code, Pack, Place}
+use Rattle.rules.specs.Blocks.{Result}
+use Rattle.rules.specs.Courses.{Course, Next, goes, does, says}
 use Rattle.rules.specs.Calls.{State, turn, rule, turnIn, turnOn, throughBlock}
 use Rattle.rules.specs.Calls as Calls
 use Rattle.rules.proofs.Updates.{update-other}
@@ -21,19 +23,17 @@ use Rattle.lent.specs.Alone.{alone, TurnedAlone}
 
 -- a turn changes no slot but its own
 module _ (s : State) (slot j : ℕ) (apart : j ≡ slot → ⊥) where
-  block-elsewhere : (a : Calls.Agent) (code : Code) (p : ℕ) (log : Option ℕ) → throughBlock s slot a code p log .state .slots j ≡ s .slots j
+  block-elsewhere : (a : Calls.Agent) (code : Code) (from : Place) (p : ℕ) (onto : Result → Course) (log : Option Result) →
+      throughBlock s slot a code from p onto log .state .slots j ≡ s .slots j
   unfolding throughBlock
-  block-elsewhere a code p none = update-other (s .slots) slot _ j apart
-  block-elsewhere a code p (some v) = update-other (s .slots) slot _ j apart
+  block-elsewhere a code from p onto none = update-other (s .slots) slot _ j apart
+  block-elsewhere a code from p onto (some v) = update-other (s .slots) slot _ j apart
 
-  on-elsewhere : (a : Calls.Agent) (code : Code) (x : Act) → turnOn s slot a code x .state .slots j ≡ s .slots j
+  on-elsewhere : (a : Calls.Agent) (code : Code) (x : Next) → turnOn s slot a code x .state .slots j ≡ s .slots j
   unfolding turnOn
-  on-elsewhere a code (moves to) = update-other (s .slots) slot _ j apart
-  on-elsewhere a code (opens p) = block-elsewhere a code p _
-  on-elsewhere a code (closes v) = update-other (s .slots) slot _ j apart
-  on-elsewhere a code (reads k to) = update-other (s .slots) slot _ j apart
-  on-elsewhere a code (puts k v) = update-other (s .slots) slot _ j apart
-  on-elsewhere a code (returns v) = update-other (s .slots) slot _ j apart
+  on-elsewhere a code (goes to) = update-other (s .slots) slot _ j apart
+  on-elsewhere a code (does from p onto) = block-elsewhere a code from p onto _
+  on-elsewhere a code (says v) = update-other (s .slots) slot _ j apart
 
   in-elsewhere : (pack : Pack) (o : Option Calls.Agent) → turnIn pack s slot o .state .slots j ≡ s .slots j
   unfolding turnIn

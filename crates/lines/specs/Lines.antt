@@ -3,6 +3,7 @@ use mathlib.Core.List.{List, [], _∷_, _++_}
 use Prim.Native.Nat.{ℕ, _-_, _/_, _%_, _^_}
 use lib.Dec.{leb}
 use Rattle.rules.specs.Basics.{if_then_else_}
+use Rattle.rules.specs.Blocks.{yields}
 use Rattle.rules.specs.Calls.{Answer, done, moved, reply, refused}
 use Rattle.text.specs.Text.{decimal}
 
@@ -51,7 +52,7 @@ refusedLine q = refusedWord ++ (field q ++ newline)
 unfoldable pub answerText : Answer → List ℕ
 answerText done = doneWord
 answerText moved = movedWord
-answerText (reply id value) = replyWord ++ (field id ++ field value)
+answerText (reply id (yields value)) = replyWord ++ (field id ++ field value)
 answerText (refused n) = refusedWord ++ field (n .question)
 
 -- an event's number and its answer

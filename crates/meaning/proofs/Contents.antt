@@ -35,7 +35,7 @@ contents-book st g =
       room = st .cap;
       used = λ p. used-same p (ltb p P) refl i;
       rows = λ p k. rows-same p k (ltb p P) refl i;
-      log = λ p id t. log-same p id t (ltb p P) refl i;
+      log = record { usual = λ p id t. log-same p id t (ltb p P) refl i };
       bookUsed = length (alter-here P g st i);
       book = bookOf (valueIn (alter-here P g st i));
     }
@@ -82,7 +82,7 @@ module _ (st : Store) (p : ℕ) (g : List Row → List Row) (h : p < st .parts) 
         room = contentsOf st .room;
         used = update (contentsOf st .used) p (length (g (st .rows p)));
         rows = update (contentsOf st .rows) p (tableOf (valueIn (g (st .rows p))));
-        log = update (contentsOf st .log) p (logOf (valueIn (g (st .rows p))));
+        log = record { usual = update (contentsOf st .log .usual) p (logOf (valueIn (g (st .rows p)))) };
         bookUsed = contentsOf st .bookUsed;
         book = contentsOf st .book;
       }
@@ -97,9 +97,12 @@ module _ (st : Store) (p : ℕ) (g : List Row → List Row) (h : p < st .parts) 
             (part-of (λ r. tableOf (valueIn r) k) none q
             ∙ sym (update-after (λ (t : ℕ → Option ℕ). t k) (λ x j. if_then_else_ (ltb x (st .parts)) (tableOf (valueIn (st .rows x)) j) none) p (tableOf (valueIn (g (st .rows p)))) q)) i;
         log =
-            λ q id t.
-            (part-of (λ r. logOf (valueIn r) id t) none q
-            ∙ sym (update-after (λ (l : ℕ → ℕ → Option ℕ). l id t) (λ x j u. if_then_else_ (ltb x (st .parts)) (logOf (valueIn (st .rows x)) j u) none) p (logOf (valueIn (g (st .rows p)))) q)) i;
+            record {
+              usual =
+                  λ q id t.
+                  (part-of (λ r. logOf (valueIn r) id t) none q
+                  ∙ sym (update-after (λ (l : ℕ → ℕ → Option ℕ). l id t) (λ x j u. if_then_else_ (ltb x (st .parts)) (logOf (valueIn (st .rows x)) j u) none) p (logOf (valueIn (g (st .rows p)))) q)) i;
+            };
         bookUsed = length (book-there i);
         book = bookOf (valueIn (book-there i));
       }

@@ -12,23 +12,22 @@ use lib.Dec.{ltb, leb}
 use lib.ListN.{length, getD}
 use Rattle.rules.specs.Basics.{if_then_else_}
 use Rattle.rules.specs.Instructions.{BEGIN, instructionAt}
-use Rattle.rules.specs.Checked.{Side, outside, inside, sideAt}
+use Rattle.rules.specs.Shapes.{Side, outside, inside}
+use Rattle.rules.specs.Checked.{sideAt}
 use Rattle.rules.specs.Keys.{bookKey}
 use Rattle.rules.specs.Store.{Request}
 use Rattle.rules.specs.Calls as Rules
 use Rattle.rules.specs.Demand3.{SoundAgent}
 use Rattle.rules.proofs.Updates.{none-some, false-true}
 use Rattle.words.specs.Words.{le}
-use Rattle.code.specs.Layout.{operationAt}
 use Rattle.code.specs.Questions.{insideAt}
-use Rattle.code.specs.Meaning.{decode}
-use Rattle.code.proofs.Decoded.{by-operation, operation-known, side-known}
+use Rattle.code.proofs.Decoded.{decoded-begin, operation-known, side-known}
 use Rattle.pack.specs.Layout.{count, sizeOf, firstOf, total, operationByte, operandWord, operationsOf, operandsOf}
 use Rattle.pack.specs.Refusal.{packRefusal}
 use Rattle.pack.specs.Meaning.{packOf}
 use Rattle.pack.proofs.Sizes.{within, length-operations}
 use Rattle.rules.proofs.Tests.{and-left, and-right}
-use Rattle.pack.proofs.Laws.{workflow-at, byte-at, accepted-laid, accepted-workflow, length-workflow, instruction-in}
+use Rattle.pack.proofs.Laws.{workflow-at, accepted-laid, accepted-workflow, length-workflow, instruction-in}
 use Rattle.store.specs.Rows.{lookup}
 use Rattle.store.specs.Layout.{partsOf}
 use Rattle.agents.specs.declared.Agent.{Agent}
@@ -42,38 +41,13 @@ use Rattle.meaning.proofs.Steps.{and-yes, workflow-below, booked-of-13,
 
 -- ── question 13 ──
 
-decoded-begin : (d w p op : ℕ) → op < 12 → decode op d w ≡ BEGIN p → (op ≡ 6) × (w ≡ p)
-unfolding decode
-decoded-begin d w p =
-    by-operation (λ op. decode op d w ≡ BEGIN p → (op ≡ 6) × (w ≡ p))
-    (λ e. not-begin (let z : _≡_ {A = ℕ} 0 1 = cc in z))
-    (λ e. not-begin (let z : _≡_ {A = ℕ} 0 1 = cc in z))
-    (λ e. not-begin (let z : _≡_ {A = ℕ} 0 1 = cc in z))
-    (λ e. not-begin (let z : _≡_ {A = ℕ} 0 1 = cc in z))
-    (λ e. not-begin (let z : _≡_ {A = ℕ} 0 1 = cc in z))
-    (λ e. not-begin (let z : _≡_ {A = ℕ} 0 1 = cc in z))
-    (λ e. (refl, cc))
-    (λ e. not-begin (let z : _≡_ {A = ℕ} 0 1 = cc in z))
-    (λ e. not-begin (let z : _≡_ {A = ℕ} 0 1 = cc in z))
-    (λ e. not-begin (let z : _≡_ {A = ℕ} 0 1 = cc in z))
-    (λ e. not-begin (let z : _≡_ {A = ℕ} 0 1 = cc in z))
-    (λ e. not-begin (let z : _≡_ {A = ℕ} 0 1 = cc in z))
-  where
-    not-begin : {A : Type 0} → _≡_ {A = ℕ} 0 1 → A
-    not-begin z = absurd (omega arith)
-
 module _ (pack : List ℕ) (e : packRefusal pack ≡ none) (w : ℕ) (h : w < count pack) where
-  operation-below : (i : ℕ) → i < sizeOf pack w → operationAt (operationsOf pack w) i < 12
-  operation-below i l =
-      operation-known w (operationsOf pack w) (operandsOf pack w) (accepted-workflow pack e w h) i
-      (omega (arith, length-operations pack (accepted-laid pack e) w h))
-
   -- each BEGIN of an accepted pack is one of a partition below P
   pub begin-below : (store : List ℕ) → question13 pack store ≡ true → (i p : ℕ) → i < sizeOf pack w → instructionAt (getD (packOf pack) w []) i ≡ BEGIN p → p < partsOf store
   unfolding opensRight opensBelow operationByte operandWord
   begin-below store q i p l b =
-      let d = decoded-begin (operationByte pack w i % 8) (operandWord pack w i) p (operationByte pack w i / 16)
-      (subst (λ x. x / 16 < 12) (byte-at pack w i l) (operation-below i l)) (sym (instruction-in pack e w h i l) ∙ b) in
+      let d = decoded-begin (operationByte pack w i % 8) (operandWord pack w i) (operationByte pack w i / 16) p
+      (sym (instruction-in pack e w h i l) ∙ b) in
       let n : firstOf pack w + i < total pack = omega (arith, within pack w (count pack) h) in
       let t = each-at (λ k. opensBelow (partsOf store) (byteOf pack k) (wordOf pack k)) (total pack) 0 (opens-of-13 pack store q) (firstOf pack w + i) (omega arith) (omega arith) in
       let x : byteOf pack (firstOf pack w + i) ≡ operationByte pack w i = ap (λ k. getD pack k 0) (omega arith) in

@@ -43,7 +43,7 @@ contentsOf st =
       room = st .cap;
       used = λ p. if ltb p (st .parts) then length (st .rows p) else 0;
       rows = λ p k. if ltb p (st .parts) then tableOf (valueIn (st .rows p)) k else none;
-      log = λ p id t. if ltb p (st .parts) then logOf (valueIn (st .rows p)) id t else none;
+      log = record { usual = λ p id t. if ltb p (st .parts) then logOf (valueIn (st .rows p)) id t else none };
       bookUsed = length (st .rows (st .parts));
       book = bookOf (valueIn (st .rows (st .parts)));
     }

@@ -15,13 +15,14 @@ use Rattle.rules.proofs.Questions.{orElse-none}
 use Rattle.rules.proofs.Chains.{each-yes}
 use Rattle.code.specs.Layout.{wordAt}
 use Rattle.code.specs.Refusal.{instructionNo}
+use Rattle.code.specs.Right.{Right}
 use Rattle.code.specs.Meaning.{instructionOf, codeOf, Bounded}
 use Rattle.code.proofs.Decoded.{length-listOf, getD-listOf, length-code, instruction-at, right-at, checked-code, bounded-at}
 use Rattle.pack.specs.Layout.{count, sizeOf, operationsAt, operandsAt, operationByte, operandWord, operationsOf, operandsOf}
 use Rattle.pack.specs.Laid.{Laid}
 use Rattle.pack.specs.Refusal.{workflowNo, packRefusal}
 use Rattle.pack.specs.Meaning.{packOf}
-use Rattle.pack.proofs.Sizes.{length-operations}
+use Rattle.pack.proofs.Sizes.{length-operations, length-operands}
 use Rattle.pack.proofs.Workflows.{pack-laid}
 
 -- a number in a part of a list
@@ -72,6 +73,15 @@ module _ (p : List ℕ) where
       -- questions 4 to 7 say yes to each instruction
       pub accepted-instruction : (i : ℕ) → i < sizeOf p w → instructionNo w (operationsOf p w) (operandsOf p w) i ≡ none
       accepted-instruction i l = right-at w (operationsOf p w) (operandsOf p w) (accepted-workflow w h) i (omega (arith, operations-sized))
+
+      -- its bytes are right
+      pub accepted-right : Right (operationsOf p w) (operandsOf p w)
+      accepted-right =
+          record {
+            sized = length-operands p accepted-laid w h ∙ ap (λ (n : ℕ). 4 * n) (sym (length-operations p accepted-laid w h));
+            workflow = w;
+            yes = accepted-workflow w h;
+          }
 
       pub length-workflow : length (getD (packOf p) w []) ≡ sizeOf p w
       length-workflow = ap length (workflow-at w h) ∙ length-code (operationsOf p w) (operandsOf p w) ∙ operations-sized

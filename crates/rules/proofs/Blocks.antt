@@ -1,20 +1,61 @@
--- The run of a block in a checked workflow comes to END within the instructions ahead: to allow it more changes nothing.
--- Assumes nothing.
+-- The run of a block in a checked workflow: it comes to the END behind which the agent goes on; and to allow a run more instructions than
+-- are ahead changes nothing. Assumes nothing.
 use mathlib.Core.Bool.{Bool, true, false}
 use mathlib.Core.Path.{_≡_, refl, sym, _∙_, ap, subst}
 use mathlib.Core.Logic.{_⊎_, inl, inr}
 use mathlib.Core.List.{[], _∷_}
+use mathlib.Core.Option.{none, some}
 use Prim.Native.Nat.{ℕ, zero, suc, _+_, _-_, _≤_, _<_}
-use native.Mathlib.Nat.{not-suc-le-zero, suc-add}
+use native.Mathlib.Nat.{not-suc-le-zero, suc-add, zero-add}
 use native.Mathlib.Omega.{arith}
-use lib.Dec.{ltb, eqb}
-use lib.ListN.{length, drop}
+use native.Mathlib.Decide.{decLt}
+use lib.ListN.{length, drop, length-drop, List·getD-eq-default}
+use lib.Seq.{drop-cons, drop-drop}
 use Rattle.rules.specs.Basics.{if_then_else_}
-use Rattle.rules.specs.Instructions.{Code, Place, register, goto, next, Instruction, SET, COPY, ADD, SUB, JLT, JEQ, BEGIN, END, GET, PUT, HAS, RETURN, act, actAt}
-use Rattle.rules.specs.Blocks.{Table, isEnd, throughEnd, behindEnd, Work, Block, within, runFrom, runBlock}
-use Rattle.rules.specs.Checked.{outside, inside, sideBehind, sideFrom, sideAt, Lands, Jumps, Stands, Checked}
-use Rattle.rules.specs.Instructions.{instructionAt}
-use Rattle.rules.proofs.Positions.{isReturn, side-drop, side-next, stays-inside, more}
+use Rattle.rules.specs.Instructions.{Code, Place, next, Instruction, BEGIN, RETURN, Act, moves, opens, closes, reads, puts, returns, act, actAt, instructionAt}
+use Rattle.rules.specs.Shapes.{outside, inside, shape}
+use Rattle.rules.specs.Blocks.{Table, closing, isEnd, throughEnd, behindEnd, Work, Block, yields, close, within, runFrom, runBlock, Closed}
+use Rattle.rules.specs.Checked.{sideBehind, sideFrom, sideAt, Lands, GoesTo, Checked}
+use Rattle.rules.proofs.Shapes.{GoesOn, Agrees, agrees}
+use Rattle.rules.proofs.Positions.{side-drop, stays-inside, two-sides, own-side, same-side, begins-inside, block-closed}
+
+-- ── Enough is as good as more ──
+
+-- past the last instruction a run is over
+pub past : (code : Code) (w : Work) (n : ℕ) → length code ≤ w .place .position → runFrom code n w ≡ close w (yields 0)
+unfolding runFrom actAt act within
+past code w zero h = refl
+past code w (suc n) h = rw (List·getD-eq-default code (RETURN 0) {n = w .place .position} h) refl
+
+module _ (code : Code) (checked : Checked code) where
+  -- one instruction, if all goes well behind it
+  one-forward : (w : Work) (f g : Work → Block) → ((v : Work) → w .place .position < v .place .position → f v ≡ g v) →
+      w .place .position < length code → (y : Act) → Agrees (instructionAt code (w .place .position)) (w .place) y →
+      within y w f ≡ within y w g
+  unfolding within
+  one-forward w f g rec h (moves to) (on, inl e) = rec _ (omega arith)
+  one-forward w f g rec h (moves to) (on, inr e) =
+      rec _ (subst (GoesTo code (w .place .position)) e (checked .stands (w .place .position) h .1) .0)
+  one-forward w f g rec h (reads k to) (side, on, e) = rec _ (omega (arith, e (w .table k)))
+  one-forward w f g rec h (puts k v) a = rec _ (omega arith)
+  one-forward w f g rec h (opens p) a = refl
+  one-forward w f g rec h (closes v) a = refl
+  one-forward w f g rec h (returns v) a = refl
+
+  pub enough : (ahead extra : ℕ) (w : Work) → length code ≤ w .place .position + ahead → runFrom code ahead w ≡ runFrom code (ahead + extra) w
+  unfolding runFrom actAt
+  enough zero extra w l = sym (past code w (zero + extra) (omega arith))
+  enough (suc ahead) extra w l = go (λ v h. enough ahead extra v h) (decLt (w .place .position) (length code))
+    where
+      go : ((v : Work) → length code ≤ v .place .position + ahead → runFrom code ahead v ≡ runFrom code (ahead + extra) v) →
+          Dec (w .place .position < length code) → runFrom code (suc ahead) w ≡ runFrom code (suc ahead + extra) w
+      go rec (yes h) =
+          one-forward w (runFrom code ahead) (runFrom code (ahead + extra)) (λ v b. rec v (omega arith)) h
+          (act (instructionAt code (w .place .position)) (w .place)) (agrees (instructionAt code (w .place .position)) (w .place))
+          ∙ ap (λ (n : ℕ). runFrom code n w) (sym (suc-add ahead extra))
+      go rec (no n) = past code w (suc ahead) (omega arith) ∙ sym (past code w (suc ahead + extra) (omega arith))
+
+-- ── A block comes to its END ──
 
 -- up to the first END all stand inside
 inside-through : (rest : Code) (j : ℕ) → j < throughEnd rest → sideFrom inside rest j ≡ inside
@@ -27,100 +68,126 @@ inside-through (x ∷ rest) (suc j) h = go (stays-inside x) (inside-through rest
     go (inl i) rec = let h′ = rw (i .0) at h in absurd (omega arith)
     go (inr i) rec = let h′ = rw (i .0) at h in ap (λ w. sideFrom w rest j) (i .1) ∙ rec (omega arith)
 
-module _ (code : Code) (checked : Checked code) where
-  -- the instruction at this index stands inside a block
-  pub record Inside (i : ℕ) : Type 0 where
-    pub below : i < length code
-    pub side : sideAt code i ≡ inside
+-- from any of them on, the first END is the same
+through-from : (rest : Code) (k : ℕ) → k < throughEnd rest → throughEnd rest ≡ k + throughEnd (drop k rest)
+through-from [] k h = absurd (not-suc-le-zero h)
+through-from (x ∷ rest) zero h = sym (zero-add (throughEnd (x ∷ rest)))
+through-from (x ∷ rest) (suc k) h = go (isEnd x) h (through-from rest k)
+  where
+    go : (b : Bool) → suc k < (if_then_else_ b 1 (suc (throughEnd rest))) →
+        (k < throughEnd rest → throughEnd rest ≡ k + throughEnd (drop k rest)) →
+        if_then_else_ b 1 (suc (throughEnd rest)) ≡ suc k + throughEnd (drop k rest)
+    go true l rec = absurd (omega arith)
+    go false l rec = omega (arith, rec (omega arith))
 
-  after-inside : (i : ℕ) → Inside i → (x : Instruction) → instructionAt code i ≡ x → isReturn x ≡ false → sideBehind inside x ≡ inside →
-      Inside (suc i)
-  after-inside i h x e n o =
-      record {
-        below = more code checked i x (h .below) e n;
-        side =
-            side-next outside code i (h .below) ∙ ap (λ w. sideBehind w (instructionAt code i)) (h .side) ∙ ap (sideBehind inside) e ∙ o;
-      }
+some-through : (rest : Code) → 0 < length rest → 0 < throughEnd rest
+some-through [] l = absurd (not-suc-le-zero l)
+some-through (y ∷ rest) l = go (isEnd y)
+  where
+    go : (b : Bool) → 0 < (if_then_else_ b 1 (suc (throughEnd rest)))
+    go true = omega arith
+    go false = omega arith
 
-  jump-inside : (i target : ℕ) → Inside i → (x : Instruction) → instructionAt code i ≡ x → isReturn x ≡ false → sideBehind inside x ≡ inside →
-      Jumps code i target → Inside target
-  jump-inside i target h x e n o j =
-      record {
-        below = j .1;
-        side =
-            ap (sideAt code) to-target
-            ∙ side-drop outside code (suc i) (target - suc i)
-            ∙ ap (λ w. sideFrom w (drop (suc i) code) (target - suc i)) (after-inside i h x e n o .side)
-            ∙ inside-through (drop (suc i) code) (target - suc i) (omega (arith, lands));
-      }
-    where
-      lands : target < behindEnd code i
-      lands = subst (λ w. Lands w code i target) (h .side) (j .2)
+module _ (code : Code) (checked : Checked code) (begin p : ℕ) (opened : begin < length code) (begins : instructionAt code begin ≡ BEGIN p) where
+  -- between BEGIN and the first END behind it, that END included
+  record Between (j : ℕ) : Type 0 where
+    pub behind : begin < j
+    pub before : j < behindEnd code begin
 
-      to-target : target ≡ suc i + (target - suc i)
-      to-target = omega arith
+  module _ (j : ℕ) (h : Between j) where
+    abbrev x : Instruction
+    x = instructionAt code j
 
-  -- wherever a jump goes
-  pub record Onward (i j : ℕ) : Type 0 where
-    pub there : Inside j
-    pub further : i < j
+    in-code : j < length code
+    in-code = let c = block-closed code checked begin p opened begins in omega (arith, c .0, h .before)
 
-  jump-either : (pl : Place) (target : ℕ) (b : Bool) → Inside (pl .position) → (x : Instruction) → instructionAt code (pl .position) ≡ x →
-      isReturn x ≡ false → sideBehind inside x ≡ inside → Jumps code (pl .position) target →
-      Onward (pl .position) ((if_then_else_ b (goto pl target) (next pl)) .position)
-  jump-either pl target true h x e n o j = record { there = jump-inside (pl .position) target h x e n o j; further = j .0 }
-  jump-either pl target false h x e n o j = record { there = after-inside (pl .position) h x e n o; further = omega arith }
+    -- j - begin - 1 instructions lie between
+    from-begin : suc begin + (j - suc begin) ≡ j
+    from-begin = omega (arith, h .behind)
 
-  -- one instruction, if all goes well behind it
-  one-inside : (w : Work) (ahead : ℕ) (f g : Work → Block) → Inside (w .place .position) → length code ≤ w .place .position + suc ahead →
-      ((w′ : Work) → Inside (w′ .place .position) → length code ≤ w′ .place .position + ahead → f w′ ≡ g w′) →
-      (x : Instruction) → instructionAt code (w .place .position) ≡ x → Stands code (w .place .position) x →
-      within (act x (w .place)) w f ≡ within (act x (w .place)) w g
-  unfolding within act
-  one-inside w ahead f g h l rec (SET d v) e s =
-      rec _ (after-inside (w .place .position) h (SET d v) e refl refl) (omega arith)
-  one-inside w ahead f g h l rec (COPY d v) e s =
-      rec _ (after-inside (w .place .position) h (COPY d v) e refl refl) (omega arith)
-  one-inside w ahead f g h l rec (ADD d v) e s =
-      rec _ (after-inside (w .place .position) h (ADD d v) e refl refl) (omega arith)
-  one-inside w ahead f g h l rec (SUB d v) e s =
-      rec _ (after-inside (w .place .position) h (SUB d v) e refl refl) (omega arith)
-  one-inside w ahead f g h l rec (JLT d v target) e s =
-      let j = jump-either (w .place) target (ltb (register (w .place) d) (register (w .place) v)) h (JLT d v target) e
-      refl refl s in
-      rec _ (j .there) (omega (arith, j .further))
-  one-inside w ahead f g h l rec (JEQ d v target) e s =
-      let j = jump-either (w .place) target (eqb (register (w .place) d) (register (w .place) v)) h (JEQ d v target) e
-      refl refl s in
-      rec _ (j .there) (omega (arith, j .further))
-  one-inside w ahead f g h l rec (BEGIN p) e s = refl
-  one-inside w ahead f g h l rec (END d) e s = refl
-  one-inside w ahead f g h l rec (GET d v) e s =
-      rec _ (after-inside (w .place .position) h (GET d v) e refl refl) (omega arith)
-  one-inside w ahead f g h l rec (PUT d v) e s =
-      rec _ (after-inside (w .place .position) h (PUT d v) e refl refl) (omega arith)
-  one-inside w ahead f g h l rec (HAS d v) e s =
-      rec _ (after-inside (w .place .position) h (HAS d v) e refl refl) (omega arith)
-  one-inside w ahead f g h l rec (RETURN d) e s = refl
+    side : sideAt code j ≡ inside
+    side =
+        ap (sideAt code) (sym from-begin)
+        ∙ side-drop outside code (suc begin) (j - suc begin)
+        ∙ ap (λ w. sideFrom w (drop (suc begin) code) (j - suc begin)) (begins-inside code checked begin p opened begins .1)
+        ∙ inside-through (drop (suc begin) code) (j - suc begin) (omega (arith, h .behind, h .before))
 
-  more-ahead : (ahead extra : ℕ) (w : Work) → Inside (w .place .position) → length code ≤ w .place .position + ahead →
-      runFrom code ahead w ≡ runFrom code (ahead + extra) w
+    -- the END is the first one from j on
+    same-end : behindEnd code begin ≡ j + throughEnd (drop j code)
+    same-end =
+        let e = through-from (drop (suc begin) code) (j - suc begin) (omega (arith, h .behind, h .before)) in
+        let d = ap throughEnd (drop-drop (j - suc begin) (suc begin) code ∙ ap (λ n. drop n code) from-begin) in
+        omega (arith, e, d, from-begin)
+
+    here : throughEnd (drop j code) ≡ if_then_else_ (isEnd x) 1 (suc (throughEnd (drop (suc j) code)))
+    here = ap throughEnd (drop-cons code j (RETURN 0) in-code)
+
+    -- if this one closes the block, it is that END
+    at-end : shape x .behind ≡ some outside → suc j ≡ behindEnd code begin
+    at-end e = let t = here ∙ ap (λ o. if_then_else_ (closing o) 1 (suc (throughEnd (drop (suc j) code)))) e in omega (arith, t, same-end)
+
+    -- if not, it is ahead
+    not-end : shape x .behind ≡ none → behindEnd code j ≡ behindEnd code begin
+    not-end e = let t = here ∙ ap (λ o. if_then_else_ (closing o) 1 (suc (throughEnd (drop (suc j) code)))) e in omega (arith, t, same-end)
+
+    -- on to the next instruction of the block
+    next-between : GoesOn (shape x) → Between (suc j)
+    next-between g =
+        let l = same-side code checked j in-code g .0 in
+        let t = some-through (drop (suc j) code) (omega (arith, length-drop (suc j) code, l)) in
+        record { behind = omega (arith, h .behind); before = omega (arith, t, not-end (g .same-side)) }
+
+    -- a jump passes no END
+    jump-between : GoesOn (shape x) → (target : ℕ) → shape x .target ≡ some target → Between target
+    jump-between g target e =
+        let t = subst (GoesTo code j) e (checked .stands j in-code .1) in
+        let l : target < behindEnd code j = subst (λ w. Lands w code j target) side (t .2) in
+        record { behind = omega (arith, h .behind, t .0); before = omega (arith, l, not-end (g .same-side)) }
+
+    -- nothing there stands outside
+    not-outside : {A : Type 0} → shape x .stands ≡ some outside → A
+    not-outside e = two-sides side (own-side code checked j in-code outside e)
+
+  -- one instruction, if the rest comes to END
+  one-inside : (w : Work) (f : Work → Block) → ((v : Work) → w .place .position < v .place .position → Between (v .place .position) → Closed code begin (f v)) →
+      (h : Between (w .place .position)) → (y : Act) → actAt code (w .place) ≡ y →
+      Agrees (instructionAt code (w .place .position)) (w .place) y → Closed code begin (within y w f)
+  unfolding within
+  one-inside w f rec h (moves to) e (on, inl p) =
+      rec _ (omega arith) (subst Between (sym p) (next-between (w .place .position) h on))
+  one-inside w f rec h (moves to) e (on, inr p) =
+      let b = jump-between (w .place .position) h on (to .position) p in
+      rec _ (subst (GoesTo code (w .place .position)) p (checked .stands (w .place .position) (in-code (w .place .position) h) .1) .0) b
+  one-inside w f rec h (reads k to) e (s, on, p) =
+      rec _ (omega (arith, p (w .table k))) (subst Between (sym (p (w .table k))) (next-between (w .place .position) h on))
+  one-inside w f rec h (puts k v) e (s, on) = rec _ (omega arith) (next-between (w .place .position) h on)
+  one-inside w f rec h (closes v) e (s, b) =
+      record { last = w; value = v; at-end = e; the-first = at-end (w .place .position) h b; closed = refl }
+  one-inside w f rec h (opens q) e a = not-outside (w .place .position) h (ap (λ y. shape y .stands) a)
+  one-inside w f rec h (returns v) e a = not-outside (w .place .position) h a
+
+  comes-to-end : (ahead : ℕ) (w : Work) → Between (w .place .position) → length code ≤ w .place .position + ahead → Closed code begin (runFrom code ahead w)
   unfolding runFrom actAt
-  more-ahead zero extra w h l = absurd (let b = h .below in omega arith)
-  more-ahead (suc ahead) extra w h l =
-      one-inside w ahead (runFrom code ahead) (runFrom code (ahead + extra)) h l (λ w′ h′ l′. more-ahead ahead extra w′ h′ l′)
-      (instructionAt code (w .place .position)) refl (checked .stands (w .place .position) (h .below))
-      ∙ ap (λ n. runFrom code n w) (sym (suc-add ahead extra))
+  comes-to-end zero w h l = absurd (let b = in-code (w .place .position) h in omega arith)
+  comes-to-end (suc ahead) w h l =
+      one-inside w (runFrom code ahead) (λ v f b. comes-to-end ahead v b (omega arith)) h
+      (actAt code (w .place)) refl (agrees (instructionAt code (w .place .position)) (w .place))
 
-  -- The block that BEGIN opens comes to its END within the instructions ahead.
-  pub block-ends : (at : Place) (p : ℕ) (table : Table) (extra : ℕ) → at .position < length code → instructionAt code (at .position) ≡ BEGIN p →
-      runBlock code at table ≡
-      runFrom code (length code - suc (at .position) + extra) (record { place = next at; table = table; newKeys = 0 })
+  first-between : Between (suc begin)
+  first-between =
+      let l = begins-inside code checked begin p opened begins .0 in
+      let t = some-through (drop (suc begin) code) (omega (arith, length-drop (suc begin) code, l)) in
+      record { behind = omega arith; before = omega (arith, t) }
+
+  opened-comes : (at : Place) → at .position ≡ begin → (table : Table) → Closed code begin (runBlock code at table)
   unfolding runBlock
-  block-ends at p table extra h e =
-      more-ahead (length code - suc (at .position)) extra (record { place = next at; table = table; newKeys = 0 })
-      (record {
-        below = more code checked (at .position) (BEGIN p) h e refl;
-        side = side-next outside code (at .position) h ∙ ap (sideBehind (sideAt code (at .position))) e;
-      })
-      (omega arith)
+  opened-comes at e table =
+      comes-to-end (length code - suc (at .position)) (record { place = next at; table = table; newKeys = 0 })
+      (subst (λ n. Between (suc n)) (sym e) first-between) (omega arith)
+
+-- The block that BEGIN opens comes to the first END behind it, within the instructions ahead.
+pub block-ends : (code : Code) → Checked code → (at : Place) (p : ℕ) (table : Table) (h : at .position < length code) →
+    (e : instructionAt code (at .position) ≡ BEGIN p) →
+    Closed code (at .position) (runBlock code at table)
+block-ends code checked at p table h e =
+    opened-comes code checked (at .position) p h e at refl table

@@ -4,73 +4,106 @@
 use mathlib.Core.Path.{_≡_, refl, _∙_, ap}
 use mathlib.Core.Logic.{_⊎_, inl, inr}
 use mathlib.Core.Option.{Option, none, some}
-use Prim.Native.Nat.{ℕ, zero, suc, _<_}
+use Prim.Native.Nat.{ℕ, zero, suc, _≤_, _<_}
 use native.Mathlib.Omega.{arith}
 use native.Mathlib.Nat.{not-suc-le-zero}
-use Rattle.rules.proofs.Updates.{le-cases}
-use Rattle.rules.specs.Instructions.{Code, Place, Act, moves, opens, closes, reads, puts, returns, actAt, next}
-use Rattle.rules.specs.Blocks.{afterBlock}
-use Rattle.rules.specs.Store.{Request}
-use Rattle.rules.specs.Calls.{start}
+use Rattle.rules.proofs.Updates.{none-some, le-cases, logged-here, logged-cases}
+use Rattle.rules.specs.Instructions.{Code}
+use Rattle.rules.specs.Blocks.{Result, yields}
+use Rattle.rules.specs.Courses.{Course, Next, goes, does, says, nextOf}
+use Rattle.rules.specs.Store.{Request, Log, sought, found, withRow}
+use Rattle.rules.specs.Logged.{Stage, at, finished, behind, byNext, onward, follow}
 
--- partition, id and step to the logged result
-abbrev pub Log : Type 0
-Log = (partition id step : ℕ) → Option ℕ
+-- ── Logs ──
 
--- a request is under way, at a place and a step number, or has replied
-pub data Stage : Type 0 where
-  at : (place : Place) (step : ℕ) → Stage
-  finished : (value : ℕ) → Stage
+-- there is no row of this step
+abbrev pub Free : Log → (partition id step : ℕ) → Type 0
+Free log p id t = log .usual p id t ≡ none
 
-abbrev pub behind : Code → Place → (step : ℕ) → Option ℕ → Option Stage
-behind code pl t none = none
-behind code pl t (some v) = some (at (afterBlock code pl v) (suc t))
+-- both logs have the same rows of this step
+abbrev pub Same : Log → Log → (partition id step : ℕ) → Type 0
+Same log log′ p id t = log′ .usual p id t ≡ log .usual p id t
 
-abbrev pub byAct : Log → (id : ℕ) → Code → Place → (step : ℕ) → Act → Option Stage
-byAct log id code pl t (moves to) = some (at to t)
-byAct log id code pl t (returns v) = some (finished v)
-byAct log id code pl t (opens p) = behind code pl t (log p id t)
-byAct log id code pl t (closes v) = some (at (next pl) t)
-byAct log id code pl t (reads k to) = some (at (next pl) t)
-byAct log id code pl t (puts k v) = some (at (next pl) t)
+-- the log has each row of this id that it had
+abbrev pub Grows : Log → Log → (id : ℕ) → Type 0
+Grows log log′ id = (p t : ℕ) (r : Result) → found log p id t ≡ some r → found log′ p id t ≡ some r
 
-abbrev pub onward : Log → (id : ℕ) → Code → Option Stage → Option Stage
-onward log id code none = none
-onward log id code (some (at pl t)) = byAct log id code pl t (actAt code pl)
-onward log id code (some (finished v)) = none
+pub same-here : (log : Log) (p id t : ℕ) → Same log log p id t
+same-here log p id t = refl
 
-unfoldable pub follow : Log → (id : ℕ) → Code → Request → (moves : ℕ) → Option Stage
-follow log id code q zero = some (at (start q) 0)
-follow log id code q (suc n) = onward log id code (follow log id code q n)
+pub same-free : (log log′ : Log) (p id t : ℕ) → Same log log′ p id t → Free log p id t → Free log′ p id t
+same-free log log′ p id t s f = s ∙ f
 
--- the log has each row that it had
-abbrev pub Grows : Log → Log → Type 0
-Grows log log′ = (p id t v : ℕ) → log p id t ≡ some v → log′ p id t ≡ some v
+pub same-grows : (log log′ : Log) (id : ℕ) → ((p t : ℕ) → Same log log′ p id t) → Grows log log′ id
+same-grows log log′ id same p t r e = ap sought (same p t) ∙ e
 
-behind-stays : (code : Code) (pl : Place) (t : ℕ) (o o′ : Option ℕ) (s : Stage) →
-    ((v : ℕ) → o ≡ some v → o′ ≡ some v) → behind code pl t o ≡ some s → behind code pl t o′ ≡ some s
-behind-stays code pl t none o′ s g e = cc
-behind-stays code pl t (some v) o′ s g e = rw (g v refl) e
+pub free-none : (log : Log) (p id t : ℕ) → Free log p id t → found log p id t ≡ none
+free-none log p id t f = ap sought f
 
-byAct-stays : (log log′ : Log) (id : ℕ) (code : Code) (pl : Place) (t : ℕ) (a : Act) (s : Stage) →
-    Grows log log′ → byAct log id code pl t a ≡ some s → byAct log′ id code pl t a ≡ some s
-byAct-stays log log′ id code pl t (moves to) s g e = e
-byAct-stays log log′ id code pl t (returns v) s g e = e
-byAct-stays log log′ id code pl t (opens p) s g e = behind-stays code pl t (log p id t) (log′ p id t) s (g p id t) e
-byAct-stays log log′ id code pl t (closes v) s g e = e
-byAct-stays log log′ id code pl t (reads k to) s g e = e
-byAct-stays log log′ id code pl t (puts k v) s g e = e
+-- one log row more
+module _ (log : Log) (p id t : ℕ) where
+  -- a step of the new log is the one written, or is as before
+  pub row-cases : (r : Result) (p′ id′ t′ : ℕ) → ((p′ ≡ p) × (id′ ≡ id) × (t′ ≡ t)) ⊎ Same log (withRow log p id t r) p′ id′ t′
+  unfolding withRow
+  row-cases (yields v) p′ id′ t′ = logged-cases (log .usual) p id t v p′ id′ t′
+
+  pub row-grows : (r : Result) → Free log p id t → (id′ : ℕ) → Grows log (withRow log p id t r) id′
+  row-grows r free id′ p′ t′ w e = go (row-cases r p′ id′ t′)
+    where
+      go : ((p′ ≡ p) × (id′ ≡ id) × (t′ ≡ t)) ⊎ Same log (withRow log p id t r) p′ id′ t′ → found (withRow log p id t r) p′ id′ t′ ≡ some w
+      go (inl h) = none-some w (free-none log p′ id′ t′ (rw (h .0, h .1, h .2) free)) e
+      go (inr h) = ap sought h ∙ e
+
+  pub row-elsewhere : (r : Result) (p′ id′ t′ : ℕ) → (id′ ≡ id → ⊥) → Same log (withRow log p id t r) p′ id′ t′
+  row-elsewhere r p′ id′ t′ n = go (row-cases r p′ id′ t′)
+    where
+      go : ((p′ ≡ p) × (id′ ≡ id) × (t′ ≡ t)) ⊎ Same log (withRow log p id t r) p′ id′ t′ → Same log (withRow log p id t r) p′ id′ t′
+      go (inl h) = absurd (n (h .1))
+      go (inr h) = h
+
+  pub row-later : (r : Result) (p′ t′ : ℕ) → suc t ≤ t′ → Free log p′ id t′ → Free (withRow log p id t r) p′ id t′
+  row-later r p′ t′ l f = go (row-cases r p′ id t′)
+    where
+      go : ((p′ ≡ p) × (id ≡ id) × (t′ ≡ t)) ⊎ Same log (withRow log p id t r) p′ id t′ → Free (withRow log p id t r) p′ id t′
+      go (inl h) = absurd (let h₂ = h .2 in omega arith)
+      go (inr h) = same-free log (withRow log p id t r) p′ id t′ h f
+
+  -- the row written is found
+  pub row-here : (r : Result) → found (withRow log p id t r) p id t ≡ some r
+  unfolding withRow
+  row-here (yields v) = ap sought (logged-here (log .usual) p id t v)
+
+-- ── The walk ──
+
+behind-stays : (onto : Result → Course) (t : ℕ) (o o′ : Option Result) (s : Stage) →
+    ((r : Result) → o ≡ some r → o′ ≡ some r) → behind onto t o ≡ some s → behind onto t o′ ≡ some s
+unfolding behind
+behind-stays onto t none o′ s g e = none-some s refl e
+behind-stays onto t (some r) o′ s g e = rw (g r refl) e
+
+-- behind a block that was logged
+pub behind-at : (onto : Result → Course) (t : ℕ) (o : Option Result) (c : Course) (u : ℕ) → behind onto t o ≡ some (at c u) →
+    (r : Result) × (onto r ≡ c) × (suc t ≡ u)
+unfolding behind
+behind-at onto t none c u e = none-some (at c u) refl e
+behind-at onto t (some r) c u e = (r, cc, cc)
+
+byNext-stays : (log log′ : Log) (id t : ℕ) (x : Next) (s : Stage) →
+    Grows log log′ id → byNext log id t x ≡ some s → byNext log′ id t x ≡ some s
+byNext-stays log log′ id t (goes to) s g e = e
+byNext-stays log log′ id t (says r) s g e = e
+byNext-stays log log′ id t (does from p onto) s g e = behind-stays onto t _ _ s (g p _) e
 
 onward-stays : (log log′ : Log) (id : ℕ) (code : Code) (o o′ : Option Stage) (s : Stage) →
-    Grows log log′ → ((u : Stage) → o ≡ some u → o′ ≡ some u) → onward log id code o ≡ some s → onward log′ id code o′ ≡ some s
+    Grows log log′ id → ((u : Stage) → o ≡ some u → o′ ≡ some u) → onward log id code o ≡ some s → onward log′ id code o′ ≡ some s
 onward-stays log log′ id code none o′ s g k e = cc
-onward-stays log log′ id code (some (at pl t)) o′ s g k e =
-    rw (k (at pl t) refl) (byAct-stays log log′ id code pl t (actAt code pl) s g e)
-onward-stays log log′ id code (some (finished v)) o′ s g k e = cc
+onward-stays log log′ id code (some (at c t)) o′ s g k e =
+    rw (k (at c t) refl) (byNext-stays log log′ id t (nextOf code c) s g e)
+onward-stays log log′ id code (some (finished r)) o′ s g k e = cc
 
 -- A follow stays when the log grows.
 pub follow-stays : (log log′ : Log) (id : ℕ) (code : Code) (q : Request) (n : ℕ) (s : Stage) →
-    Grows log log′ → follow log id code q n ≡ some s → follow log′ id code q n ≡ some s
+    Grows log log′ id → follow log id code q n ≡ some s → follow log′ id code q n ≡ some s
 unfolding follow
 follow-stays log log′ id code q zero s g e = e
 follow-stays log log′ id code q (suc n) s g e =
@@ -79,32 +112,32 @@ follow-stays log log′ id code q (suc n) s g e =
 
 -- Who has come to n moves has come to n - 1.
 onward-from : (log : Log) (id : ℕ) (code : Code) (o : Option Stage) (s : Stage) → onward log id code o ≡ some s →
-    (pl : Place) × (t : ℕ) × (o ≡ some (at pl t))
+    (c : Course) × (t : ℕ) × (o ≡ some (at c t))
 onward-from log id code none s e = absurd (let z : _≡_ {A = ℕ} 0 1 = cc in omega arith)
-onward-from log id code (some (at pl t)) s e = (pl, t, refl)
-onward-from log id code (some (finished v)) s e = absurd (let z : _≡_ {A = ℕ} 0 1 = cc in omega arith)
+onward-from log id code (some (at c t)) s e = (c, t, refl)
+onward-from log id code (some (finished r)) s e = absurd (let z : _≡_ {A = ℕ} 0 1 = cc in omega arith)
 
 pub follow-before : (log : Log) (id : ℕ) (code : Code) (q : Request) (n : ℕ) (s : Stage) → follow log id code q (suc n) ≡ some s →
-    (pl : Place) × (t : ℕ) × (follow log id code q n ≡ some (at pl t))
+    (c : Course) × (t : ℕ) × (follow log id code q n ≡ some (at c t))
 unfolding follow
 follow-before log id code q n s e = onward-from log id code (follow log id code q n) s e
 
 -- and to each number of moves below n
 pub follow-below : (log : Log) (id : ℕ) (code : Code) (q : Request) (n : ℕ) (s : Stage) (m : ℕ) → m < n →
-    follow log id code q n ≡ some s → (pl : Place) × (t : ℕ) × (follow log id code q m ≡ some (at pl t))
+    follow log id code q n ≡ some s → (c : Course) × (t : ℕ) × (follow log id code q m ≡ some (at c t))
 follow-below log id code q zero s m h e = absurd (not-suc-le-zero h)
 follow-below log id code q (suc n) s m h e =
     let b = follow-before log id code q n s e in
     go (le-cases m n (omega arith)) b (λ l. follow-below log id code q n (at (b .0) (b .1)) m l (b .2))
   where
-    go : (m ≡ n) ⊎ (m < n) → ((pl : Place) × (t : ℕ) × (follow log id code q n ≡ some (at pl t))) →
-        (m < n → (pl : Place) × (t : ℕ) × (follow log id code q m ≡ some (at pl t))) →
-        (pl : Place) × (t : ℕ) × (follow log id code q m ≡ some (at pl t))
+    go : (m ≡ n) ⊎ (m < n) → ((c : Course) × (t : ℕ) × (follow log id code q n ≡ some (at c t))) →
+        (m < n → (c : Course) × (t : ℕ) × (follow log id code q m ≡ some (at c t))) →
+        (c : Course) × (t : ℕ) × (follow log id code q m ≡ some (at c t))
     go (inl i) b rec = rw i b
     go (inr i) b rec = rec i
 
--- the next stage, by what the instruction asks for
-pub follow-next : (log : Log) (id : ℕ) (code : Code) (q : Request) (n : ℕ) (pl : Place) (t : ℕ) (a : Act) (o : Option Stage) →
-    follow log id code q n ≡ some (at pl t) → actAt code pl ≡ a → byAct log id code pl t a ≡ o → follow log id code q (suc n) ≡ o
+-- the next stage, by what the agent does next
+pub follow-next : (log : Log) (id : ℕ) (code : Code) (q : Request) (n : ℕ) (c : Course) (t : ℕ) (x : Next) (o : Option Stage) →
+    follow log id code q n ≡ some (at c t) → nextOf code c ≡ x → byNext log id t x ≡ o → follow log id code q (suc n) ≡ o
 unfolding follow
-follow-next log id code q n pl t a o f e h = ap (onward log id code) f ∙ ap (byAct log id code pl t) e ∙ h
+follow-next log id code q n c t x o f e h = ap (onward log id code) f ∙ ap (byNext log id t) e ∙ h

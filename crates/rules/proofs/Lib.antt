@@ -4,12 +4,15 @@ pub mod Questions
 pub mod Chains
 pub mod Each
 pub mod Keys
+pub mod Shapes
 pub mod Follow
+pub mod Replies
 pub mod Invariant
 pub mod Core
 pub mod Turn
 pub mod Calls
 pub mod Positions
+pub mod Logged
 pub mod Blocks
 pub mod Theorem
 pub mod WholeCase

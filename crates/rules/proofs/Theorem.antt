@@ -9,15 +9,19 @@ use lib.ListN.{getD, length}
 use Rattle.rules.specs.Basics.{if_then_else_, isSome}
 use Rattle.rules.specs.Questions.{No}
 use Rattle.rules.specs.Instructions.{Pack, act, actAt}
+use Rattle.rules.specs.Blocks.{yields}
+use Rattle.rules.specs.Courses.{nextBy, nextOf}
 use Rattle.rules.specs.Store.{Request}
-use Rattle.rules.specs.Calls.{codeOf, State, Agent, Outcome, refusal, rule, unless, turnIn, turnOn, turn, call, History, stateAfter}
+use Rattle.rules.specs.Logged.{codeOf, replyLogged}
+use Rattle.rules.specs.Calls.{State, Agent, Outcome, refusal, rule, unless, turnIn, turnOn, turn, call, History, stateAfter}
 use Rattle.rules.specs.Plain.{Reply, Run, Machine, Tallies, accepted, tallied, machineAfter, talliesAfter, repliesAfter, firstReplies}
 use Rattle.rules.specs.Checked.{Checked, CheckedPack}
 use Rattle.rules.specs.Demand3.{InTime, PlainRun, Demand3, SoundAgent}
 use Rattle.rules.proofs.Updates.{none-some, false-true, update-same}
-use Rattle.rules.proofs.Follow.{Log, finished}
-use Rattle.rules.proofs.Invariant.{followed, Live, Settled, requestOf, Inv}
-use Rattle.rules.proofs.Turn.{book-is, outcome-is, tallied-is, tallyOf}
+use Rattle.rules.proofs.Replies.{replyTo}
+use Rattle.rules.proofs.Invariant.{Progress, underway, over, Live, Inv}
+use Rattle.rules.proofs.Logged.{ends-logged}
+use Rattle.rules.proofs.Turn.{outcome-is, tallied-is, tallyOf}
 use Rattle.rules.proofs.Questions.{ask-none}
 use Rattle.rules.proofs.Calls.{call-keeps}
 use Rattle.rules.proofs.Positions.{follow-position}
@@ -31,10 +35,11 @@ invariant pack room [] =
       core =
           record {
             tables = refl;
-            book = λ id. refl;
+            counterpart = λ id q e. none-some q refl e;
             valid = λ id q e. none-some q refl e;
-            progress = λ id r e. none-some r refl e;
+            unbooked = λ id e. refl;
             unlogged = λ id e p t. refl;
+            unreplied = λ id e. refl;
             settled = λ r h. absurd (List·Memᴰ·not-nil h);
             firsts = refl;
           };
@@ -43,18 +48,6 @@ invariant pack room [] =
 invariant pack room (c ∷ before) =
     call-keeps pack (stateAfter pack room before) (machineAfter pack room before) (talliesAfter pack room before) (repliesAfter pack room before)
     (invariant pack room before) c .kept
-
--- Two replies to one id are what its request comes to.
-settled-once : (pack : Pack) (log : Log) (runs : ℕ → Option Run) (id v v′ : ℕ) →
-    Settled pack log runs id v → Settled pack log runs id v′ → v ≡ v′
-settled-once pack log runs id v v′ h h′ = go (h′ .run) (Option·some-injective (h .run) (h′ .run) (sym (h .run-is) ∙ h′ .run-is)) (h′ .ended)
-  where
-    go : (w : Run) → h .run ≡ w → followed pack log id (w .request) (w .moveCount) ≡ some (finished v′) → v ≡ v′
-    go w p e =
-        let e₁ = h .ended in
-        let e₂ : followed pack log id (h .run .request) (h .run .moveCount) ≡ some (finished v′) =
-        subst (λ (x : Run). followed pack log id (x .request) (x .moveCount) ≡ some (finished v′)) (sym p) e in
-        cc
 
 -- An accepted turn is one of an agent, and the last that its workflow's size allows is a reply.
 module _ (pack : Pack) (checked : CheckedPack pack) (room : ℕ) (calls : History) (slot : ℕ) where
@@ -70,16 +63,16 @@ module _ (pack : Pack) (checked : CheckedPack pack) (room : ℕ) (calls : Histor
   abbrev rs : List Reply
   rs = repliesAfter pack room calls
 
-  live-in-time : (a : Agent) → s .slots slot ≡ some a → (live : Live pack (s .store .log) (m .runs) (t slot) a) →
+  live-in-time : (a : Agent) → s .slots slot ≡ some a → (live : Live pack (s .store .log) (s .store .book) (m .runs) (t slot) a) →
       call pack s (turn slot) .answer ≡ turnIn pack s slot (some a) .answer →
       accepted (call pack s (turn slot) .answer) ≡ true → InTime pack room calls slot
-  unfolding talliesAfter turnOn actAt act
+  unfolding talliesAfter turnOn nextOf nextBy actAt act
   live-in-time a held live same allow =
       let inv = invariant pack room calls in
       let code = codeOf pack (live .run .request) in
-      let own = book-is pack s m t rs inv slot a live in
+      let own = live .book-is in
       let c : Checked code = checked (live .run .request .workflow) (inv .core .valid (a .id) (live .run .request) own) in
-      let pos = follow-position code c (s .store .log) (a .id) (live .run .request) (live .turns) (a .place) (a .step) (live .there) in
+      let pos = follow-position code c (s .store .log) (a .id) (live .run .request) (live .turns) (a .course) (a .step) (live .there) in
       record {
         agent = a;
         turns = suc (live .turns);
@@ -93,11 +86,11 @@ module _ (pack : Pack) (checked : CheckedPack pack) (room : ℕ) (calls : Histor
         at-most = omega arith;
         last =
             λ e.
-            let l = c .last-returns (a .place .position) (omega arith) in (
-              getD (a .place .registers) (l .0) 0,
+            let l = c .last-returns (a .course .place .position) (omega arith) in (
+              yields (getD (a .course .place .registers) (l .0) 0),
               same
                   ∙ ap (λ (o : Outcome). o .answer) (outcome-is pack s m t rs inv slot a live)
-                  ∙ ap (λ x. turnOn s slot a code (act x (a .place)) .answer) (l .1),
+                  ∙ ap (λ x. turnOn s slot a code (nextBy code (a .course .place) (act x (a .course .place))) .answer) (l .1),
             );
       }
 
@@ -125,12 +118,10 @@ module _ (pack : Pack) (room : ℕ) (calls : History) where
 
   pub equal-are : (r r′ : Reply) → List·Memᴰ r (repliesAfter pack room calls) → List·Memᴰ r′ (repliesAfter pack room calls) → r .id ≡ r′ .id → r .value ≡ r′ .value
   equal-are r r′ h h′ e =
-      let s = stateAfter pack room calls in
       let m = machineAfter pack room calls in
       let inv = invariant pack room calls in
-      settled-once pack (s .store .log) (m .runs) (r′ .id) (r .value) (r′ .value)
-      (subst (λ j. Settled pack (s .store .log) (m .runs) j (r .value)) e (inv .core .settled r h))
-      (inv .core .settled r′ h′)
+      Option·some-injective (r .value) (r′ .value)
+      (sym (inv .core .settled r h) ∙ ap (λ j. replyTo j (m .replies)) e ∙ inv .core .settled r′ h′)
 
 -- The theorem.
 pub plain-run : (pack : Pack) → CheckedPack pack → (room : ℕ) (calls : History) → PlainRun pack room calls
@@ -145,6 +136,25 @@ plain-run pack checked room calls =
 pub demand3 : Demand3
 demand3 pack checked room calls = plain-run pack checked room (reverse calls)
 
+-- A reply that was given can be worked out from the log, as long as its request is in the book: the log leads through to it.
+pub replied-logged : (pack : Pack) → CheckedPack pack → (room : ℕ) (calls : History) (r : Reply) → List·Memᴰ r (repliesAfter pack room calls) →
+    (q : Request) → stateAfter pack room calls .store .book (r .id) ≡ some q →
+    replyLogged pack (stateAfter pack room calls .store .log) (r .id) (some q) ≡ some (r .value)
+replied-logged pack checked room calls r h q e =
+    let inv = invariant pack room calls in
+    let g = inv .core .counterpart (r .id) q e in
+    subst (λ x. replyLogged pack (stateAfter pack room calls .store .log) (r .id) (some x) ≡ some (r .value)) (g .request-is)
+    (go (g .run) (subst (λ (x : Request). Checked (codeOf pack x)) (sym (g .request-is)) (checked (q .workflow) (inv .core .valid (r .id) q e))) (g .progress)
+    (inv .core .settled r h))
+  where
+    go : (run : Run) → Checked (codeOf pack (run .request)) →
+        Progress pack (stateAfter pack room calls .store .log) (machineAfter pack room calls .replies) (r .id) run →
+        replyTo (r .id) (machineAfter pack room calls .replies) ≡ some (r .value) →
+        replyLogged pack (stateAfter pack room calls .store .log) (r .id) (some (run .request)) ≡ some (r .value)
+    go run c (underway t f free not-yet) given = none-some (r .value) not-yet given
+    go run c (over v f given′) given =
+        ends-logged pack (stateAfter pack room calls .store .log) (r .id) (run .request) v c (run .moveCount, f) ∙ sym given′ ∙ given
+
 -- booked workflows are below m
 pub booked-below : (pack : Pack) (room : ℕ) (calls : History) (id : ℕ) (q : Request) → stateAfter pack room calls .store .book id ≡ some q → q .workflow < length pack
 booked-below pack room calls id q e = invariant pack room calls .core .valid id q e
@@ -155,7 +165,7 @@ pub sound-agents : (pack : Pack) → CheckedPack pack → (room : ℕ) (calls : 
 sound-agents pack checked room calls slot a e =
     let inv = invariant pack room calls in
     let live = inv .slots slot a e in
-    let book = sym (inv .core .book (a .id)) ∙ ap requestOf (live .run-is) in
+    let book = live .book-is in
     let p = follow-position (codeOf pack (live .run .request)) (checked (live .run .request .workflow) (inv .core .valid (a .id) (live .run .request) book))
-    (stateAfter pack room calls .store .log) (a .id) (live .run .request) (live .turns) (a .place) (a .step) (live .there) in
+    (stateAfter pack room calls .store .log) (a .id) (live .run .request) (live .turns) (a .course) (a .step) (live .there) in
     record { request = live .run .request; booked = book; below = p .1; side = p .2; steps = p .3 }

@@ -6,18 +6,21 @@ use mathlib.Core.List.{List, [], _∷_, _++_, List·Memᴰ, List·Memᴰ·cases-
 use mathlib.Core.Option.{Option, none, some, Option·some-injective}
 use Prim.Native.Nat.{ℕ, suc, _≤_, _<_}
 use native.Mathlib.Omega.{arith}
-use lib.Dec.{ltb, lt→ltb, ltb→lt}
+use lib.Dec.{eqb, ltb, lt→ltb, ltb→lt}
 use Rattle.rules.specs.Basics.{if_then_else_, update, isSome}
-use Rattle.rules.specs.Instructions.{Code, Pack, Place, next, Act, moves, opens, closes, reads, puts, returns, actAt}
-use Rattle.rules.specs.Blocks.{Table, Block, runBlock, afterBlock}
+use Rattle.rules.specs.Instructions.{Code, Pack, Place}
+use Rattle.rules.specs.Blocks.{Table, Result, Block, runBlock}
+use Rattle.rules.specs.Courses.{Course, Next, goes, does, says, nextOf}
 use Rattle.rules.specs.Questions.{No}
-use Rattle.rules.specs.Store.{Request, Store, logged, written}
-use Rattle.rules.specs.Calls.{codeOf, codeBy, Agent, State, Outcome, unless, withSlot, throughBlock, turnOn, turnIn, turn}
-use Rattle.rules.specs.Plain.{Reply, Run, Machine, Tally, Tallies, answered, firstReplies, accepted, withAnswer, ahead, movesOn, moveOn, move, fed, fedTurn, fedRun, tallied, oneMore}
-use Rattle.rules.proofs.Updates.{none-some, false-true, le-cases, T-true, update-same, logged-here, logged-grows, logged-elsewhere, logged-later}
-use Rattle.rules.proofs.Follow.{Log, Stage, at, finished, behind, Grows, follow-stays, follow-below, follow-next}
-use Rattle.rules.proofs.Invariant.{followed, Progress, underway, over, Live, Settled, requestOf, Inv, slots-stay, slots-set, answered-more, answered-new, answered-by}
-use Rattle.rules.proofs.Core.{progress-stays, underway-open, run-ahead, core-moved}
+use Rattle.rules.specs.Store.{Request, Log, Store, found, withRow, written}
+use Rattle.rules.specs.Logged.{codeOf, Stage, at, finished, behind}
+use Rattle.rules.specs.Calls.{codeBy, Agent, State, Outcome, unless, withSlot, throughBlock, turnOn, turnIn, turn}
+use Rattle.rules.specs.Plain.{Reply, Run, Machine, Tally, Tallies, answered, firstReplies, accepted, withAnswer, ahead, moveOn, move, fed, fedTurn, fedRun, tallied, oneMore}
+use Rattle.rules.proofs.Updates.{none-some, false-true, le-cases, T-true, eqb-cases, update-same}
+use Rattle.rules.proofs.Follow.{Free, Same, same-here, Grows, same-grows, free-none, row-grows, row-elsewhere, row-later, row-here, follow-stays, follow-below, follow-next}
+use Rattle.rules.proofs.Replies.{replyTo, reply-more, reply-other, reply-new, answered-by, answered-first}
+use Rattle.rules.proofs.Invariant.{followed, Progress, underway, over, Live, Inv, Remains, slots-stay, slots-set}
+use Rattle.rules.proofs.Core.{come, come-to, run-ahead, core-moved}
 
 -- the invariant after a call with this outcome, which fed the machine to become m′ and the tallies t′ if it was accepted
 pub record Keeps (pack : Pack) (m m′ : Machine) (t t′ : Tallies) (rs : List Reply) (o : Outcome) : Type 0 where
@@ -46,36 +49,41 @@ module _
     (r : Run)
     (step : ℕ)
     (run-is : m .runs id ≡ some r)
-    (open-at : followed pack (s .store .log) id (r .request) (r .moveCount) ≡ some (at (r .place) step))
-    (none-from : (p u : ℕ) → step ≤ u → s .store .log p id u ≡ none)
+    (open-at : followed pack (s .store .log) id (r .request) (r .moveCount) ≡ some (at (r .course) step))
+    (none-from : (p u : ℕ) → step ≤ u → Free (s .store .log) p id u)
+    (no-reply : replyTo id (m .replies) ≡ none)
+    (book-is : s .store .book id ≡ some (r .request))
   where
+    abbrev code : Code
+    code = codeOf pack (r .request)
+
     -- the agent's slot and the machine's run change together
     front : (s′ : Store) (rs′ : List Reply) (r₁ : Run) (o : Option Agent) (tables : ℕ → Table) (replies : List Reply) →
         r₁ .request ≡ r .request →
         r₁ .moveCount ≡ suc (r .moveCount) →
-        Grows (s .store .log) (s′ .log) →
-        ((p j u : ℕ) → (j ≡ id → ⊥) → s′ .log p j u ≡ s .store .log p j u) →
-        ((j : ℕ) → answered j rs ≡ true → answered j rs′ ≡ true) →
+        Grows (s .store .log) (s′ .log) id →
+        ((p j u : ℕ) → (j ≡ id → ⊥) → Same (s .store .log) (s′ .log) p j u) →
         s′ .rows ≡ tables →
         s′ .book ≡ s .store .book →
-        Progress pack (s′ .log) rs′ id r₁ →
-        ((w : Reply) → List·Memᴰ w rs′ → List·Memᴰ w rs ⊎ Settled pack (s′ .log) (update (m .runs) id (some r₁)) (w .id) (w .value)) →
+        Progress pack (s′ .log) replies id r₁ →
+        ((j : ℕ) → (j ≡ id → ⊥) → replyTo j replies ≡ replyTo j (m .replies)) →
+        ((w : Reply) → List·Memᴰ w rs′ → replyTo (w .id) replies ≡ some (w .value)) →
         firstReplies rs′ ≡ replies →
         ((a : Agent) → o ≡ some a →
-        (a .id ≡ id) × (followed pack (s′ .log) id (r .request) (suc (r .moveCount)) ≡ some (at (a .place) (a .step)))) →
+        (a .id ≡ id) × (followed pack (s′ .log) id (r .request) (suc (r .moveCount)) ≡ some (at (a .course) (a .step)))) →
         Inv pack (record { store = s′; slots = update (s .slots) slot o })
         (record { tables = tables; runs = update (m .runs) id (some r₁); replies = replies })
         (update t slot (tallyOf id (suc (r .moveCount)))) rs′
-    front s′ rs′ r₁ o tables replies request-is moved-is grows elsewhere more same-rows same-book progress settled-new firsts agent =
+    front s′ rs′ r₁ o tables replies request-is moved-is grows elsewhere same-rows same-book progress others settled firsts agent =
         record {
           core =
-              core-moved pack (s .store) s′ m rs rs′ (inv .core) id r r₁ step run-is open-at request-is further grows elsewhere more
-              tables replies same-rows same-book progress settled-new firsts;
+              core-moved pack (s .store) s′ m rs rs′ (inv .core) id r r₁ run-is request-is further elsewhere
+              tables replies same-rows same-book progress others settled firsts;
           slots =
-              slots-set pack (s′ .log) runs′ t (s .slots)
-              (slots-stay pack (s .store .log) (s′ .log) (m .runs) runs′ grows
-              (run-ahead pack (s .store) s′ m rs rs′ (inv .core) id r r₁ step run-is open-at request-is further grows elsewhere more)
-              t (s .slots) (inv .slots))
+              slots-set pack (s′ .log) (s′ .book) runs′ t (s .slots)
+              (slots-stay pack (s .store .log) (s′ .log) (s .store .book) (s′ .book) (m .runs) runs′
+              (run-ahead pack (s .store) s′ m rs rs′ (inv .core) id r r₁ run-is request-is further elsewhere)
+              t (s .slots) (λ j a e. remains (a .id)) (inv .slots))
               slot (tallyOf id (suc (r .moveCount))) o
               (λ a e.
               let h = agent a e in
@@ -84,10 +92,11 @@ module _
                 turns = suc (r .moveCount);
                 tally-is = ap (λ j. tallyOf j (suc (r .moveCount))) (sym (h .0));
                 run-is = ap runs′ (h .0) ∙ update-same (m .runs) id (some r₁);
+                book-is = ap (λ f. f (a .id)) same-book ∙ ap (s .store .book) (h .0) ∙ book-is ∙ ap some (sym request-is);
                 behind = omega (arith, moved-is);
                 there =
-                    subst (λ j. followed pack (s′ .log) j (r₁ .request) (suc (r .moveCount)) ≡ some (at (a .place) (a .step))) (sym (h .0))
-                    (subst (λ q. followed pack (s′ .log) id q (suc (r .moveCount)) ≡ some (at (a .place) (a .step))) (sym request-is) (h .1));
+                    subst (λ j. followed pack (s′ .log) j (r₁ .request) (suc (r .moveCount)) ≡ some (at (a .course) (a .step))) (sym (h .0))
+                    (subst (λ q. followed pack (s′ .log) id q (suc (r .moveCount)) ≡ some (at (a .course) (a .step))) (sym request-is) (h .1));
               });
         }
       where
@@ -97,17 +106,25 @@ module _
         further : r .moveCount ≤ r₁ .moveCount
         further = omega (arith, moved-is)
 
+        remains : (j : ℕ) → Remains (s .store .log) (s′ .log) (s .store .book) (s′ .book) j
+        remains j q e = (ap (λ f. f j) same-book ∙ e, go (eqb-cases j id))
+          where
+            go : ((j ≡ id) × (eqb j id ≡ true)) ⊎ ((j ≡ id → ⊥) × (eqb j id ≡ false)) → Grows (s .store .log) (s′ .log) j
+            go (inl h) = subst (λ i. Grows (s .store .log) (s′ .log) i) (sym (h .0)) grows
+            go (inr h) = same-grows (s .store .log) (s′ .log) j (λ p u. elsewhere p j u (h .0))
+
     -- one instruction outside a block
-    front-moves : (to : Place) → followed pack (s .store .log) id (r .request) (suc (r .moveCount)) ≡ some (at to step) →
-        Inv pack (withSlot s slot (some (record { id = id; place = to; step = step })))
-        (movesOn m id r to) (update t slot (tallyOf id (suc (r .moveCount)))) rs
-    front-moves to f =
-        front (s .store) rs (record { request = r .request; place = to; moveCount = suc (r .moveCount) })
-        (some (record { id = id; place = to; step = step })) (m .tables) (m .replies) refl refl
-        (λ p j u v e. e) (λ p j u n. refl) (λ j e. e) (inv .core .tables) refl
-        (underway step f none-from) (λ w h. inl h) (inv .core .firsts)
-        (λ a e. subst (λ (x : Agent). (x .id ≡ id) × (followed pack (s .store .log) id (r .request) (suc (r .moveCount)) ≡ some (at (x .place) (x .step))))
-        (Option·some-injective (record { id = id; place = to; step = step }) a e) (refl, f))
+    front-moves : (to : Course) → nextOf code (r .course) ≡ goes to → followed pack (s .store .log) id (r .request) (suc (r .moveCount)) ≡ some (at to step) →
+        Inv pack (withSlot s slot (some (record { id = id; course = to; step = step })))
+        (record { tables = m .tables; runs = ahead m id r to; replies = m .replies })
+        (update t slot (tallyOf id (suc (r .moveCount)))) rs
+    front-moves to e f =
+        front (s .store) rs (record { request = r .request; course = to; moveCount = suc (r .moveCount) })
+        (some (record { id = id; course = to; step = step })) (m .tables) (m .replies) refl refl
+        (λ p u v e. e) (λ p j u n. same-here (s .store .log) p j u) (inv .core .tables) refl
+        (underway step f none-from no-reply) (λ j n. refl) (inv .core .settled) (inv .core .firsts)
+        (λ a e. subst (λ (x : Agent). (x .id ≡ id) × (followed pack (s .store .log) id (r .request) (suc (r .moveCount)) ≡ some (at (x .course) (x .step))))
+        (Option·some-injective (record { id = id; course = to; step = step }) a e) (refl, f))
 
     not-yet : answered id rs ≡ false
     not-yet = go (answered id rs) refl
@@ -115,113 +132,107 @@ module _
         go : (b : Bool) → answered id rs ≡ b → answered id rs ≡ false
         go true e =
             let x = answered-by id rs e in
-            absurd
-            (underway-open pack (s .store .log) (m .runs) id (x .0 .value) r step run-is open-at
-            (subst (λ j. Settled pack (s .store .log) (m .runs) j (x .0 .value)) (x .2) (inv .core .settled (x .0) (x .1))))
+            none-some (x .0 .value) no-reply (ap (λ j. replyTo j (m .replies)) (sym (x .2)) ∙ inv .core .settled (x .0) (x .1))
         go false e = e
 
     -- a first reply
-    front-returns : (v : ℕ) → followed pack (s .store .log) id (r .request) (suc (r .moveCount)) ≡ some (finished v) →
+    front-returns : (v : Result) → followed pack (s .store .log) id (r .request) (suc (r .moveCount)) ≡ some (finished v) →
         Inv pack (withSlot s slot none)
         (record {
           tables = m .tables;
-          runs = ahead m id r (r .place);
+          runs = ahead m id r (r .course);
           replies = m .replies ++ record { id = id; value = v } ∷ [];
         })
         (update t slot (tallyOf id (suc (r .moveCount)))) (record { id = id; value = v } ∷ rs)
     unfolding firstReplies
     front-returns v f =
         front (s .store) (record { id = id; value = v } ∷ rs) r₁ none (m .tables) (m .replies ++ record { id = id; value = v } ∷ []) refl refl
-        (λ p j u v e. e) (λ p j u n. refl) (λ j e. answered-more j (record { id = id; value = v }) rs e) (inv .core .tables) refl
-        (over v f (answered-new id v rs)) (λ w h. go w (List·Memᴰ·cases-cons h))
+        (λ p u v e. e) (λ p j u n. same-here (s .store .log) p j u) (inv .core .tables) refl
+        (over v f new) (λ j n. reply-other j (m .replies) (record { id = id; value = v }) n) (λ w h. go w (List·Memᴰ·cases-cons h))
         (rw not-yet (ap (λ l. l ++ record { id = id; value = v } ∷ []) (inv .core .firsts)))
         (λ a e. none-some a refl e)
       where
         r₁ : Run
-        r₁ = record { request = r .request; place = r .place; moveCount = suc (r .moveCount) }
+        r₁ = record { request = r .request; course = r .course; moveCount = suc (r .moveCount) }
+
+        new : replyTo id (m .replies ++ record { id = id; value = v } ∷ []) ≡ some v
+        new = reply-new id v (m .replies) no-reply
 
         go : (w : Reply) → (w ≡ record { id = id; value = v }) ⊎ List·Memᴰ w rs →
-            List·Memᴰ w rs ⊎ Settled pack (s .store .log) (update (m .runs) id (some r₁)) (w .id) (w .value)
+            replyTo (w .id) (m .replies ++ record { id = id; value = v } ∷ []) ≡ some (w .value)
         go w (inl e) =
-            inr
-            (subst (λ (x : Reply). Settled pack (s .store .log) (update (m .runs) id (some r₁)) (x .id) (x .value)) (sym e)
-            (record { run = r₁; run-is = update-same (m .runs) id (some r₁); ended = f }))
-        go w (inr h) = inl h
+            subst (λ (x : Reply). replyTo (x .id) (m .replies ++ record { id = id; value = v } ∷ []) ≡ some (x .value)) (sym e) new
+        go w (inr h) = reply-more (w .id) (w .value) (m .replies) (record { id = id; value = v }) (inv .core .settled w h)
 
     -- a block that has no log row
-    front-opens : (p : ℕ) (b : Block) → actAt (codeOf pack (r .request)) (r .place) ≡ opens p →
+    front-block : (from : Place) (p : ℕ) (onto : Result → Course) (b : Block) → nextOf code (r .course) ≡ does from p onto →
         Inv pack
         (withSlot (record { store = written (s .store) p id step b; slots = s .slots }) slot
-        (some (record { id = id; place = afterBlock (codeOf pack (r .request)) (r .place) (b .result); step = suc step })))
-        (record {
-          tables = update (s .store .rows) p (b .table);
-          runs = ahead m id r (afterBlock (codeOf pack (r .request)) (r .place) (b .result));
-          replies = m .replies;
-        })
+        (some (record { id = id; course = onto (b .result); step = suc step })))
+        (record { tables = update (s .store .rows) p (b .table); runs = ahead m id r (onto (b .result)); replies = m .replies })
         (update t slot (tallyOf id (suc (r .moveCount)))) rs
-    front-opens p b e =
-        front (written (s .store) p id step b) rs (record { request = r .request; place = to; moveCount = suc (r .moveCount) })
-        (some (record { id = id; place = to; step = suc step })) (update (s .store .rows) p (b .table)) (m .replies) refl refl
-        grows (logged-elsewhere (s .store .log) p id step (b .result)) (λ j e. e) refl refl
-        (underway (suc step) f (λ p′ u l. logged-later (s .store .log) p id step (b .result) p′ u l (none-from p′ u (omega arith))))
-        (λ w h. inl h) (inv .core .firsts)
-        (λ a e. subst (λ (x : Agent). (x .id ≡ id) × (followed pack log′ id (r .request) (suc (r .moveCount)) ≡ some (at (x .place) (x .step))))
-        (Option·some-injective (record { id = id; place = to; step = suc step }) a e) (refl, f))
+    unfolding behind
+    front-block from p onto b e =
+        front (written (s .store) p id step b) rs (record { request = r .request; course = to; moveCount = suc (r .moveCount) })
+        (some (record { id = id; course = to; step = suc step })) (update (s .store .rows) p (b .table)) (m .replies) refl refl
+        grows (row-elsewhere (s .store .log) p id step (b .result)) refl refl
+        (underway (suc step) f (λ p′ u l. row-later (s .store .log) p id step (b .result) p′ u l (none-from p′ u (omega arith))) no-reply)
+        (λ j n. refl) (inv .core .settled) (inv .core .firsts)
+        (λ a e. subst (λ (x : Agent). (x .id ≡ id) × (followed pack log′ id (r .request) (suc (r .moveCount)) ≡ some (at (x .course) (x .step))))
+        (Option·some-injective (record { id = id; course = to; step = suc step }) a e) (refl, f))
       where
-        code : Code
-        code = codeOf pack (r .request)
-
-        to : Place
-        to = afterBlock code (r .place) (b .result)
+        to : Course
+        to = onto (b .result)
 
         log′ : Log
-        log′ = logged (s .store .log) p id step (b .result)
+        log′ = withRow (s .store .log) p id step (b .result)
 
-        grows : Grows (s .store .log) log′
-        grows = logged-grows (s .store .log) p id step (b .result) (none-from p step (omega arith))
+        free : Free (s .store .log) p id step
+        free = none-from p step (omega arith)
+
+        grows : Grows (s .store .log) log′ id
+        grows = row-grows (s .store .log) p id step (b .result) free id
 
         f : followed pack log′ id (r .request) (suc (r .moveCount)) ≡ some (at to (suc step))
         f =
-            follow-next log′ id code (r .request) (r .moveCount) (r .place) step (opens p) (some (at to (suc step)))
-            (follow-stays (s .store .log) log′ id code (r .request) (r .moveCount) (at (r .place) step) grows open-at) e
-            (ap (behind code (r .place) step) (logged-here (s .store .log) p id step (b .result)))
+            follow-next log′ id code (r .request) (r .moveCount) (r .course) step (does from p onto) (some (at to (suc step)))
+            (follow-stays (s .store .log) log′ id code (r .request) (r .moveCount) (at (r .course) step) grows open-at) e
+            (ap (behind onto step) (row-here (s .store .log) p id step (b .result)))
 
     -- the agent that stands where its request stands
     abbrev agent : Agent
-    agent = record { id = id; place = r .place; step = step }
-
-    abbrev code : Code
-    code = codeOf pack (r .request)
+    agent = record { id = id; course = r .course; step = step }
 
     -- the machine after the block, over the tables T
-    abbrev blockDone : (p : ℕ) → (ℕ → Table) → Machine
-    blockDone p T =
+    abbrev blockDone : (from : Place) (p : ℕ) (onto : Result → Course) → (ℕ → Table) → Machine
+    blockDone from p onto T =
         record {
-          tables = update T p (runBlock code (r .place) (T p) .table);
-          runs = ahead m id r (afterBlock code (r .place) (runBlock code (r .place) (T p) .result));
+          tables = update T p (runBlock code from (T p) .table);
+          runs = ahead m id r (onto (runBlock code from (T p) .result));
           replies = m .replies;
         }
 
-    front-block : (p : ℕ) → actAt code (r .place) ≡ opens p →
-        Keeps pack m (blockDone p (s .store .rows)) t (update t slot (tallyOf id (suc (r .moveCount)))) rs (throughBlock s slot agent code p none)
+    -- by what its log row says: there is none
+    front-does : (from : Place) (p : ℕ) (onto : Result → Course) → nextOf code (r .course) ≡ does from p onto → (o : Option Result) → o ≡ none →
+        (T : ℕ → Table) → s .store .rows ≡ T →
+        Keeps pack m (blockDone from p onto T) t (update t slot (tallyOf id (suc (r .moveCount)))) rs (throughBlock s slot agent code from p onto o)
     unfolding throughBlock
-    front-block p e = record { kept = front-opens p (runBlock code (r .place) (s .store .rows p)) e }
+    front-does from p onto e o no-row T same =
+        subst (λ (x : Option Result). Keeps pack m (blockDone from p onto T) t counted rs (throughBlock s slot agent code from p onto x)) (sym no-row)
+        (subst (λ (x : ℕ → Table). Keeps pack m (blockDone from p onto x) t counted rs (throughBlock s slot agent code from p onto none)) same
+        (record { kept = front-block from p onto (runBlock code from (s .store .rows p)) e }))
+      where
+        counted : Tallies
+        counted = update t slot (tallyOf id (suc (r .moveCount)))
 
-    -- whatever the instruction asks for
-    pub front-keeps : (x : Act) → actAt code (r .place) ≡ x →
+    -- whatever the agent does next
+    pub front-keeps : (x : Next) → nextOf code (r .course) ≡ x →
         Keeps pack m (moveOn m id r code x) t (update t slot (tallyOf id (suc (r .moveCount)))) rs (turnOn s slot agent code x)
     unfolding moveOn turnOn
-    front-keeps (moves to) e = record { kept = front-moves to (follow-next _ _ _ _ _ _ _ _ _ open-at e refl) }
-    front-keeps (returns v) e = record { kept = front-returns v (follow-next _ _ _ _ _ _ _ _ _ open-at e refl) }
-    front-keeps (opens p) e =
-        subst
-        (λ (T : ℕ → Table). Keeps pack m (blockDone p T) t (update t slot (tallyOf id (suc (r .moveCount)))) rs
-        (throughBlock s slot agent code p (s .store .log p id step)))
-        (inv .core .tables)
-        (rw (none-from p step (omega arith)) (front-block p e))
-    front-keeps (closes v) e = record { kept = front-moves (next (r .place)) (follow-next _ _ _ _ _ _ _ _ _ open-at e refl) }
-    front-keeps (reads k to) e = record { kept = front-moves (next (r .place)) (follow-next _ _ _ _ _ _ _ _ _ open-at e refl) }
-    front-keeps (puts k v) e = record { kept = front-moves (next (r .place)) (follow-next _ _ _ _ _ _ _ _ _ open-at e refl) }
+    front-keeps (goes to) e = record { kept = front-moves to e (follow-next _ _ _ _ _ _ _ _ _ open-at e refl) }
+    front-keeps (says v) e = record { kept = front-returns v (follow-next _ _ _ _ _ _ _ _ _ open-at e refl) }
+    front-keeps (does from p onto) e =
+        front-does from p onto e _ (free-none (s .store .log) p id step (none-from p step (omega arith))) (m .tables) (inv .core .tables)
 
 -- ── The agent is behind: its request has come further ──
 
@@ -237,59 +248,53 @@ module _
     (r : Run)
     (k : ℕ)
     (run-is : m .runs (a .id) ≡ some r)
+    (book-is : s .store .book (a .id) ≡ some (r .request))
+    (progress : Progress pack (s .store .log) (m .replies) (a .id) r)
     (less : k < r .moveCount)
-    (there : followed pack (s .store .log) (a .id) (r .request) k ≡ some (at (a .place) (a .step)))
+    (there : followed pack (s .store .log) (a .id) (r .request) k ≡ some (at (a .course) (a .step)))
   where
-    -- where the request stands in all
-    come : (st : Stage) × (followed pack (s .store .log) (a .id) (r .request) (r .moveCount) ≡ some st)
-    come = go (inv .core .progress (a .id) r run-is)
-      where
-        go : Progress pack (s .store .log) rs (a .id) r → (st : Stage) × (followed pack (s .store .log) (a .id) (r .request) (r .moveCount) ≡ some st)
-        go (underway u f n) = (at (r .place) u, f)
-        go (over v f e) = (finished v, f)
-
     -- so its next move is in the log
     further : (st : Stage) × (followed pack (s .store .log) (a .id) (r .request) (suc k) ≡ some st)
-    further = go (le-cases (suc k) (r .moveCount) less)
-      where
-        go : (suc k ≡ r .moveCount) ⊎ (suc k < r .moveCount) → (st : Stage) × (followed pack (s .store .log) (a .id) (r .request) (suc k) ≡ some st)
-        go (inl e) = (come .0, ap (followed pack (s .store .log) (a .id) (r .request)) e ∙ come .1)
-        go (inr l) =
-            let b = follow-below (s .store .log) (a .id) (codeOf pack (r .request)) (r .request) (r .moveCount) (come .0) (suc k) l (come .1) in
-            (at (b .0) (b .1), b .2)
+    further = come-to pack (s .store .log) (m .replies) (a .id) r progress (suc k) less
 
-    back-moves : (to : Place) (step : ℕ) → followed pack (s .store .log) (a .id) (r .request) (suc k) ≡ some (at to step) →
-        Inv pack (withSlot s slot (some (record { id = a .id; place = to; step = step }))) m (update t slot (tallyOf (a .id) (suc k))) rs
+    in-all : (st : Stage) × (followed pack (s .store .log) (a .id) (r .request) (r .moveCount) ≡ some st)
+    in-all = come pack (s .store .log) (m .replies) (a .id) r progress
+
+    back-moves : (to : Course) (step : ℕ) → followed pack (s .store .log) (a .id) (r .request) (suc k) ≡ some (at to step) →
+        Inv pack (withSlot s slot (some (record { id = a .id; course = to; step = step }))) m (update t slot (tallyOf (a .id) (suc k))) rs
     back-moves to step f =
         record {
           core = inv .core;
           slots =
-              slots-set pack (s .store .log) (m .runs) t (s .slots) (inv .slots) slot (tallyOf (a .id) (suc k))
-              (some (record { id = a .id; place = to; step = step }))
-              (λ b e. subst (λ (x : Agent). Live pack (s .store .log) (m .runs) (tallyOf (a .id) (suc k)) x)
-              (Option·some-injective (record { id = a .id; place = to; step = step }) b e)
-              (record { run = r; turns = suc k; tally-is = refl; run-is = run-is; behind = less; there = f }));
+              slots-set pack (s .store .log) (s .store .book) (m .runs) t (s .slots) (inv .slots) slot (tallyOf (a .id) (suc k))
+              (some (record { id = a .id; course = to; step = step }))
+              (λ b e. subst (λ (x : Agent). Live pack (s .store .log) (s .store .book) (m .runs) (tallyOf (a .id) (suc k)) x)
+              (Option·some-injective (record { id = a .id; course = to; step = step }) b e)
+              (record { run = r; turns = suc k; tally-is = refl; run-is = run-is; book-is = book-is; behind = less; there = f }));
         }
 
-    -- a reply is the end of the request, so that it was given before
-    ended : (v : ℕ) → followed pack (s .store .log) (a .id) (r .request) (suc k) ≡ some (finished v) →
-        (followed pack (s .store .log) (a .id) (r .request) (r .moveCount) ≡ some (finished v)) × (answered (a .id) rs ≡ true)
-    ended v f = go (le-cases (suc k) (r .moveCount) less) (inv .core .progress (a .id) r run-is)
+    -- a reply is the end of the request, so that the machine has given it
+    ended : (v : Result) → followed pack (s .store .log) (a .id) (r .request) (suc k) ≡ some (finished v) → replyTo (a .id) (m .replies) ≡ some v
+    ended v f = go (le-cases (suc k) (r .moveCount) less) progress
       where
-        go : (suc k ≡ r .moveCount) ⊎ (suc k < r .moveCount) → Progress pack (s .store .log) rs (a .id) r →
-            (followed pack (s .store .log) (a .id) (r .request) (r .moveCount) ≡ some (finished v)) × (answered (a .id) rs ≡ true)
-        go (inl e) (over w g h) = (ap (followed pack (s .store .log) (a .id) (r .request)) (sym e) ∙ f, h)
-        go (inl e) (underway u g h) =
+        go : (suc k ≡ r .moveCount) ⊎ (suc k < r .moveCount) → Progress pack (s .store .log) (m .replies) (a .id) r →
+            replyTo (a .id) (m .replies) ≡ some v
+        go (inl e) (over w g h) =
+            let f′ : followed pack (s .store .log) (a .id) (r .request) (r .moveCount) ≡ some (finished v) =
+            ap (followed pack (s .store .log) (a .id) (r .request)) (sym e) ∙ f in
+            let same : w ≡ v = cc in
+            h ∙ ap some same
+        go (inl e) (underway u g h n) =
             let f′ : followed pack (s .store .log) (a .id) (r .request) (r .moveCount) ≡ some (finished v) =
             ap (followed pack (s .store .log) (a .id) (r .request)) (sym e) ∙ f in
             absurd (let z : _≡_ {A = ℕ} 0 1 = cc in omega arith)
         go (inr l) _ =
-            let b = follow-below (s .store .log) (a .id) (codeOf pack (r .request)) (r .request) (r .moveCount) (come .0) (suc k) l (come .1) in
+            let b = follow-below (s .store .log) (a .id) (codeOf pack (r .request)) (r .request) (r .moveCount) (in-all .0) (suc k) l (in-all .1) in
             let b₂ = b .2 in
             absurd (let z : _≡_ {A = ℕ} 0 1 = cc in omega arith)
 
     -- a later reply
-    back-returns : (v : ℕ) → followed pack (s .store .log) (a .id) (r .request) (suc k) ≡ some (finished v) →
+    back-returns : (v : Result) → followed pack (s .store .log) (a .id) (r .request) (suc k) ≡ some (finished v) →
         Inv pack (withSlot s slot none) m (update t slot (tallyOf (a .id) (suc k))) (record { id = a .id; value = v } ∷ rs)
     unfolding firstReplies
     back-returns v f =
@@ -297,45 +302,43 @@ module _
           core =
               record {
                 tables = inv .core .tables;
-                book = inv .core .book;
+                counterpart = inv .core .counterpart;
                 valid = inv .core .valid;
-                progress = λ j w e. progress-stays pack (s .store .log) (s .store .log) rs (record { id = a .id; value = v } ∷ rs) j w
-                    (λ p j u v e. e) (λ p u. refl) (answered-more j (record { id = a .id; value = v }) rs) (inv .core .progress j w e);
+                unbooked = inv .core .unbooked;
                 unlogged = inv .core .unlogged;
+                unreplied = inv .core .unreplied;
                 settled = λ w h. go w (List·Memᴰ·cases-cons h);
-                firsts = rw (ended v f .1) (inv .core .firsts);
+                firsts = rw given (inv .core .firsts);
               };
           slots =
-              slots-set pack (s .store .log) (m .runs) t (s .slots) (inv .slots) slot (tallyOf (a .id) (suc k)) none (λ b e. none-some b refl e);
+              slots-set pack (s .store .log) (s .store .book) (m .runs) t (s .slots) (inv .slots) slot (tallyOf (a .id) (suc k)) none
+              (λ b e. none-some b refl e);
         }
       where
-        go : (w : Reply) → (w ≡ record { id = a .id; value = v }) ⊎ List·Memᴰ w rs → Settled pack (s .store .log) (m .runs) (w .id) (w .value)
-        go w (inl e) =
-            subst (λ (x : Reply). Settled pack (s .store .log) (m .runs) (x .id) (x .value)) (sym e)
-            (record { run = r; run-is = run-is; ended = ended v f .0 })
+        given : answered (a .id) rs ≡ true
+        given = answered-first (a .id) v rs (ap (replyTo (a .id)) (inv .core .firsts) ∙ ended v f)
+
+        go : (w : Reply) → (w ≡ record { id = a .id; value = v }) ⊎ List·Memᴰ w rs → replyTo (w .id) (m .replies) ≡ some (w .value)
+        go w (inl e) = subst (λ (x : Reply). replyTo (x .id) (m .replies) ≡ some (x .value)) (sym e) (ended v f)
         go w (inr h) = inv .core .settled w h
 
-    back-opens : (p : ℕ) → actAt (codeOf pack (r .request)) (a .place) ≡ opens p → (o : Option ℕ) → s .store .log p (a .id) (a .step) ≡ o →
-        Keeps pack m m t (update t slot (tallyOf (a .id) (suc k))) rs (throughBlock s slot a (codeOf pack (r .request)) p o)
-    unfolding throughBlock
-    back-opens p e none h =
-        let n : followed pack (s .store .log) (a .id) (r .request) (suc k) ≡ none = follow-next _ _ _ _ _ _ _ _ _ there e (rw h) in
+    back-does : (from : Place) (p : ℕ) (onto : Result → Course) → nextOf (codeOf pack (r .request)) (a .course) ≡ does from p onto →
+        (o : Option Result) → found (s .store .log) p (a .id) (a .step) ≡ o →
+        Keeps pack m m t (update t slot (tallyOf (a .id) (suc k))) rs (throughBlock s slot a (codeOf pack (r .request)) from p onto o)
+    unfolding throughBlock behind
+    back-does from p onto e none h =
+        let n : followed pack (s .store .log) (a .id) (r .request) (suc k) ≡ none =
+        follow-next _ _ _ _ _ _ _ _ _ there e (ap (behind onto (a .step)) h) in
         none-some (further .0) n (further .1)
-    back-opens p e (some v) h =
-        record {
-          kept =
-              back-moves (afterBlock (codeOf pack (r .request)) (a .place) v) (suc (a .step)) (follow-next _ _ _ _ _ _ _ _ _ there e (rw h));
-        }
+    back-does from p onto e (some v) h =
+        record { kept = back-moves (onto v) (suc (a .step)) (follow-next _ _ _ _ _ _ _ _ _ there e (ap (behind onto (a .step)) h)) }
 
-    pub back-keeps : (x : Act) → actAt (codeOf pack (r .request)) (a .place) ≡ x →
+    pub back-keeps : (x : Next) → nextOf (codeOf pack (r .request)) (a .course) ≡ x →
         Keeps pack m m t (update t slot (tallyOf (a .id) (suc k))) rs (turnOn s slot a (codeOf pack (r .request)) x)
     unfolding turnOn
-    back-keeps (moves to) e = record { kept = back-moves to (a .step) (follow-next _ _ _ _ _ _ _ _ _ there e refl) }
-    back-keeps (returns v) e = record { kept = back-returns v (follow-next _ _ _ _ _ _ _ _ _ there e refl) }
-    back-keeps (opens p) e = back-opens p e (s .store .log p (a .id) (a .step)) refl
-    back-keeps (closes v) e = record { kept = back-moves (next (a .place)) (a .step) (follow-next _ _ _ _ _ _ _ _ _ there e refl) }
-    back-keeps (reads k to) e = record { kept = back-moves (next (a .place)) (a .step) (follow-next _ _ _ _ _ _ _ _ _ there e refl) }
-    back-keeps (puts k v) e = record { kept = back-moves (next (a .place)) (a .step) (follow-next _ _ _ _ _ _ _ _ _ there e refl) }
+    back-keeps (goes to) e = record { kept = back-moves to (a .step) (follow-next _ _ _ _ _ _ _ _ _ there e refl) }
+    back-keeps (says v) e = record { kept = back-returns v (follow-next _ _ _ _ _ _ _ _ _ there e refl) }
+    back-keeps (does from p onto) e = back-does from p onto e (found (s .store .log) p (a .id) (a .step)) refl
 
 -- ── A turn ──
 
@@ -364,7 +367,7 @@ module _
     (inv : Inv pack s m t rs)
     (slot : ℕ)
     (a : Agent)
-    (live : Live pack (s .store .log) (m .runs) (t slot) a)
+    (live : Live pack (s .store .log) (s .store .book) (m .runs) (t slot) a)
   where
     abbrev pub r : Run
     r = live .run
@@ -372,12 +375,15 @@ module _
     abbrev pub k : ℕ
     k = live .turns
 
-    pub book-is : s .store .book (a .id) ≡ some (r .request)
-    book-is = sym (inv .core .book (a .id)) ∙ ap requestOf (live .run-is)
+    -- how far its request has come
+    progress : Progress pack (s .store .log) (m .replies) (a .id) r
+    progress =
+        let g = inv .core .counterpart (a .id) (r .request) (live .book-is) in
+        subst (λ (x : Run). Progress pack (s .store .log) (m .replies) (a .id) x) (Option·some-injective (g .run) r (sym (g .run-is) ∙ live .run-is)) (g .progress)
 
-    pub outcome-is : turnIn pack s slot (some a) ≡ turnOn s slot a (codeOf pack (r .request)) (actAt (codeOf pack (r .request)) (a .place))
+    pub outcome-is : turnIn pack s slot (some a) ≡ turnOn s slot a (codeOf pack (r .request)) (nextOf (codeOf pack (r .request)) (a .course))
     unfolding turnIn
-    outcome-is = ap (λ (q : Option Request). turnOn s slot a (codeBy pack q) (actAt (codeBy pack q) (a .place))) book-is
+    outcome-is = ap (λ (q : Option Request). turnOn s slot a (codeBy pack q) (nextOf (codeBy pack q) (a .course))) (live .book-is)
 
     fed-is : fed pack m t (turn slot) ≡ if_then_else_ (ltb (r .moveCount) (suc k)) (move pack m (a .id) r) m
     unfolding fed fedTurn fedRun
@@ -388,50 +394,50 @@ module _
     tallied-is = ap (λ o. update t slot (oneMore o)) (live .tally-is)
 
     -- at the front
-    front-turn : k ≡ r .moveCount → Progress pack (s .store .log) rs (a .id) r →
+    front-turn : k ≡ r .moveCount → Progress pack (s .store .log) (m .replies) (a .id) r →
         Keeps pack m (fed pack m t (turn slot)) t (tallied t (turn slot)) rs (turnIn pack s slot (some a))
     unfolding move
     front-turn e (over v f h) =
-        let there : followed pack (s .store .log) (a .id) (r .request) (r .moveCount) ≡ some (at (a .place) (a .step)) =
+        let there : followed pack (s .store .log) (a .id) (r .request) (r .moveCount) ≡ some (at (a .course) (a .step)) =
         ap (followed pack (s .store .log) (a .id) (r .request)) (sym e) ∙ live .there in
         absurd (let z : _≡_ {A = ℕ} 0 1 = cc in omega arith)
-    front-turn e (underway step f none-from) =
+    front-turn e (underway step f none-from no-reply) =
         keeps-by pack m (fed pack m t (turn slot)) (move pack m (a .id) r) t (tallied t (turn slot)) (update t slot (tallyOf (a .id) (suc (r .moveCount)))) rs
-        (turnIn pack s slot (some a)) (turnOn s slot stands (codeOf pack (r .request)) (actAt (codeOf pack (r .request)) (r .place)))
+        (turnIn pack s slot (some a)) (turnOn s slot stands (codeOf pack (r .request)) (nextOf (codeOf pack (r .request)) (r .course)))
         (fed-is ∙ ap (λ b. if_then_else_ b (move pack m (a .id) r) m) (ltb-yes (r .moveCount) (suc k) (omega arith)))
         (tallied-is ∙ ap (λ n. update t slot (tallyOf (a .id) (suc n))) e)
-        (outcome-is ∙ ap (λ (x : Agent). turnOn s slot x (codeOf pack (r .request)) (actAt (codeOf pack (r .request)) (x .place))) same)
-        (front-keeps pack s m t rs inv slot (a .id) r step (live .run-is) f none-from (actAt (codeOf pack (r .request)) (r .place)) refl)
+        (outcome-is ∙ ap (λ (x : Agent). turnOn s slot x (codeOf pack (r .request)) (nextOf (codeOf pack (r .request)) (x .course))) same)
+        (front-keeps pack s m t rs inv slot (a .id) r step (live .run-is) f none-from no-reply (live .book-is) (nextOf (codeOf pack (r .request)) (r .course)) refl)
       where
-        there : followed pack (s .store .log) (a .id) (r .request) (r .moveCount) ≡ some (at (a .place) (a .step))
+        there : followed pack (s .store .log) (a .id) (r .request) (r .moveCount) ≡ some (at (a .course) (a .step))
         there = ap (followed pack (s .store .log) (a .id) (r .request)) (sym e) ∙ live .there
 
         stands : Agent
-        stands = record { id = a .id; place = r .place; step = step }
+        stands = record { id = a .id; course = r .course; step = step }
 
-        same-place : a .place ≡ r .place
-        same-place = cc
+        same-course : a .course ≡ r .course
+        same-course = cc
 
         same-step : a .step ≡ step
         same-step = cc
 
         same : a ≡ stands
-        same = λ i. record { id = a .id; place = same-place i; step = same-step i }
+        same = λ i. record { id = a .id; course = same-course i; step = same-step i }
 
     -- behind it
     back-turn : k < r .moveCount → Keeps pack m (fed pack m t (turn slot)) t (tallied t (turn slot)) rs (turnIn pack s slot (some a))
     back-turn l =
         keeps-by pack m (fed pack m t (turn slot)) m t (tallied t (turn slot)) (update t slot (tallyOf (a .id) (suc k))) rs
-        (turnIn pack s slot (some a)) (turnOn s slot a (codeOf pack (r .request)) (actAt (codeOf pack (r .request)) (a .place)))
+        (turnIn pack s slot (some a)) (turnOn s slot a (codeOf pack (r .request)) (nextOf (codeOf pack (r .request)) (a .course)))
         (fed-is ∙ ap (λ b. if_then_else_ b (move pack m (a .id) r) m) (ltb-no (r .moveCount) (suc k) l))
         tallied-is outcome-is
-        (back-keeps pack s m t rs inv slot a r k (live .run-is) l (live .there) (actAt (codeOf pack (r .request)) (a .place)) refl)
+        (back-keeps pack s m t rs inv slot a r k (live .run-is) (live .book-is) progress l (live .there) (nextOf (codeOf pack (r .request)) (a .course)) refl)
 
     pub live-turn : Keeps pack m (fed pack m t (turn slot)) t (tallied t (turn slot)) rs (turnIn pack s slot (some a))
     live-turn = go (le-cases k (r .moveCount) (live .behind))
       where
         go : (k ≡ r .moveCount) ⊎ (k < r .moveCount) → Keeps pack m (fed pack m t (turn slot)) t (tallied t (turn slot)) rs (turnIn pack s slot (some a))
-        go (inl e) = front-turn e (inv .core .progress (a .id) r (live .run-is))
+        go (inl e) = front-turn e progress
         go (inr l) = back-turn l
 
 pub turn-keeps : (pack : Pack) (s : State) (m : Machine) (t : Tallies) (rs : List Reply) → Inv pack s m t rs → (slot : ℕ) → isSome (s .slots slot) ≡ true →

@@ -2,11 +2,13 @@
 -- Assumes nothing: these are definitions.
 use mathlib.Core.Bool.{Bool, true, false}
 use mathlib.Core.List.{[], _∷_}
-use mathlib.Core.Option.{Option, some}
+use mathlib.Core.Option.{Option, none, some}
+use mathlib.Core.Path.{_≡_}
 use Prim.Native.Nat.{ℕ, zero, suc, _+_, _-_}
 use lib.ListN.{length, set, drop}
 use Rattle.rules.specs.Basics.{if_then_else_, update, isSome}
-use Rattle.rules.specs.Instructions.{Code, Instruction, SET, COPY, ADD, SUB, JLT, JEQ, BEGIN, END, GET, PUT, HAS, RETURN, Place, next, Act, moves, opens, closes, reads, puts, returns, actAt}
+use Rattle.rules.specs.Instructions.{Code, Instruction, Place, next, Act, moves, opens, closes, reads, puts, returns, actAt}
+use Rattle.rules.specs.Shapes.{Side, outside, inside, shape}
 
 -- a table from data key to value, if the key is present
 abbrev pub Table : Type 0
@@ -19,15 +21,19 @@ pub record Work : Type 0 where
   pub table : Table
   pub newKeys : ℕ
 
+-- What a block comes to, and a request: a value. It is a type of its own, so that one day they can come to something else.
+pub data Result : Type 0 where
+  yields : (value : ℕ) → Result
+
 -- what a run comes to
 pub record Block : Type 0 where
   pub table : Table
   pub newKeys : ℕ
-  pub result : ℕ
+  pub result : Result
 
 -- END: the result is given
-abbrev pub close : Work → (result : ℕ) → Block
-close w v = record { table = w .table; newKeys = w .newKeys; result = v }
+abbrev pub close : Work → Result → Block
+close w r = record { table = w .table; newKeys = w .newKeys; result = r }
 
 -- One instruction inside a block; `onward` runs the rest of it. (BEGIN and RETURN stand outside: no checked block meets them.)
 unfoldable pub within : Act → Work → (onward : Work → Block) → Block
@@ -40,13 +46,13 @@ within (puts k v) w onward =
       table = update (w .table) k (some v);
       newKeys = if isSome (w .table k) then w .newKeys else suc (w .newKeys);
     })
-within (closes v) w onward = close w v
-within (opens p) w onward = close w 0
-within (returns v) w onward = close w 0
+within (closes v) w onward = close w (yields v)
+within (opens p) w onward = close w (yields 0)
+within (returns v) w onward = close w (yields 0)
 
 -- at most `ahead` instructions of a block
 unfoldable pub runFrom : Code → (ahead : ℕ) → Work → Block
-runFrom code zero w = close w 0
+runFrom code zero w = close w (yields 0)
 runFrom code (suc ahead) w = within (actAt code (w .place)) w (λ w′. runFrom code ahead w′)
 
 -- The block that BEGIN at this place opens, run on a table. It comes to END within the instructions ahead (`block-ends`).
@@ -58,20 +64,15 @@ runBlock code at table =
 abbrev pub rowsNeeded : Block → ℕ
 rowsNeeded b = 1 + b .newKeys
 
+-- does what begins behind it close a block?
+abbrev pub closing : Option Side → Bool
+closing none = false
+closing (some inside) = false
+closing (some outside) = true
+
 -- is it END?
 abbrev pub isEnd : Instruction → Bool
-isEnd (SET d w) = false
-isEnd (COPY d s) = false
-isEnd (ADD d s) = false
-isEnd (SUB d s) = false
-isEnd (JLT d s target) = false
-isEnd (JEQ d s target) = false
-isEnd (BEGIN p) = false
-isEnd (END d) = true
-isEnd (GET d s) = false
-isEnd (PUT d s) = false
-isEnd (HAS d s) = false
-isEnd (RETURN d) = false
+isEnd i = closing (shape i .behind)
 
 -- how many instructions there are up to the first END, and with it
 abbrev pub throughEnd : Code → ℕ
@@ -85,3 +86,11 @@ behindEnd code begin = suc begin + throughEnd (drop (suc begin) code)
 -- After a block, run or found in the log: only register 0 changes, to the result; position goes behind END.
 unfoldable pub afterBlock : Code → Place → (result : ℕ) → Place
 afterBlock code at v = record { position = behindEnd code (at .position); registers = set (at .registers) 0 v }
+
+-- A block that opens at an index comes to END: its run is closed by an END, the one behind which the agent goes on.
+pub record Closed (code : Code) (begin : ℕ) (b : Block) : Type 0 where
+  pub last : Work
+  pub value : ℕ
+  pub at-end : actAt code (last .place) ≡ closes value
+  pub the-first : suc (last .place .position) ≡ behindEnd code begin
+  pub closed : b ≡ close last (yields value)

@@ -1,20 +1,22 @@
 -- Agents and slots, and the five calls: the questions 15 to 21 of each, then what it does. Assumes nothing: these are definitions.
 use mathlib.Core.Bool.{Bool, true, not}
-use mathlib.Core.List.{List, [], _∷_, _++_}
+use mathlib.Core.List.{List, [], _∷_}
 use mathlib.Core.Option.{Option, none, some}
 use Prim.Native.Nat.{ℕ, suc, _+_}
 use lib.Dec.{ltb, leb}
-use lib.ListN.{length, getD}
+use lib.ListN.{length}
 use Rattle.rules.specs.Basics.{update, isSome}
 use Rattle.rules.specs.Questions.{No, number, ask}
-use Rattle.rules.specs.Instructions.{Code, Pack, Place, next, Act, moves, opens, closes, reads, puts, returns, actAt}
-use Rattle.rules.specs.Blocks.{runBlock, rowsNeeded, afterBlock}
-use Rattle.rules.specs.Store.{Request, sameRequest, Store, freshStore, rowsPerRequest, booked, written}
+use Rattle.rules.specs.Instructions.{Code, Pack, Place}
+use Rattle.rules.specs.Blocks.{Result, runBlock, rowsNeeded}
+use Rattle.rules.specs.Courses.{Course, Next, goes, does, says, nextOf}
+use Rattle.rules.specs.Store.{Request, sameRequest, Store, freshStore, rowsPerRequest, booked, found, written}
+pub use Rattle.rules.specs.Logged.{codeOf, start}
 
--- an agent in a slot: id, position and registers, step number
+-- an agent in a slot: id, where it stands, step number
 pub record Agent : Type 0 where
   pub id : ℕ
-  pub place : Place
+  pub course : Course
   pub step : ℕ
 
 -- the store and the slots; an empty slot holds none
@@ -36,14 +38,10 @@ pub data Call : Type 0 where
 pub data Answer : Type 0 where
   done : Answer
   moved : Answer
-  reply : (id value : ℕ) → Answer
+  reply : (id : ℕ) (value : Result) → Answer
   refused : No → Answer
 
 -- ── The questions ──
-
--- the code of a booked request's workflow
-abbrev pub codeOf : Pack → Request → Code
-codeOf pack q = getD pack (q .workflow) []
 
 -- the code of an agent's workflow, by what the book has of its id: it is there, by question 14
 abbrev pub codeBy : Pack → Option Request → Code
@@ -60,23 +58,21 @@ abbrev pub canBook : Store → Option Request → Bool
 canBook s none = leb (s .bookUsed + rowsPerRequest) (s .room)
 canBook s (some known) = true
 
--- Has a block of partition p, by what its log row says, enough free rows, if it isn't logged?
-unfoldable pub canWrite : Store → Agent → Code → (partition : ℕ) → (log : Option ℕ) → Bool
-canWrite s a code p none = leb (s .used p + rowsNeeded (runBlock code (a .place) (s .rows p))) (s .room)
-canWrite s a code p (some v) = true
+-- Has a block that opens at a place, of partition p, by what its log row says, enough free rows, if it isn't logged?
+unfoldable pub canWrite : Store → Code → (begin : Place) (partition : ℕ) → (log : Option Result) → Bool
+canWrite s code from p none = leb (s .used p + rowsNeeded (runBlock code from (s .rows p))) (s .room)
+canWrite s code from p (some r) = true
 
--- the same of a turn, by what the agent's instruction asks for: only BEGIN opens a block
-unfoldable pub canAct : Store → Agent → Code → Act → Bool
-canAct s a code (opens p) = canWrite s a code p (s .log p (a .id) (a .step))
-canAct s a code (moves to) = true
-canAct s a code (closes v) = true
-canAct s a code (reads k to) = true
-canAct s a code (puts k v) = true
-canAct s a code (returns v) = true
+-- the same of a turn, by what the agent does next
+unfoldable pub canDo : Store → (id step : ℕ) → Code → Next → Bool
+canDo s id t code (does from p onto) = canWrite s code from p (found (s .log) p id t)
+canDo s id t code (goes to) = true
+canDo s id t code (says r) = true
 
 unfoldable pub canTurn : Pack → Store → Option Agent → Bool
 canTurn pack s none = true
-canTurn pack s (some a) = canAct s a (codeBy pack (s .book (a .id))) (actAt (codeBy pack (s .book (a .id))) (a .place))
+canTurn pack s (some a) =
+    canDo s (a .id) (a .step) (codeBy pack (s .book (a .id))) (nextOf (codeBy pack (s .book (a .id))) (a .course))
 
 -- The questions 15 to 21 that each call puts, in order: the first no.
 unfoldable pub refusal : Pack → State → Call → Option No
@@ -113,12 +109,8 @@ gives a s = record { answer = a; state = s }
 abbrev pub withSlot : State → (slot : ℕ) → Option Agent → State
 withSlot s slot a = record { store = s .store; slots = update (s .slots) slot a }
 
--- A started agent has position 0, step 0, the arguments in registers 0 to 3, zero in 4 to 7.
-abbrev pub start : Request → Place
-start q = record { position = 0; registers = q .arguments ++ 0 ∷ 0 ∷ 0 ∷ 0 ∷ [] }
-
 abbrev pub started : State → (slot id : ℕ) → Request → State
-started s slot id q = withSlot s slot (some (record { id = id; place = start q; step = 0 }))
+started s slot id q = withSlot s slot (some (record { id = id; course = start q; step = 0 }))
 
 -- Arrival, by what the book has of the id: books a new id, then starts an agent. A known id only starts an agent.
 unfoldable pub arrive : State → (slot id : ℕ) → Request → Option Request → Outcome
@@ -130,38 +122,29 @@ unfoldable pub again : State → (slot id : ℕ) → Option Request → Outcome
 again s slot id none = gives done s
 again s slot id (some known) = gives done (started s slot id known)
 
--- the agent stands at another place
-abbrev pub movesTo : State → (slot : ℕ) → Agent → Place → Outcome
-movesTo s slot a to = gives moved (withSlot s slot (some (record { id = a .id; place = to; step = a .step })))
+-- the agent stands elsewhere
+abbrev pub movesTo : State → (slot : ℕ) → Agent → Course → (step : ℕ) → Outcome
+movesTo s slot a to t = gives moved (withSlot s slot (some (record { id = a .id; course = to; step = t })))
 
--- behind the block with its result, and step rises by 1
-abbrev pub passes : State → (slot : ℕ) → Agent → Code → (result : ℕ) → Outcome
-passes s slot a code v =
-    gives moved (withSlot s slot (some (record { id = a .id; place = afterBlock code (a .place) v; step = suc (a .step) })))
+-- A block first seeks its log row (id, step) in its own partition. If found, no row changes and what is logged is the result. If not,
+-- the block runs, and data rows and log row are written together. Either way step rises by 1.
+unfoldable pub throughBlock : State → (slot : ℕ) → Agent → Code → (begin : Place) (partition : ℕ) (onto : Result → Course) → (log : Option Result) → Outcome
+throughBlock s slot a code from p onto (some r) = movesTo s slot a (onto r) (suc (a .step))
+throughBlock s slot a code from p onto none =
+    let b = runBlock code from (s .store .rows p) in
+    movesTo (record { store = written (s .store) p (a .id) (a .step) b; slots = s .slots }) slot a (onto (b .result)) (suc (a .step))
 
--- A block first seeks its log row (id, step) in its own partition. If found, no row changes and the logged value is the result. If not,
--- the block runs, and data rows and log row are written together.
-unfoldable pub throughBlock : State → (slot : ℕ) → Agent → Code → (partition : ℕ) → (log : Option ℕ) → Outcome
-throughBlock s slot a code p (some v) = passes s slot a code v
-throughBlock s slot a code p none =
-    let b = runBlock code (a .place) (s .store .rows p) in
-    passes (record { store = written (s .store) p (a .id) (a .step) b; slots = s .slots }) slot a code (b .result)
-
--- Turn: at RETURN it replies with id and value and empties the slot; at BEGIN it does the whole block; else it does one instruction. (GET,
--- PUT, HAS and END stand inside a block: no agent meets them, by `sound-agents`.)
-unfoldable pub turnOn : State → (slot : ℕ) → Agent → Code → Act → Outcome
-turnOn s slot a code (returns v) = gives (reply (a .id) v) (withSlot s slot none)
-turnOn s slot a code (opens p) = throughBlock s slot a code p (s .store .log p (a .id) (a .step))
-turnOn s slot a code (moves to) = movesTo s slot a to
-turnOn s slot a code (closes v) = movesTo s slot a (next (a .place))
-turnOn s slot a code (reads k to) = movesTo s slot a (next (a .place))
-turnOn s slot a code (puts k v) = movesTo s slot a (next (a .place))
+-- Turn, by what the agent does next: one instruction; a whole block; or it replies with id and value and empties the slot.
+unfoldable pub turnOn : State → (slot : ℕ) → Agent → Code → Next → Outcome
+turnOn s slot a code (says r) = gives (reply (a .id) r) (withSlot s slot none)
+turnOn s slot a code (does from p onto) = throughBlock s slot a code from p onto (found (s .store .log) p (a .id) (a .step))
+turnOn s slot a code (goes to) = movesTo s slot a to (a .step)
 
 -- the turn of what a slot holds. (An empty slot is refused, by 16.)
 unfoldable pub turnIn : Pack → State → (slot : ℕ) → Option Agent → Outcome
 turnIn pack s slot none = gives moved s
 turnIn pack s slot (some a) =
-    turnOn s slot a (codeBy pack (s .store .book (a .id))) (actAt (codeBy pack (s .store .book (a .id))) (a .place))
+    turnOn s slot a (codeBy pack (s .store .book (a .id))) (nextOf (codeBy pack (s .store .book (a .id))) (a .course))
 
 -- What a call does when no question says no.
 unfoldable pub rule : Pack → State → Call → Outcome

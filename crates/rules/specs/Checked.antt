@@ -2,28 +2,16 @@
 -- Assumes nothing: these are definitions.
 use mathlib.Core.Path.{_≡_}
 use mathlib.Core.List.{[], _∷_}
+use mathlib.Core.Option.{Option, none, some, Option·getD}
 use Prim.Native.Nat.{ℕ, zero, suc, _<_}
 use lib.ListN.{length, getD}
-use Rattle.rules.specs.Instructions.{Code, Pack, Instruction, SET, COPY, ADD, SUB, JLT, JEQ, BEGIN, END, GET, PUT, HAS, RETURN, instructionAt}
+use Rattle.rules.specs.Instructions.{Code, Pack, Instruction, RETURN, instructionAt}
+use Rattle.rules.specs.Shapes.{Side, outside, inside, shape}
 use Rattle.rules.specs.Blocks.{behindEnd}
-
-pub data Side : Type 0 where
-  outside inside : Side
 
 -- the side behind an instruction
 abbrev pub sideBehind : Side → Instruction → Side
-sideBehind side (SET d w) = side
-sideBehind side (COPY d s) = side
-sideBehind side (ADD d s) = side
-sideBehind side (SUB d s) = side
-sideBehind side (JLT d s target) = side
-sideBehind side (JEQ d s target) = side
-sideBehind side (BEGIN p) = inside
-sideBehind side (END d) = outside
-sideBehind side (GET d s) = side
-sideBehind side (PUT d s) = side
-sideBehind side (HAS d s) = side
-sideBehind side (RETURN d) = side
+sideBehind side x = Option·getD (shape x .behind) side
 
 -- the side of the instruction at an index of the code, where the code's first stands on the side given
 abbrev pub sideFrom : Side → Code → (index : ℕ) → Side
@@ -44,20 +32,19 @@ Lands inside code i target = target < behindEnd code i
 abbrev pub Jumps : Code → (index target : ℕ) → Type 0
 Jumps code i target = (i < target) × (target < length code) × Lands (sideAt code i) code i target
 
--- GET, PUT, HAS and END stand inside; BEGIN and RETURN stand outside; the rest anywhere.
+-- it stands on its side, if it has one
+abbrev pub StandsOn : Side → (own : Option Side) → Type 0
+StandsOn side none = Unit {0}
+StandsOn side (some own) = side ≡ own
+
+-- only a jump goes elsewhere
+abbrev pub GoesTo : Code → (index : ℕ) → (target : Option ℕ) → Type 0
+GoesTo code i none = Unit {0}
+GoesTo code i (some target) = Jumps code i target
+
+-- An instruction stands, and its jump lands, on the right side.
 abbrev pub Stands : Code → (index : ℕ) → Instruction → Type 0
-Stands code i (SET d w) = Unit {0}
-Stands code i (COPY d s) = Unit {0}
-Stands code i (ADD d s) = Unit {0}
-Stands code i (SUB d s) = Unit {0}
-Stands code i (JLT d s target) = Jumps code i target
-Stands code i (JEQ d s target) = Jumps code i target
-Stands code i (BEGIN p) = sideAt code i ≡ outside
-Stands code i (END d) = sideAt code i ≡ inside
-Stands code i (GET d s) = sideAt code i ≡ inside
-Stands code i (PUT d s) = sideAt code i ≡ inside
-Stands code i (HAS d s) = sideAt code i ≡ inside
-Stands code i (RETURN d) = sideAt code i ≡ outside
+Stands code i x = StandsOn (sideAt code i) (shape x .stands) × GoesTo code i (shape x .target)
 
 -- a workflow that passes: it has an instruction, each stands right, the last is RETURN
 pub record Checked (code : Code) : Type 0 where

@@ -6,10 +6,12 @@ use mathlib.Core.Option.{some}
 use Prim.Native.Nat.{ℕ, _≤_, _<_}
 use lib.ListN.{length}
 use Rattle.rules.specs.Instructions.{Pack}
+use Rattle.rules.specs.Blocks.{Result}
 use Rattle.rules.specs.Store.{Request}
 use Rattle.rules.specs.Calls.{Call, codeOf, Agent, State, History, turn, reply, stateAfter, answerTo}
 use Rattle.rules.specs.Plain.{Reply, accepted, machineAfter, talliesAfter, repliesAfter, firstReplies}
-use Rattle.rules.specs.Checked.{outside, sideAt, CheckedPack}
+use Rattle.rules.specs.Shapes.{outside}
+use Rattle.rules.specs.Checked.{sideAt, CheckedPack}
 
 -- An accepted turn on a slot is one of the agent there: the how many-th of its agent's turns it is, and the agent's booked request. The
 -- turns are at most the workflow's size, and if they come to it, this one replies.
@@ -21,7 +23,7 @@ pub record InTime (pack : Pack) (room : ℕ) (calls : History) (slot : ℕ) : Ty
   pub counted : talliesAfter pack room (turn slot ∷ calls) slot ≡ some (record { id = agent .id; turns = turns })
   pub booked : stateAfter pack room calls .store .book (agent .id) ≡ some request
   pub at-most : turns ≤ length (codeOf pack request)
-  pub last : turns ≡ length (codeOf pack request) → (value : ℕ) × (answerTo pack room calls (turn slot) ≡ reply (agent .id) value)
+  pub last : turns ≡ length (codeOf pack request) → (value : Result) × (answerTo pack room calls (turn slot) ≡ reply (agent .id) value)
 
 -- What holds after the calls.
 pub record PlainRun (pack : Pack) (room : ℕ) (calls : History) : Type 0 where
@@ -44,6 +46,6 @@ Demand3 = (pack : Pack) → CheckedPack pack → (room : ℕ) (calls : List Call
 pub record SoundAgent (pack : Pack) (s : State) (a : Agent) : Type 0 where
   pub request : Request
   pub booked : s .store .book (a .id) ≡ some request
-  pub below : a .place .position < length (codeOf pack request)
-  pub side : sideAt (codeOf pack request) (a .place .position) ≡ outside
-  pub steps : a .step ≤ a .place .position
+  pub below : a .course .place .position < length (codeOf pack request)
+  pub side : sideAt (codeOf pack request) (a .course .place .position) ≡ outside
+  pub steps : a .step ≤ a .course .place .position

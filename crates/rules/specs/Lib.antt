@@ -2,10 +2,13 @@ pub mod Basics
 pub mod Questions
 pub mod Verdicts
 pub mod Instructions
+pub mod Shapes
 pub mod Blocks
+pub mod Courses
 pub mod Checked
 pub mod Keys
 pub mod Store
+pub mod Logged
 pub mod Calls
 pub mod Plain
 pub mod Demand3

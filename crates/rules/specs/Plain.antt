@@ -5,22 +5,23 @@ use mathlib.Core.Option.{Option, none, some}
 use Prim.Native.Nat.{ℕ, suc}
 use lib.Dec.{ltb, eqb}
 use Rattle.rules.specs.Basics.{if_then_else_, update}
-use Rattle.rules.specs.Instructions.{Code, Pack, Place, next, Act, moves, opens, closes, reads, puts, returns, actAt}
-use Rattle.rules.specs.Blocks.{Table, runBlock, afterBlock}
+use Rattle.rules.specs.Instructions.{Code, Pack}
+use Rattle.rules.specs.Blocks.{Table, Result, runBlock}
+use Rattle.rules.specs.Courses.{Course, Next, goes, does, says, nextOf}
 use Rattle.rules.specs.Store.{Request}
 use Rattle.rules.specs.Calls.{codeOf, start, Call, arrival, retry, turn, crash, restart, stopped, Answer, done, moved, reply, refused, History, answerTo}
 
 -- a reply: id and value
 pub record Reply : Type 0 where
   pub id : ℕ
-  pub value : ℕ
+  pub value : Result
 
 -- ── The plain machine ──
 
--- a booked request, its one agent (position, registers), and the number of its moves
+-- a booked request, where its one agent stands, and the number of its moves
 pub record Run : Type 0 where
   pub request : Request
-  pub place : Place
+  pub course : Course
   pub moveCount : ℕ
 
 -- The plain machine: a table for each partition, a run for each booked request, and the list of replies.
@@ -38,42 +39,35 @@ abbrev pub booking : Machine → (id : ℕ) → Request → Machine
 booking m id q =
     record {
       tables = m .tables;
-      runs = update (m .runs) id (some (record { request = q; place = start q; moveCount = 0 }));
+      runs = update (m .runs) id (some (record { request = q; course = start q; moveCount = 0 }));
       replies = m .replies;
     }
 
--- the run of this id stands at another place, and the number of its moves rises by 1
-abbrev pub ahead : Machine → (id : ℕ) → Run → Place → (id : ℕ) → Option Run
-ahead m id r to = update (m .runs) id (some (record { request = r .request; place = to; moveCount = suc (r .moveCount) }))
+-- the run of this id stands elsewhere, and the number of its moves rises by 1
+abbrev pub ahead : Machine → (id : ℕ) → Run → Course → (id : ℕ) → Option Run
+ahead m id r to = update (m .runs) id (some (record { request = r .request; course = to; moveCount = suc (r .moveCount) }))
 
-abbrev pub movesOn : Machine → (id : ℕ) → Run → Place → Machine
-movesOn m id r to = record { tables = m .tables; runs = ahead m id r to; replies = m .replies }
-
--- A move of a run, by what its instruction asks for: what a turn does, but a block runs on the machine's table as one whose log row isn't
--- found, writes no log row and always has room; at RETURN id and value go to the end of the replies. (GET, PUT, HAS and END stand inside
--- a block: no run meets them.)
-unfoldable pub moveOn : Machine → (id : ℕ) → Run → Code → Act → Machine
-moveOn m id r code (returns v) =
+-- A move of a run, by what its agent does next: what a turn does, but a block runs on the machine's table as one whose log row isn't
+-- found, writes no log row and always has room; a reply goes to the end of the replies.
+unfoldable pub moveOn : Machine → (id : ℕ) → Run → Code → Next → Machine
+moveOn m id r code (says v) =
     record {
       tables = m .tables;
-      runs = ahead m id r (r .place);
+      runs = ahead m id r (r .course);
       replies = m .replies ++ record { id = id; value = v } ∷ [];
     }
-moveOn m id r code (opens p) =
-    let b = runBlock code (r .place) (m .tables p) in
+moveOn m id r code (does from p onto) =
+    let b = runBlock code from (m .tables p) in
     record {
       tables = update (m .tables) p (b .table);
-      runs = ahead m id r (afterBlock code (r .place) (b .result));
+      runs = ahead m id r (onto (b .result));
       replies = m .replies;
     }
-moveOn m id r code (moves to) = movesOn m id r to
-moveOn m id r code (closes v) = movesOn m id r (next (r .place))
-moveOn m id r code (reads k to) = movesOn m id r (next (r .place))
-moveOn m id r code (puts k v) = movesOn m id r (next (r .place))
+moveOn m id r code (goes to) = record { tables = m .tables; runs = ahead m id r to; replies = m .replies }
 
 -- Move (id), of the run that the machine has of it.
 unfoldable pub move : Pack → Machine → (id : ℕ) → Run → Machine
-move pack m id r = moveOn m id r (codeOf pack (r .request)) (actAt (codeOf pack (r .request)) (r .place))
+move pack m id r = moveOn m id r (codeOf pack (r .request)) (nextOf (codeOf pack (r .request)) (r .course))
 
 -- ── What it is fed ──
 

@@ -5,7 +5,7 @@ use mathlib.Core.Option.{Option, none, some}
 use Prim.Native.Nat.{ℕ, _+_}
 use lib.Dec.{eqb}
 use Rattle.rules.specs.Basics.{update}
-use Rattle.rules.specs.Blocks.{Table, Block, rowsNeeded}
+use Rattle.rules.specs.Blocks.{Table, Result, yields, Block, rowsNeeded}
 
 -- what the book has of a request: the workflow number and the arguments
 pub record Request : Type 0 where
@@ -23,13 +23,26 @@ sameArguments (x ∷ xs) (y ∷ ys) = eqb x y && sameArguments xs ys
 abbrev pub sameRequest : Request → Request → Bool
 sameRequest q r = eqb (q .workflow) (r .workflow) && sameArguments (q .arguments) (r .arguments)
 
+-- The log of all partitions: by request and step, the value of the row under its usual key, if there is one.
+pub record Log : Type 0 where
+  pub usual : (partition id step : ℕ) → Option ℕ
+
+-- what a log row says: its value is the block's result
+abbrev pub sought : Option ℕ → Option Result
+sought (some v) = some (yields v)
+sought none = none
+
+-- what the log says of a step of a request in a partition, if it is logged there
+abbrev pub found : Log → (partition id step : ℕ) → Option Result
+found log p id t = sought (log .usual p id t)
+
 -- The store: C, the rows of each partition and of the book; of each partition the used count, the data rows by data key and the log rows by
 -- request and step; of the book the used count and the requests by id.
 pub record Store : Type 0 where
   pub room : ℕ
   pub used : (partition : ℕ) → ℕ
   pub rows : (partition : ℕ) → Table
-  pub log : (partition id step : ℕ) → Option ℕ
+  pub log : Log
   pub bookUsed : ℕ
   pub book : (id : ℕ) → Option Request
 
@@ -40,7 +53,7 @@ freshStore room =
       room = room;
       used = λ p. 0;
       rows = λ p k. none;
-      log = λ p id t. none;
+      log = record { usual = λ p id t. none };
       bookUsed = 0;
       book = λ id. none;
     }
@@ -61,9 +74,13 @@ booked s id q =
       book = update (s .book) id (some q);
     }
 
--- one log row more
+-- one row more: the block's result as value
 abbrev pub logged : (log : (partition id step : ℕ) → Option ℕ) (partition id step value : ℕ) → (partition id step : ℕ) → Option ℕ
 logged log p id t v = update log p (update (log p) id (update (log p id) t (some v)))
+
+-- the log with the row of a step
+unfoldable pub withRow : Log → (partition id step : ℕ) → Result → Log
+withRow log p id t (yields v) = record { usual = logged (log .usual) p id t v }
 
 -- a block's data rows and its log row, written together
 abbrev pub written : Store → (partition id step : ℕ) → Block → Store
@@ -72,7 +89,7 @@ written s p id t b =
       room = s .room;
       used = update (s .used) p (s .used p + rowsNeeded b);
       rows = update (s .rows) p (b .table);
-      log = logged (s .log) p id t (b .result);
+      log = withRow (s .log) p id t (b .result);
       bookUsed = s .bookUsed;
       book = s .book;
     }

@@ -70,7 +70,7 @@ module _ (pack : Pack) (s : State) (slot : ℕ) where
       retry-yes q e b = rw (lt-ltb slot 8 h, e, b) refl
 
     pub again-known : (q : Request) → s .store .book id ≡ some q →
-        rule pack s (retry slot id) ≡ gives done (withSlot s slot (some (record { id = id; place = start q; step = 0 })))
+        rule pack s (retry slot id) ≡ gives done (withSlot s slot (some (record { id = id; course = start q; step = 0 })))
     unfolding Calls.rule Calls.again
     again-known q b = ap (again s slot id) b
 

@@ -1,31 +1,36 @@
--- Where a sound agent stands: its workflow, its instruction, and what the rules make of its turn. Assumes nothing.
+-- Where a sound agent stands: its workflow, and what the rules make of its turn. Assumes nothing.
 use mathlib.Core.Bool.{Bool, true, false}
 use mathlib.Core.List.{List, [], _∷_}
 use mathlib.Core.Option.{Option, none, some, Option·getD}
 use mathlib.Core.Path.{_≡_, refl, sym, _∙_, ap, subst}
-use Prim.Native.Nat.{ℕ, suc, _%_, _^_, _≤_, _<_}
+use Prim.Native.Nat.{ℕ, suc, _^_, _≤_, _<_}
 use native.Mathlib.Omega.{arith}
-use lib.Dec.{ltb, eqb}
 use lib.ListN.{length, getD, drop, length-drop}
 use Rattle.rules.specs.Basics.{if_then_else_}
 use Rattle.rules.specs.Keys.{bookKey}
-use Rattle.rules.specs.Instructions.{Instruction, Code, Place, register, next, goto, Act, moves, act, actAt}
-use Rattle.rules.specs.Instructions as Instructions
-use Rattle.rules.specs.Blocks.{isEnd, throughEnd, behindEnd}
-use Rattle.rules.specs.Checked.{Checked, Stands, Jumps, outside, inside, sideAt}
+use Rattle.rules.specs.Instructions.{Code, Place}
+use Rattle.rules.specs.Shapes.{outside}
+use Rattle.rules.specs.Blocks.{yields, isEnd, throughEnd}
+use Rattle.rules.specs.Blocks as Blocks
+use Rattle.rules.specs.Checked.{Checked, sideAt}
+use Rattle.rules.specs.Courses.{going, passed, Next, goes, nextOf}
+use Rattle.rules.specs.Courses as Courses
 use Rattle.rules.specs.Store.{Request}
-use Rattle.rules.specs.Calls.{codeBy, canTurn, canAct, turnIn, turnOn}
+use Rattle.rules.specs.Calls.{codeBy, canTurn, canDo, turnIn, turnOn}
 use Rattle.rules.specs.Calls as Calls
 use Rattle.rules.proofs.Updates.{false-true}
-use Rattle.code.specs.Layout.{operationAt, wordAt}
-use Rattle.code.specs.Meaning.{decode, codeOf}
-use Rattle.code.specs.Meaning as Meaning
-use Rattle.code.proofs.Decoded.{by-operation, operation-known, instruction-at, length-code}
+use Rattle.rules.proofs.Positions.{goes-forward}
+use Rattle.code.specs.Meaning.{codeOf}
+use Rattle.code.specs.Right.{Right}
+use Rattle.code.proofs.Decoded.{length-code}
+use Rattle.code.proofs.Right.{right-checked, outside-at}
 use Rattle.pack.specs.Layout.{count, sizeOf, operationsOf, operandsOf}
 use Rattle.pack.specs.Meaning.{packOf}
 use Rattle.pack.proofs.Sizes.{length-operations}
-use Rattle.pack.proofs.Laws.{workflow-at, accepted-laid, accepted-workflow, length-workflow, length-pack, accepted-checked}
+use Rattle.pack.proofs.Laws.{workflow-at, accepted-laid, accepted-right, length-workflow}
 use Rattle.store.specs.Rows.{lookup, storeOf}
+use Rattle.instruction.specs.declared.Spot.{Spot}
+use Rattle.course.specs.Next.{Outside}
 use Rattle.agents.specs.declared.Agent.{Agent}
 use Rattle.agents.specs.Slots.{held}
 use Rattle.meaning.specs.State.{contentsOf, valueIn, argumentsOf, requestOf, bookOf}
@@ -34,60 +39,6 @@ use Rattle.meaning.proofs.Book.{book-row}
 use Rattle.meaning.proofs.Steps.{workflow-below, booked-of-13}
 use Rattle.meaning.proofs.Sense.{sound-meant}
 use Rattle.turn.specs.Turned.{Turnable, workflowIn}
-
--- an instruction that stands outside is one on registers, BEGIN or RETURN
-kind : (code : Code) (i d w : ℕ) → sideAt code i ≡ outside → (op : ℕ) → op < 12 → Stands code i (decode op d w) → (op ≡ 11 → ⊥) → (op ≡ 6 → ⊥) → op < 6
-unfolding Meaning.decode
-kind code i d w o =
-    by-operation (λ op. Stands code i (decode op d w) → (op ≡ 11 → ⊥) → (op ≡ 6 → ⊥) → op < 6)
-    (λ s n m. omega arith)
-    (λ s n m. omega arith)
-    (λ s n m. omega arith)
-    (λ s n m. omega arith)
-    (λ s n m. omega arith)
-    (λ s n m. omega arith)
-    (λ s n m. absurd (m refl))
-    (λ s n m. never s)
-    (λ s n m. never s)
-    (λ s n m. never s)
-    (λ s n m. never s)
-    (λ s n m. absurd (n refl))
-  where
-    never : {A : Type 0} → sideAt code i ≡ inside → A
-    never s = let z : _≡_ {A = ℕ} 0 1 = cc in absurd (omega arith)
-
-pub same-place : (x y : Place) → moves x ≡ moves y → x ≡ y
-same-place x y e = cc
-
-jump-short : (code : Code) (at to : Place) (target : ℕ) (b : Bool) → at .position < length code → Jumps code (at .position) target →
-    if_then_else_ b (goto at target) (next at) ≡ to → to .position ≤ length code
-jump-short code at to target true h j e = let p = ap (λ (x : Place). x .position) e in let l = j .1 in omega arith
-jump-short code at to target false h j e = let p = ap (λ (x : Place). x .position) e in omega arith
-
--- where an instruction on registers leads to is at most the workflow's size
-short : (code : Code) (at to : Place) (d w : ℕ) → at .position < length code → (op : ℕ) → op < 12 → Stands code (at .position) (decode op d w) →
-    act (decode op d w) at ≡ moves to → to .position ≤ length code
-unfolding Meaning.decode Instructions.act
-short code at to d w h =
-    by-operation (λ op. Stands code (at .position) (decode op d w) → act (decode op d w) at ≡ moves to → to .position ≤ length code)
-    (λ s e. one (λ i. same-place _ to e i .position))
-    (λ s e. one (λ i. same-place _ to e i .position))
-    (λ s e. one (λ i. same-place _ to e i .position))
-    (λ s e. one (λ i. same-place _ to e i .position))
-    (λ s e. jump-short code at to _ (ltb (register at d) (register at (w % 16))) h s (same-place _ to e))
-    (λ s e. jump-short code at to _ (eqb (register at d) (register at (w % 16))) h s (same-place _ to e))
-    (λ s e. never (let z : _≡_ {A = ℕ} 0 1 = cc in z))
-    (λ s e. never (let z : _≡_ {A = ℕ} 0 1 = cc in z))
-    (λ s e. never (let z : _≡_ {A = ℕ} 0 1 = cc in z))
-    (λ s e. never (let z : _≡_ {A = ℕ} 0 1 = cc in z))
-    (λ s e. never (let z : _≡_ {A = ℕ} 0 1 = cc in z))
-    (λ s e. never (let z : _≡_ {A = ℕ} 0 1 = cc in z))
-  where
-    one : suc (at .position) ≡ to .position → to .position ≤ length code
-    one p = omega arith
-
-    never : {A : Type 0} → _≡_ {A = ℕ} 0 1 → A
-    never z = absurd (omega arith)
 
 through-short : (code : Code) → throughEnd code ≤ length code
 through-short [] = omega arith
@@ -98,10 +49,12 @@ through-short (i ∷ rest) = go (isEnd i) (through-short rest)
     go false l = omega arith
 
 -- the position behind a block is at most the workflow's size
-pub behind-short : (ops ws : List ℕ) (i : ℕ) → i < length ops → behindEnd (codeOf ops ws) i ≤ length ops
-behind-short ops ws i h =
-    let l = through-short (drop (suc i) (codeOf ops ws)) in
-    let n = length-drop (suc i) (codeOf ops ws) in
+pub behind-short : (ops ws : List ℕ) (begin : Place) (v : ℕ) → begin .position < length ops →
+    passed (codeOf ops ws) begin (yields v) .place .position ≤ length ops
+unfolding Courses.passed Blocks.afterBlock
+behind-short ops ws begin v h =
+    let l = through-short (drop (suc (begin .position)) (codeOf ops ws)) in
+    let n = length-drop (suc (begin .position)) (codeOf ops ws) in
     let m = length-code ops ws in
     omega arith
 
@@ -135,16 +88,11 @@ module _ (pack store : List ℕ) (a : Agent) (h : a .id < 2 ^ 32) (t : Turnable 
   code = codeOf ops ws
 
   abbrev pub at : Place
-  at = held a .place
+  at = held a .course .place
 
-  abbrev pub op : ℕ
-  op = operationAt ops (a .position)
-
-  abbrev pub d : ℕ
-  d = getD ops (a .position) 0 % 8
-
-  abbrev pub word : ℕ
-  word = wordAt ws (a .position)
+  -- where the code has it
+  abbrev pub spot : Spot
+  spot = record { position = a .position; registers = a .registers }
 
   booked : bookOf (valueIn (bookRows store)) (a .id) ≡ some request
   unfolding requestOf
@@ -174,41 +122,39 @@ module _ (pack store : List ℕ) (a : Agent) (h : a .id < 2 ^ 32) (t : Turnable 
   side : sideAt code (a .position) ≡ outside
   side = ap (λ (c : Code). sideAt c (a .position)) (sym code-is) ∙ meant .1
 
-  stands : Stands code (a .position) (decode op d word)
-  stands =
-      subst (Stands code (a .position)) (instruction-at ops ws (a .position) in-ops)
-      (subst Checked code-is (accepted-checked pack (t .accepted) w (omega (arith, below, length-pack pack))) .stands (a .position) (omega (arith, in-ops, length-code ops ws)))
+  right : Right ops ws
+  right = accepted-right pack (t .accepted) w below
 
-  known : op < 12
-  known = operation-known w ops ws (accepted-workflow pack (t .accepted) w below) (a .position) in-ops
+  pub stands-outside : Outside ops ws spot
+  stands-outside = record { right = right; in-code = in-ops; outside = outside-at ops ws right (a .position) in-ops side }
 
-  -- what is left when it is neither RETURN nor BEGIN
-  pub on-registers : (op ≡ 11 → ⊥) → (op ≡ 6 → ⊥) → op < 6
-  on-registers n m = kind code (a .position) d word side op known stands n m
+  checked : Checked code
+  checked = right-checked ops ws right (omega (arith, in-ops))
 
-  pub fits-16 : (to : Place) → act (decode op d word) at ≡ moves to → to .position < 65536
-  fits-16 to e = let l = short code at to d word (omega (arith, in-ops, length-code ops ws)) op known stands e in omega (arith, l, short-ops, length-code ops ws)
+  in-code : a .position < length code
+  in-code = omega (arith, in-ops, length-code ops ws)
 
-  -- the rules' turn, by what the instruction asks for
+  -- where it goes on fits into 16 bits
+  pub fits-16 : (to : Place) → nextOf code (going at) ≡ goes (going to) → to .position < 65536
+  fits-16 to e =
+      let f = goes-forward code checked (going at) in-code side (going to) e .in-code in omega (arith, f, short-ops, length-code ops ws)
+
+  -- the rules' turn, by what the agent does next
   code-by : codeBy (packOf pack) (contentsOf (storeOf store) .book (a .id)) ≡ code
   unfolding contentsOf
   code-by = ap (codeBy (packOf pack)) booked ∙ code-is
 
-  asks : actAt code at ≡ act (decode op d word) at
-  unfolding Instructions.actAt
-  asks = ap (λ (i : Instruction). act i at) (instruction-at ops ws (a .position) in-ops)
-
-  module _ (x : Act) (e : act (decode op d word) at ≡ x) where
+  module _ (x : Next) (e : nextOf code (going at) ≡ x) where
     pub turn-is : (slots : ℕ → Option Calls.Agent) (slot : ℕ) →
         turnIn (packOf pack) (record { store = contentsOf (storeOf store); slots = slots }) slot (some (held a))
         ≡ turnOn (record { store = contentsOf (storeOf store); slots = slots }) slot (held a) code x
     unfolding Calls.turnIn
     turn-is slots slot =
-        ap (λ (c : Code). turnOn (record { store = contentsOf (storeOf store); slots = slots }) slot (held a) c (actAt c at)) code-by
-        ∙ ap (turnOn (record { store = contentsOf (storeOf store); slots = slots }) slot (held a) code) (asks ∙ e)
+        ap (λ (c : Code). turnOn (record { store = contentsOf (storeOf store); slots = slots }) slot (held a) c (nextOf c (going at))) code-by
+        ∙ ap (turnOn (record { store = contentsOf (storeOf store); slots = slots }) slot (held a) code) e
 
-    pub can-is : canTurn (packOf pack) (contentsOf (storeOf store)) (some (held a)) ≡ canAct (contentsOf (storeOf store)) (held a) code x
+    pub can-is : canTurn (packOf pack) (contentsOf (storeOf store)) (some (held a)) ≡ canDo (contentsOf (storeOf store)) (a .id) (a .step) code x
     unfolding Calls.canTurn
     can-is =
-        ap (λ (c : Code). canAct (contentsOf (storeOf store)) (held a) c (actAt c at)) code-by
-        ∙ ap (canAct (contentsOf (storeOf store)) (held a) code) (asks ∙ e)
+        ap (λ (c : Code). canDo (contentsOf (storeOf store)) (a .id) (a .step) c (nextOf c (going at))) code-by
+        ∙ ap (canDo (contentsOf (storeOf store)) (a .id) (a .step) code) e

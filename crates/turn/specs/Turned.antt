@@ -4,10 +4,10 @@ use mathlib.Core.List.{List}
 use mathlib.Core.Option.{Option, none, some, Option·getD}
 use mathlib.Core.Path.{_≡_}
 use Prim.Native.Nat.{ℕ, suc}
-use lib.ListN.{getD}
 use Rattle.rules.specs.Keys.{bookKey}
 use Rattle.rules.specs.Instructions.{Code, Place}
-use Rattle.rules.specs.Blocks.{afterBlock}
+use Rattle.rules.specs.Blocks.{yields}
+use Rattle.rules.specs.Courses.{passed}
 use Rattle.rules.specs.Calls.{gives, withSlot, canTurn, turnIn}
 use Rattle.rules.specs.Calls as Calls
 use Rattle.pack.specs.Refusal.{packRefusal}
@@ -45,14 +45,14 @@ placed a to t = record { «in_use» = true; id = a .id; position = to .position;
 abbrev pub movedTo : Agent → Place → (step : ℕ) → Turned
 movedTo a to t = record { answer = Moved; agent = placed a to t }
 
--- at RETURN: the reply is register d, and the slot is empty
-abbrev pub replied : Agent → (d : ℕ) → Turned
-replied a d = record { answer = Reply (a .id) (getD (a .registers) d 0); agent = noAgent }
+-- an agent that replied: its slot is empty
+abbrev pub replied : Agent → (value : ℕ) → Turned
+replied a v = record { answer = Reply (a .id) v; agent = noAgent }
 
--- an agent at BEGIN, by what its block came to: behind the block with its result, and step rises by 1; or no to question 21
-abbrev pub behindBlock : Code → Agent → BlockOutcome → Turned
-behindBlock code a (Result v) = movedTo a (afterBlock code (held a .place) v) (suc (a .step))
-behindBlock code a NoRoom = record { answer = Refused 21 0 0; agent = a }
+-- an agent whose block opens at a place, by what the block came to: behind it with its result, and step rises by 1; or no to question 21
+abbrev pub behindBlock : Code → Agent → (begin : Place) → BlockOutcome → Turned
+behindBlock code a begin (Result v) = movedTo a (passed code begin (yields v) .place) (suc (a .step))
+behindBlock code a begin NoRoom = record { answer = Refused 21 0 0; agent = a }
 
 -- A turn of agent a gave r and left store′: refused by 21, agent and bytes are as they were; else answer and agent are those of the rule, in any slot
 -- and beside any other agents, and the store holds the rule's rows.

@@ -1,18 +1,16 @@
-// The turn of one agent, by value: at RETURN it replies, at BEGIN it does the whole block, else it does one instruction.
-ghost use mathlib.Core.Bool.{true};
+// The turn of one agent, by value: it acts on what the agent does next, which is to stand elsewhere, to do a whole block, or to reply.
 ghost use mathlib.Core.List.{List};
 ghost use mathlib.Core.Path.{_≡_};
-ghost use Prim.Native.Nat.{ℕ, _+_, _≤_, _<_};
+ghost use Prim.Native.Nat.{ℕ, _≤_, _<_};
 ghost use lib.ListN.{length};
-ghost use Rattle.rules.specs.Instructions.{Place, moves, act};
-ghost use Rattle.code.specs.Meaning.{decode, codeOf};
+ghost use Rattle.code.specs.Meaning.{codeOf};
 ghost use Rattle.store.specs.Sound.{Sound};
-ghost use Rattle.agents.specs.Slots.{held};
-ghost use Rattle.instruction.specs.Step.{placeOf, Sourced};
+ghost use Rattle.instruction.specs.Step.{placeOf};
 ghost use Rattle.turn.specs.Turned.{Turnable, workflowIn, movedTo, replied, behindBlock, TurnedBy};
 use agents::Agent;
 use agents::Answer;
 use block::write::BlockOutcome;
+use course::Next;
 use instruction::Spot;
 use store::rows::Got;
 
@@ -34,52 +32,31 @@ fn workflow_of(store: &[u8], id: u32) -> usize
     }
 }
 
-// An instruction on registers alone: SET, COPY, ADD, SUB, JLT, JEQ.
-fn move_on(a: Agent, op: u8, d: usize, w: u32) -> Turned
-    requires { ⌜ (op < 6) × (d < 8) × Sourced op w ⌝ }
-    requires { ⌜ ((to : Place) → act (decode op d w) (held a .place) ≡ moves to → to .position < 65536) ⌝ }
-    ensures { λ r. ⌜ (r ≡ movedTo a (held (r .agent) .place) (a .step)) × (act (decode op d w) (held a .place) ≡ moves (held (r .agent) .place)) ⌝ }
+// The agent stands at another place, at this step.
+fn stand_at(a: Agent, to: Spot, step: u16) -> Turned
+    requires { ⌜ to .position < 65536 ⌝ }
+    ensures { λ r. ⌜ r ≡ movedTo a (placeOf to) step ⌝ }
 {
-    let registers = a.registers;
-    let from = Spot {
-        position: a.position as usize,
-        registers,
-    };
-    let to = instruction::moved(from, op, d, w);
-    let next = to.registers;
+    let registers = to.registers;
     Turned {
         answer: Answer::Moved,
         agent: Agent {
             in_use: true,
             id: a.id,
             position: to.position as u16,
-            step: a.step,
-            registers: next,
+            step,
+            registers,
         },
     }
 }
 
-// Behind a block, by what it came to.
-fn leave_block(ops: &[u8], a: Agent, b: BlockOutcome) -> Turned
-    requires { ⌜ (a .position < length (now ops)) × (length (now ops) ≤ 256) × (a .step ≤ a .position) ⌝ }
-    ensures { λ r. ⌜ ((ws : List ℕ) → r ≡ behindBlock (codeOf (now (ops .entry)) ws) a b) ⌝ }
+// Behind the block that opens at `begin`, by what it came to.
+fn leave_block(ops: &[u8], a: Agent, begin: Spot, b: BlockOutcome) -> Turned
+    requires { ⌜ (begin .position < length (now ops)) × (length (now ops) ≤ 256) × (a .step < 65535) ⌝ }
+    ensures { λ r. ⌜ ((ws : List ℕ) → r ≡ behindBlock (codeOf (now (ops .entry)) ws) a (placeOf begin) b) ⌝ }
 {
     match b {
-        BlockOutcome::Result(v) => {
-            let mut registers = a.registers;
-            registers[0] = v;
-            let position = block::run::behind_end(ops, a.position as usize);
-            Turned {
-                answer: Answer::Moved,
-                agent: Agent {
-                    in_use: true,
-                    id: a.id,
-                    position: position as u16,
-                    step: a.step + 1,
-                    registers,
-                },
-            }
-        }
+        BlockOutcome::Result(v) => stand_at(a, course::behind_block(ops, begin, v), a.step + 1),
         BlockOutcome::NoRoom => Turned {
             answer: Answer::Refused {
                 question: 21,
@@ -92,20 +69,16 @@ fn leave_block(ops: &[u8], a: Agent, b: BlockOutcome) -> Turned
 }
 
 // The agent replies, and its slot is empty.
-fn reply(a: Agent, d: usize) -> Turned
-    requires { ⌜ d < 8 ⌝ }
-    ensures { λ r. ⌜ r ≡ replied a d ⌝ }
+fn reply(a: Agent, value: u32) -> Turned
+    ensures { λ r. ⌜ r ≡ replied a value ⌝ }
 {
     Turned {
-        answer: Answer::Reply {
-            id: a.id,
-            value: a.registers[d],
-        },
+        answer: Answer::Reply { id: a.id, value },
         agent: agents::no_agent(),
     }
 }
 
-// One turn of an agent that is sound, with an accepted pack and a store that passes.
+// One turn of an agent that is sound, with an accepted pack and a store that passes: what it does next is done.
 pub fn turn_agent(pack: &[u8], store: &mut [u8], a: Agent) -> Turned
     requires { ⌜ Turnable (now pack) (now store) a ⌝ }
     ensures { λ r. ⌜ TurnedBy (now (pack .entry)) (now (store .entry)) a r (now (store .exit)) ⌝ }
@@ -113,26 +86,30 @@ pub fn turn_agent(pack: &[u8], store: &mut [u8], a: Agent) -> Turned
     let w = workflow_of(store, a.id);
     let ops = pack::operations_part(pack, w);
     let operands = pack::operands_part(pack, w);
-    let at = a.position as usize;
-    let op = operation::operation_of(ops[at]);
-    let d = operation::register_of(ops[at]) as usize;
-    let word = words::read32(operands, 4 * at);
-    if op == operation::RETURN {
-        return reply(a, d);
+    let registers = a.registers;
+    let from = Spot {
+        position: a.position as usize,
+        registers,
+    };
+    let upcoming = course::next_of(ops, operands, from);
+    let next = upcoming.next;
+    let place = upcoming.place;
+    match next {
+        Next::Goes => stand_at(a, place, a.step),
+        Next::Does(partition) => {
+            let copy = place.registers;
+            let b = block::write::through_block(
+                ops,
+                operands,
+                store,
+                partition,
+                place.position,
+                copy,
+                a.id,
+                a.step,
+            );
+            leave_block(ops, a, place, b)
+        }
+        Next::Says(value) => reply(a, value),
     }
-    if op == operation::BEGIN {
-        let registers = a.registers;
-        let b = block::write::through_block(
-            ops,
-            operands,
-            store,
-            word as usize,
-            at,
-            registers,
-            a.id,
-            a.step,
-        );
-        return leave_block(ops, a, b);
-    }
-    move_on(a, op, d, word)
 }

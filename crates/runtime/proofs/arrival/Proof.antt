@@ -90,7 +90,7 @@ arrival-spec =
     let s = e .before .before .before .before .before .before .before .args in
     let q : Request = record { workflow = s .workflow; arguments = s .a0 ∷ s .a1 ∷ s .a2 ∷ s .a3 ∷ [] } in
     let yes-both = accepted-none (k .book-request .result) _ (k .book-request .ensures .answer) (t .enum-told2 .given .1) in
-    is-done _ _ _ (s .t3) _ _ (s .slot) (some (record { id = s .id; place = start q; step = 0 })) _ _ (tidied (e .before)) (e .if1 .left) (asked (e .before))
+    is-done _ _ _ (s .t3) _ _ (s .slot) (some (record { id = s .id; course = start q; step = 0 })) _ _ (tidied (e .before)) (e .if1 .left) (asked (e .before))
     (arrival-rest (packOf (s .pack .now)) (stateOf (s .store .now) (s .t3)) (s .slot) (s .id) (s .workflow) _ (e .if1 .left) (free n) (below l) ∙ yes-both)
     (arrives (stateOf (s .store .now) (s .t3)) (s .slot) (s .id) q _ (as-booked _ (s .id) q yes-both))
     (k .book-request .ensures .written yes-both) (ap (λ (o : Outcome). Answers.answerOf (o .answer)) (c .done .ensures))

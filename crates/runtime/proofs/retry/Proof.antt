@@ -69,7 +69,7 @@ retry-spec =
     let s = e .before .before .before .before .before .before .args in
     let q : Request = record { workflow = t .enum-told2 .given .0 .0; arguments = argumentsOf (valueIn (bookRows (s .store .now))) (s .id) } in
     let known = booked-some (bookRows (s .store .now)) (s .id) (k .booked-workflow .ensures .1) (k .booked-workflow .result) (k .booked-workflow .ensures .0) _ (t .enum-told2 .given .1) in
-    is-done _ _ _ (s .t3) _ _ (s .slot) (some (record { id = s .id; place = start q; step = 0 })) _ _ (tidied (e .before)) (e .if1 .left) (asked (e .before))
+    is-done _ _ _ (s .t3) _ _ (s .slot) (some (record { id = s .id; course = start q; step = 0 })) _ _ (tidied (e .before)) (e .if1 .left) (asked (e .before))
     (retry-yes (packOf (s .pack .now)) (stateOf (s .store .now) (s .t3)) (s .slot) (s .id) (e .if1 .left) q (slot-empty (s .t3) (s .slot) (n .if2 .left)) known)
     (again-known (packOf (s .pack .now)) (stateOf (s .store .now) (s .t3)) (s .slot) (s .id) q known)
     (wrote-nothing _) (ap (λ (o : Outcome). Answers.answerOf (o .answer)) (c .done .ensures))

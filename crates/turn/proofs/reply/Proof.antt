@@ -1,7 +1,6 @@
 -- `turn::reply` meets its contract. Assumes nothing.
 use borrow.Author.Needs.{needs}
 use mathlib.Core.Path.{ap}
-use lib.ListN.{getD}
 use Rattle.agents.specs.declared.Agent.{Agent}
 use Rattle.agents.specs.declared.Answer.the-variants.{Reply}
 use Rattle.turn.proofs.reply.Statement.{statement}
@@ -11,9 +10,5 @@ pub reply-spec : {M : Type 1} → statement M
 reply-spec =
     tie.close
     (tie.spec
-    (λ c. search needs)
-    (λ c. search needs)
     (λ c κs. search needs)
-    (λ c.
-    let s = c .before .before .args in
-    ap (λ (x : Agent). record { answer = Reply (s .t1 .id) (getD (s .t1 .registers) (s .d) 0); agent = x }) (c .no-agent .ensures)))
+    (λ c. let s = c .before .args in ap (λ (x : Agent). record { answer = Reply (s .a .id) (s .value); agent = x }) (c .no-agent .ensures)))

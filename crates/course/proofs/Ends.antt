@@ -4,26 +4,16 @@ use mathlib.Core.Path.{_≡_, refl, ap, _∙_}
 use Prim.Native.Nat.{ℕ, suc, _+_, _≤_, _<_}
 use native.Mathlib.Numerals.{add-one}
 use native.Mathlib.Omega.{arith}
-use native.Mathlib.Decide.{decLt}
 use borrow.Author.Tests.{eq-eqb, ne-eqb}
 use lib.Dec.{eqb}
-use lib.ListN.{length, drop, drop-of-length-le, List·getD-eq-default}
+use lib.ListN.{length, drop, drop-of-length-le}
 use lib.Seq.{drop-cons}
 use Rattle.rules.specs.Instructions.{RETURN, instructionAt}
 use Rattle.rules.specs.Blocks.{isEnd, throughEnd, behindEnd}
 use Rattle.operation.specs.Operations.{end}
 use Rattle.code.specs.Layout.{operationAt, registerAt, wordAt}
-use Rattle.code.specs.Meaning.{decode, codeOf}
-use Rattle.code.specs.Meaning as Meaning
-use Rattle.code.proofs.Decoded.{by-operation, length-code, instruction-at}
-
-is-end : (op d w : ℕ) → isEnd (decode op d w) ≡ eqb op end
-unfolding Meaning.decode
-is-end op d w = go (decLt op 12)
-  where
-    go : Dec (op < 12) → isEnd (decode op d w) ≡ eqb op end
-    go (yes h) = by-operation (λ (n : ℕ). isEnd (decode n d w) ≡ eqb n end) refl refl refl refl refl refl refl refl refl refl refl refl op h
-    go (no n) = let g : 12 ≤ op = omega arith in rw (List·getD-eq-default, ne-eqb op end (λ e. n (omega arith))) refl
+use Rattle.code.specs.Meaning.{codeOf}
+use Rattle.code.proofs.Decoded.{decoded-end, length-code, instruction-at}
 
 -- what is left gives the whole
 module _ (ops : List ℕ) (begin i : ℕ) where
@@ -35,7 +25,7 @@ module _ (ops : List ℕ) (begin i : ℕ) where
     code-at = drop-cons (codeOf ops ws) i (RETURN 0) (omega (arith, length-code ops ws))
 
     end-at : isEnd (instructionAt (codeOf ops ws) i) ≡ eqb (operationAt ops i) end
-    end-at = ap isEnd (instruction-at ops ws i h) ∙ is-end (operationAt ops i) (registerAt ops i) (wordAt ws i)
+    end-at = ap isEnd (instruction-at ops ws i h) ∙ decoded-end (registerAt ops i) (wordAt ws i) (operationAt ops i)
 
   pub end-hit : Left → i < length ops → operationAt ops i ≡ end → (ws : List ℕ) → i + 1 ≡ behindEnd (codeOf ops ws) begin
   end-hit l h e ws =
