@@ -124,7 +124,8 @@ module _ (d w : ℕ) where
   decoded-side b op = ap (λ o. Option·getD o (sideFor b)) (decoded-behind op) ∙ go (eqb op begin) (eqb op end)
     where
       go : (x y : Bool) →
-          Option·getD (if_then_else_ x (some inside) (if_then_else_ y (some outside) none)) (sideFor b) ≡ sideFor (if_then_else_ x true (if_then_else_ y false b))
+          Option·getD (if_then_else_ x (some inside) (if_then_else_ y (some outside) none)) (sideFor b)
+          ≡ sideFor (if_then_else_ x true (if_then_else_ y false b))
       go true y = refl
       go false true = refl
       go false false = refl
@@ -194,30 +195,35 @@ module _ (ops ws : List ℕ) where
     not-end : (j : ℕ) → j < length ops → eqb (operationAt ops j) end ≡ false → isEnd (instructionAt (codeOf ops ws) j) ≡ false
     not-end j h e = ap isEnd (instruction-at j h) ∙ decoded-end (registerAt ops j) (wordAt ws j) (operationAt ops j) ∙ e
 
-    no-end-through : (n j : ℕ) → j + n < length ops → ((k : ℕ) → j ≤ k → k < j + n → isNoEnd ops k ≡ true) → n < throughEnd (drop j (codeOf ops ws))
+    no-end-through : (n j : ℕ) → j + n < length ops → ((k : ℕ) → j ≤ k → k < j + n → isNoEnd ops k ≡ true) →
+        n < throughEnd (drop j (codeOf ops ws))
     unfolding isNoEnd
     no-end-through zero j h f =
-        rw (drop-cons (codeOf ops ws) j (RETURN 0) (in-code j (omega arith))) (some-through (instructionAt (codeOf ops ws) j) (drop (suc j) (codeOf ops ws)))
+        rw (drop-cons (codeOf ops ws) j (RETURN 0) (in-code j (omega arith)))
+        (some-through (instructionAt (codeOf ops ws) j) (drop (suc j) (codeOf ops ws)))
     no-end-through (suc n) j h f =
         let q = not-true (eqb (operationAt ops j) end) (f j (omega arith) (omega arith)) in
         let r = no-end-through n (suc j) (omega arith) (λ k l m. f k (omega arith) (omega arith)) in
         rw (drop-cons (codeOf ops ws) j (RETURN 0) (in-code j (omega arith)))
         (rw (through-next (instructionAt (codeOf ops ws) j) (drop (suc j) (codeOf ops ws)) (not-end j (omega arith) q)) (omega arith))
 
-    jump-lands : (i target : ℕ) (b : Bool) → i < target → target < length ops → landsFrom b ops i target ≡ true → Lands (sideFor b) (codeOf ops ws) i target
+    jump-lands : (i target : ℕ) (b : Bool) → i < target → target < length ops → landsFrom b ops i target ≡ true →
+        Lands (sideFor b) (codeOf ops ws) i target
     unfolding landsFrom
     jump-lands i t false h l e = side-known t (omega arith) ∙ ap sideFor (not-true (insideAt ops t) e)
     jump-lands i t true h l e =
         let n = rw add-one at (no-end-through (t - (i + 1)) (i + 1) (omega arith) (each-at (isNoEnd ops) (t - (i + 1)) (i + 1) e)) in
         omega arith
 
-    jumps-right : (i w : ℕ) → i < length ops → inRange Jump (length ops) i w ≡ true → landsFrom (insideAt ops i) ops i (targetOf w) ≡ true → Jumps (codeOf ops ws) i (targetOf w)
+    jumps-right : (i w : ℕ) → i < length ops → inRange Jump (length ops) i w ≡ true →
+        landsFrom (insideAt ops i) ops i (targetOf w) ≡ true → Jumps (codeOf ops ws) i (targetOf w)
     jumps-right i w h r l =
         let a = target-ahead Jump (length ops) i w refl r in
         let b = target-below Jump (length ops) i w refl r in (
           a,
           in-code (targetOf w) b,
-          subst (λ s. Lands s (codeOf ops ws) i (targetOf w)) (sym (side-known i (omega arith))) (jump-lands i (targetOf w) (insideAt ops i) a b l),
+          subst (λ s. Lands s (codeOf ops ws) i (targetOf w)) (sym (side-known i (omega arith)))
+              (jump-lands i (targetOf w) (insideAt ops i) a b l),
         )
 
     module _ (i : ℕ) (h : i < length ops) (d w : ℕ) where
@@ -251,7 +257,8 @@ module _ (w : ℕ) (ops ws : List ℕ) (e : codeNo w ops ws ≡ none) where
 
   pub operation-known : (i : ℕ) → i < length ops → operationAt ops i < 12
   unfolding question4 legal
-  operation-known i h = let l = leb-true (operationAt ops i) 11 (and-left (leb (operationAt ops i) 11) _ (yes-4 w ops ws i (right-at i h))) in omega arith
+  operation-known i h =
+      let l = leb-true (operationAt ops i) 11 (and-left (leb (operationAt ops i) 11) _ (yes-4 w ops ws i (right-at i h))) in omega arith
 
   stands-at : (i : ℕ) → i < length ops → Stands (codeOf ops ws) i (instructionAt (codeOf ops ws) i)
   stands-at i h =
@@ -286,7 +293,11 @@ module _ (d size i w : ℕ) (h : d < 8) where
 
   jump-bounded : inRange Jump size i w ≡ true → (d < 8) × (sourceOf w < 8)
   unfolding inRange
-  jump-bounded r = (h, ltb-true (sourceOf w) 8 (and-left (ltb (sourceOf w) 8) (ltb i (targetOf w)) (and-left (ltb (sourceOf w) 8 && ltb i (targetOf w)) _ r)))
+  jump-bounded r = (
+    h,
+    ltb-true (sourceOf w) 8 (and-left (ltb (sourceOf w) 8) (ltb i (targetOf w))
+        (and-left (ltb (sourceOf w) 8 && ltb i (targetOf w)) _ r)),
+  )
 
   pub bounded-all : (op : ℕ) → op < 12 → InBounds op
   unfolding decode operandOf inRange

@@ -34,7 +34,8 @@ module _ (ops : List ℕ) (begin i : ℕ) where
 
   pub end-none : Left → length ops ≤ i → (ws : List ℕ) → i ≡ behindEnd (codeOf ops ws) begin
   end-none l h ws =
-      let q : throughEnd (drop i (codeOf ops ws)) ≡ 0 = rw (drop-of-length-le (codeOf ops ws) {i = i} (omega (arith, length-code ops ws))) refl in
+      let q : throughEnd (drop i (codeOf ops ws)) ≡ 0 =
+      rw (drop-of-length-le (codeOf ops ws) {i = i} (omega (arith, length-code ops ws))) refl in
       omega (arith, l ws)
 
 pub end-start : (ops : List ℕ) (begin : ℕ) → Left ops begin (begin + 1)

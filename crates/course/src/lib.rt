@@ -26,7 +26,8 @@ pub struct Upcoming {
 // What the agent that stands at `from` does next, by its instruction.
 pub fn next_of(ops: &[u8], operands: &[u8], from: Spot) -> Upcoming
     requires { ⌜ Outside (now ops) (now operands) from ⌝ }
-    ensures { λ r. ⌜ nextIn (codeOf (now (ops .entry)) (now (operands .entry))) r ≡ nextOf (codeOf (now (ops .entry)) (now (operands .entry))) (going (placeOf from)) ⌝ }
+    ensures { λ r. ⌜ nextIn (codeOf (now (ops .entry)) (now (operands .entry))) r
+        ≡ nextOf (codeOf (now (ops .entry)) (now (operands .entry))) (going (placeOf from)) ⌝ }
 {
     let at = from.position;
     let b = ops[at];

@@ -43,7 +43,10 @@ sourced op size i w h r =
     below8 e n = let l = ltb-true w 8 e in omega arith
 
     low : inRange Jump size i w ≡ true → sourceOf w ≡ w % 8
-    low e = let l = ltb-true (sourceOf w) 8 (and-left (ltb (sourceOf w) 8) (ltb i (targetOf w)) (and-left _ (ltb (targetOf w) size) e)) in omega arith
+    low e =
+        let l =
+        ltb-true (sourceOf w) 8 (and-left (ltb (sourceOf w) 8) (ltb i (targetOf w)) (and-left _ (ltb (targetOf w) size) e)) in omega arith
 
 pub sourced-at : (ops ws : List ℕ) → Right ops ws → (i : ℕ) → i < length ops → Sourced (operationAt ops i) (wordAt ws i)
-sourced-at ops ws right i h = sourced (operationAt ops i) (length ops) i (wordAt ws i) (known-at ops ws right i h) (ranged-at ops ws right i h)
+sourced-at ops ws right i h =
+    sourced (operationAt ops i) (length ops) i (wordAt ws i) (known-at ops ws right i h) (ranged-at ops ws right i h)

@@ -86,7 +86,8 @@ module _ (p : List ℕ) where
       pub length-workflow : length (getD (packOf p) w []) ≡ sizeOf p w
       length-workflow = ap length (workflow-at w h) ∙ length-code (operationsOf p w) (operandsOf p w) ∙ operations-sized
 
-      pub instruction-in : (i : ℕ) → i < sizeOf p w → instructionAt (getD (packOf p) w []) i ≡ instructionOf (operationByte p w i) (operandWord p w i)
+      pub instruction-in : (i : ℕ) → i < sizeOf p w →
+          instructionAt (getD (packOf p) w []) i ≡ instructionOf (operationByte p w i) (operandWord p w i)
       instruction-in i l =
           ap (λ c. instructionAt c i) (workflow-at w h)
           ∙ instruction-at (operationsOf p w) (operandsOf p w) i (omega (arith, operations-sized))

@@ -12,9 +12,11 @@ use native.Mathlib.Decide.{decLt}
 use lib.ListN.{length, drop, length-drop, List·getD-eq-default}
 use lib.Seq.{drop-cons, drop-drop}
 use Rattle.rules.specs.Basics.{if_then_else_}
-use Rattle.rules.specs.Instructions.{Code, Place, next, Instruction, BEGIN, RETURN, Act, moves, opens, closes, reads, puts, returns, act, actAt, instructionAt}
+use Rattle.rules.specs.Instructions.{Code, Place, next, Instruction, BEGIN, RETURN, Act, moves, opens, closes, reads, puts, returns}
+use Rattle.rules.specs.Instructions.{act, actAt, instructionAt}
 use Rattle.rules.specs.Shapes.{outside, inside, shape}
-use Rattle.rules.specs.Blocks.{Table, closing, isEnd, throughEnd, behindEnd, Work, Block, yields, close, within, runFrom, runBlock, Closed}
+use Rattle.rules.specs.Blocks.{Table, closing, isEnd, throughEnd, behindEnd, Work, Block, yields, close, within, runFrom, runBlock}
+use Rattle.rules.specs.Blocks.{Closed}
 use Rattle.rules.specs.Checked.{sideBehind, sideFrom, sideAt, Lands, GoesTo, Checked}
 use Rattle.rules.proofs.Shapes.{GoesOn, Agrees, agrees}
 use Rattle.rules.proofs.Positions.{side-drop, stays-inside, two-sides, own-side, same-side, begins-inside, block-closed}
@@ -42,7 +44,8 @@ module _ (code : Code) (checked : Checked code) where
   one-forward w f g rec h (closes v) a = refl
   one-forward w f g rec h (returns v) a = refl
 
-  pub enough : (ahead extra : ℕ) (w : Work) → length code ≤ w .place .position + ahead → runFrom code ahead w ≡ runFrom code (ahead + extra) w
+  pub enough : (ahead extra : ℕ) (w : Work) → length code ≤ w .place .position + ahead →
+      runFrom code ahead w ≡ runFrom code (ahead + extra) w
   unfolding runFrom actAt
   enough zero extra w l = sym (past code w (zero + extra) (omega arith))
   enough (suc ahead) extra w l = go (λ v h. enough ahead extra v h) (decLt (w .place .position) (length code))
@@ -88,7 +91,8 @@ some-through (y ∷ rest) l = go (isEnd y)
     go true = omega arith
     go false = omega arith
 
-module _ (code : Code) (checked : Checked code) (begin p : ℕ) (opened : begin < length code) (begins : instructionAt code begin ≡ BEGIN p) where
+module _ (code : Code) (checked : Checked code) (begin p : ℕ) (opened : begin < length code)
+    (begins : instructionAt code begin ≡ BEGIN p) where
   -- between BEGIN and the first END behind it, that END included
   record Between (j : ℕ) : Type 0 where
     pub behind : begin < j
@@ -149,7 +153,8 @@ module _ (code : Code) (checked : Checked code) (begin p : ℕ) (opened : begin 
     not-outside e = two-sides side (own-side code checked j in-code outside e)
 
   -- one instruction, if the rest comes to END
-  one-inside : (w : Work) (f : Work → Block) → ((v : Work) → w .place .position < v .place .position → Between (v .place .position) → Closed code begin (f v)) →
+  one-inside : (w : Work) (f : Work → Block) →
+      ((v : Work) → w .place .position < v .place .position → Between (v .place .position) → Closed code begin (f v)) →
       (h : Between (w .place .position)) → (y : Act) → actAt code (w .place) ≡ y →
       Agrees (instructionAt code (w .place .position)) (w .place) y → Closed code begin (within y w f)
   unfolding within
@@ -166,7 +171,8 @@ module _ (code : Code) (checked : Checked code) (begin p : ℕ) (opened : begin 
   one-inside w f rec h (opens q) e a = not-outside (w .place .position) h (ap (λ y. shape y .stands) a)
   one-inside w f rec h (returns v) e a = not-outside (w .place .position) h a
 
-  comes-to-end : (ahead : ℕ) (w : Work) → Between (w .place .position) → length code ≤ w .place .position + ahead → Closed code begin (runFrom code ahead w)
+  comes-to-end : (ahead : ℕ) (w : Work) → Between (w .place .position) → length code ≤ w .place .position + ahead →
+      Closed code begin (runFrom code ahead w)
   unfolding runFrom actAt
   comes-to-end zero w h l = absurd (let b = in-code (w .place .position) h in omega arith)
   comes-to-end (suc ahead) w h l =

@@ -14,7 +14,8 @@ use Rattle.rules.specs.Blocks.{Result}
 use Rattle.rules.specs.Courses.{Course, Next, goes, does, says, nextOf}
 use Rattle.rules.specs.Store.{Request, booked, found}
 use Rattle.rules.specs.Logged.{start, at, follow}
-use Rattle.rules.specs.Calls.{codeBy, Agent, State, started, arrive, again, throughBlock, turnOn, turnIn, refusal, rule, Call, arrival, retry, turn, crash, restart, stopped, call}
+use Rattle.rules.specs.Calls.{codeBy, Agent, State, started, arrive, again, throughBlock, turnOn, turnIn, refusal, rule, Call}
+use Rattle.rules.specs.Calls.{arrival, retry, turn, crash, restart, stopped, call}
 use Rattle.rules.specs.Plain.{Reply, Run, Machine, Tallies, booking, accepted, fed, fedArrival, tallied}
 use Rattle.rules.proofs.Updates.{none-some, false-true, true-T, update-same, update-other, update-cases, update-each}
 use Rattle.rules.proofs.Follow.{same-here}
@@ -105,7 +106,8 @@ module _ (pack : Pack) (s : State) (m : Machine) (t : Tallies) (rs : List Reply)
         was j e (inl h) = none-some r₀ e (h .1)
         was j e (inr h) = sym (h .1) ∙ e
 
-        go-book : (j : ℕ) → book′ j ≡ none → ((j ≡ id) × (book′ j ≡ some q)) ⊎ ((j ≡ id → ⊥) × (book′ j ≡ s .store .book j)) → runs′ j ≡ none
+        go-book : (j : ℕ) → book′ j ≡ none → ((j ≡ id) × (book′ j ≡ some q)) ⊎ ((j ≡ id → ⊥) × (book′ j ≡ s .store .book j)) →
+            runs′ j ≡ none
         go-book j e (inl h) = none-some q e (h .1)
         go-book j e (inr h) = update-other (m .runs) id (some r₀) j (h .0) ∙ inv .core .unbooked j (sym (h .1) ∙ e)
 
@@ -142,7 +144,10 @@ module _ (pack : Pack) (s : State) (m : Machine) (t : Tallies) (rs : List Reply)
       again-keeps slot id (s .store .book id) refl (ask-none _ _ _ (ask-none _ _ _ (ask-none _ _ _ allow .1) .1) .0)
   rule-keeps (turn slot) allow = turn-keeps pack s m t rs inv slot (ask-none _ _ _ (ask-none _ _ _ allow .1) .0)
   rule-keeps (crash slot) allow =
-      record { kept = record { core = inv .core; slots = slots-clear pack (s .store .log) (s .store .book) (m .runs) t (s .slots) (inv .slots) slot } }
+      record {
+        kept =
+            record { core = inv .core; slots = slots-clear pack (s .store .log) (s .store .book) (m .runs) t (s .slots) (inv .slots) slot };
+      }
   rule-keeps restart allow = record { kept = record { core = inv .core; slots = λ slot a e. none-some a refl e } }
   rule-keeps (stopped n) allow = none-some n allow refl
 

@@ -21,13 +21,16 @@ pub progress-stays : (pack : Pack) (log log′ : Log) (replies replies′ : List
     ((p t : ℕ) → Same log log′ p id t) → replyTo id replies′ ≡ replyTo id replies →
     Progress pack log replies id r → Progress pack log′ replies′ id r
 progress-stays pack log log′ replies replies′ id r same reply (underway t f none-from not-yet) =
-    underway t (follow-stays log log′ id (codeOf pack (r .request)) (r .request) (r .moveCount) (at (r .course) t) (same-grows log log′ id same) f)
+    underway t (follow-stays log log′ id (codeOf pack (r .request)) (r .request) (r .moveCount) (at (r .course) t)
+    (same-grows log log′ id same) f)
     (λ p t′ h. same-free log log′ p id t′ (same p t′) (none-from p t′ h)) (reply ∙ not-yet)
 progress-stays pack log log′ replies replies′ id r same reply (over v f e) =
-    over v (follow-stays log log′ id (codeOf pack (r .request)) (r .request) (r .moveCount) (finished v) (same-grows log log′ id same) f) (reply ∙ e)
+    over v (follow-stays log log′ id (codeOf pack (r .request)) (r .request) (r .moveCount) (finished v) (same-grows log log′ id same) f)
+    (reply ∙ e)
 
 -- and what the machine has of it, if its run stays
-pub counterpart-stays : (pack : Pack) (log log′ : Log) (runs runs′ : ℕ → Option Run) (replies replies′ : List Reply) (id : ℕ) (q : Request) →
+pub counterpart-stays : (pack : Pack) (log log′ : Log) (runs runs′ : ℕ → Option Run) (replies replies′ : List Reply) (id : ℕ)
+    (q : Request) →
     ((p t : ℕ) → Same log log′ p id t) → runs′ id ≡ runs id → replyTo id replies′ ≡ replyTo id replies →
     Counterpart pack log runs replies id q → Counterpart pack log′ runs′ replies′ id q
 counterpart-stays pack log log′ runs runs′ replies replies′ id q same run reply g =
@@ -45,7 +48,8 @@ come pack log replies id r (underway u f n o) = (at (r .course) u, f)
 come pack log replies id r (over v f e) = (finished v, f)
 
 -- and in between
-pub come-to : (pack : Pack) (log : Log) (replies : List Reply) (id : ℕ) (r : Run) → Progress pack log replies id r → (n : ℕ) → n ≤ r .moveCount →
+pub come-to : (pack : Pack) (log : Log) (replies : List Reply) (id : ℕ) (r : Run) → Progress pack log replies id r → (n : ℕ) →
+    n ≤ r .moveCount →
     (st : Stage) × (followed pack log id (r .request) n ≡ some st)
 come-to pack log replies id r p n l = go (le-cases n (r .moveCount) l) (come pack log replies id r p)
   where
@@ -77,7 +81,12 @@ module _
             Ahead (update (m .runs) id (some r₁)) j w
         go (inl h) =
             let same : r ≡ w = Option·some-injective r w (sym run-is ∙ ap (m .runs) (sym (h .0)) ∙ e) in
-            record { run = r₁; run-is = h .1; request-is = request-is ∙ ap (λ (x : Run). x .request) same; further = subst (λ (x : Run). x .moveCount ≤ r₁ .moveCount) same further }
+            record {
+              run = r₁;
+              run-is = h .1;
+              request-is = request-is ∙ ap (λ (x : Run). x .request) same;
+              further = subst (λ (x : Run). x .moveCount ≤ r₁ .moveCount) same further;
+            }
         go (inr h) = record { run = w; run-is = h .1 ∙ e; request-is = refl; further = omega arith }
 
     -- the core after the move, from what the move itself brings

@@ -25,7 +25,8 @@ followed pack log id q n = follow log id (codeOf pack q) q n
 pub data Progress (pack : Pack) (log : Log) (replies : List Reply) (id : ℕ) (r : Run) : Type 0 where
   underway : (t : ℕ) → followed pack log id (r .request) (r .moveCount) ≡ some (at (r .course) t) →
       ((p t′ : ℕ) → t ≤ t′ → Free log p id t′) → replyTo id replies ≡ none → Progress pack log replies id r
-  over : (v : Result) → followed pack log id (r .request) (r .moveCount) ≡ some (finished v) → replyTo id replies ≡ some v → Progress pack log replies id r
+  over : (v : Result) → followed pack log id (r .request) (r .moveCount) ≡ some (finished v) → replyTo id replies ≡ some v →
+      Progress pack log replies id r
 
 -- What the machine has of a request that is in the book: its run, with the same workflow and arguments, and how far it has come.
 pub record Counterpart (pack : Pack) (log : Log) (runs : ℕ → Option Run) (replies : List Reply) (id : ℕ) (q : Request) : Type 0 where
@@ -84,7 +85,8 @@ abbrev pub Remains : Log → Log → Book → Book → (id : ℕ) → Type 0
 Remains log log′ book book′ id = (q : Request) → book id ≡ some q → (book′ id ≡ some q) × Grows log log′ id
 
 module _ (pack : Pack) (log log′ : Log) (book book′ : Book) (runs runs′ : ℕ → Option Run) (further : AllAhead runs runs′) where
-  live-stays : (tally : Option Tally) (a : Agent) → Remains log log′ book book′ (a .id) → Live pack log book runs tally a → Live pack log′ book′ runs′ tally a
+  live-stays : (tally : Option Tally) (a : Agent) → Remains log log′ book book′ (a .id) → Live pack log book runs tally a →
+      Live pack log′ book′ runs′ tally a
   live-stays tally a g l =
       let h = further (a .id) (l .run) (l .run-is) in
       let k = g (l .run .request) (l .book-is) in
@@ -97,10 +99,12 @@ module _ (pack : Pack) (log log′ : Log) (book book′ : Book) (runs runs′ : 
         behind = omega (arith, l .behind, h .further);
         there =
             subst (λ q. followed pack log′ (a .id) q (l .turns) ≡ some (at (a .course) (a .step))) (sym (h .request-is))
-            (follow-stays log log′ (a .id) (codeOf pack (l .run .request)) (l .run .request) (l .turns) (at (a .course) (a .step)) (k .1) (l .there));
+            (follow-stays log log′ (a .id) (codeOf pack (l .run .request)) (l .run .request) (l .turns) (at (a .course) (a .step)) (k .1)
+            (l .there));
       }
 
-  pub slots-stay : (t : Tallies) (slots : ℕ → Option Agent) → ((slot : ℕ) (a : Agent) → slots slot ≡ some a → Remains log log′ book book′ (a .id)) →
+  pub slots-stay : (t : Tallies) (slots : ℕ → Option Agent) →
+      ((slot : ℕ) (a : Agent) → slots slot ≡ some a → Remains log log′ book book′ (a .id)) →
       Slots pack log book runs t slots → Slots pack log′ book′ runs′ t slots
   slots-stay t slots g h slot a e = live-stays (t slot) a (g slot a e) (h slot a e)
 

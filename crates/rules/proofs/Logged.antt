@@ -43,7 +43,8 @@ module _ (log : Log) (id : ℕ) (code : Code) (q : Request) where
       go (inr h) rec = rec h
 
   -- and back, where the moves are enough
-  ends-from : (ahead n k : ℕ) (v : Result) → follow log id code q (n + k) ≡ some (finished v) → k ≤ ahead → replyFrom log id code ahead (follow log id code q n) ≡ some v
+  ends-from : (ahead n k : ℕ) (v : Result) → follow log id code q (n + k) ≡ some (finished v) → k ≤ ahead →
+      replyFrom log id code ahead (follow log id code q n) ≡ some v
   unfolding replyFrom follow
   ends-from zero n zero v e l = rw (ap (follow log id code q) (sym (add-zero n)) ∙ e) refl
   ends-from zero n (suc k) v e l = absurd (omega arith)
@@ -53,7 +54,8 @@ module _ (log : Log) (id : ℕ) (code : Code) (q : Request) where
       let rec = ends-from ahead (suc n) k v (ap (follow log id code q) (suc-add n k ∙ sym (add-suc n k)) ∙ e) (omega arith) in
       go (b .0) (b .1) (b .2) rec
     where
-      go : (c : Course) (t : ℕ) → follow log id code q n ≡ some (at c t) → replyFrom log id code ahead (follow log id code q (suc n)) ≡ some v →
+      go : (c : Course) (t : ℕ) → follow log id code q n ≡ some (at c t) →
+          replyFrom log id code ahead (follow log id code q (suc n)) ≡ some v →
           replyOr (follow log id code q n) (replyFrom log id code ahead (onward log id code (follow log id code q n))) ≡ some v
       go c t h r = ap (λ o. replyOr o (replyFrom log id code ahead (onward log id code (follow log id code q n)))) h ∙ r
 
@@ -103,15 +105,18 @@ module _ (log : Log) (id : ℕ) (code : Code) (q : Request) where
   reply-ends v e = from-ends (length code) 0 v e
 
 -- what is worked out from the log stays while the log grows
-pub ends-stay : (log log′ : Log) (id : ℕ) (code : Code) (q : Request) (v : Result) → Grows log log′ id → Ends log id code q v → Ends log′ id code q v
+pub ends-stay : (log log′ : Log) (id : ℕ) (code : Code) (q : Request) (v : Result) → Grows log log′ id → Ends log id code q v →
+    Ends log′ id code q v
 ends-stay log log′ id code q v g e = (e .0, follow-stays log log′ id code q (e .0) (finished v) g (e .1))
 
 -- of a booked request
-pub logged-ends : (pack : Pack) (log : Log) (id : ℕ) (q : Request) (v : Result) → replyLogged pack log id (some q) ≡ some v → Ends log id (codeOf pack q) q v
+pub logged-ends : (pack : Pack) (log : Log) (id : ℕ) (q : Request) (v : Result) → replyLogged pack log id (some q) ≡ some v →
+    Ends log id (codeOf pack q) q v
 unfolding replyLogged
 logged-ends pack log id q v e = reply-ends log id (codeOf pack q) q v e
 
-pub ends-logged : (pack : Pack) (log : Log) (id : ℕ) (q : Request) (v : Result) → Checked (codeOf pack q) → Ends log id (codeOf pack q) q v →
+pub ends-logged : (pack : Pack) (log : Log) (id : ℕ) (q : Request) (v : Result) → Checked (codeOf pack q) →
+    Ends log id (codeOf pack q) q v →
     replyLogged pack log id (some q) ≡ some v
 unfolding replyLogged
 ends-logged pack log id q v checked e = reply-within log id (codeOf pack q) q checked v e

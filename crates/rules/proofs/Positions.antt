@@ -9,7 +9,8 @@ use Prim.Native.Nat.{ℕ, zero, suc, _+_, _-_, _≤_, _<_}
 use native.Mathlib.Nat.{not-suc-le-zero, suc-add, zero-add}
 use native.Mathlib.Omega.{arith}
 use lib.ListN.{length, drop, length-drop}
-use Rattle.rules.specs.Instructions.{Code, Place, Instruction, BEGIN, Act, moves, opens, closes, reads, puts, returns, act, actAt, instructionAt}
+use Rattle.rules.specs.Instructions.{Code, Place, Instruction, BEGIN, Act, moves, opens, closes, reads, puts, returns, act, actAt}
+use Rattle.rules.specs.Instructions.{instructionAt}
 use Rattle.rules.specs.Shapes.{Side, outside, inside, shape}
 use Rattle.rules.specs.Blocks.{closing, isEnd, throughEnd, behindEnd, afterBlock, Result, yields}
 use Rattle.rules.specs.Courses.{Course, going, passed, Next, goes, does, says, nextBy, nextOf}
@@ -129,7 +130,8 @@ module _ (code : Code) (checked : Checked code) where
           let r = checked .last-returns (suc i + ahead) e in
           let ends = own-side (suc i + ahead) (omega (arith, e)) outside (ap (λ x. shape x .stands) (r .1)) in
           let opened =
-          ap (λ w. sideFrom w (drop (suc i) code) ahead) (sym (begins-inside i p h b .1)) ∙ sym (side-drop outside code (suc i) ahead) ∙ ends in
+          ap (λ w. sideFrom w (drop (suc i) code) ahead) (sym (begins-inside i p h b .1)) ∙ sym (side-drop outside code (suc i) ahead)
+          ∙ ends in
           let d = length-drop (suc i) code in
           let c = open-through (drop (suc i) code) ahead (omega (arith, d, e)) opened in (
             omega (arith, d, e),
@@ -197,7 +199,8 @@ module _ (code : Code) (checked : Checked code) where
     goes-forward c′ e = goes-by (c .place) in-code side c′ _ (agrees (instructionAt code (c .place .position)) (c .place)) e
 
     -- and so does a block, whatever its result
-    pub does-forward : (from : Place) (p : ℕ) (onto : Result → Course) → nextOf code c ≡ does from p onto → (r : Result) → Forward c (onto r)
+    pub does-forward : (from : Place) (p : ℕ) (onto : Result → Course) → nextOf code c ≡ does from p onto → (r : Result) →
+        Forward c (onto r)
     unfolding nextOf actAt
     does-forward from p onto e r =
         does-by (c .place) in-code side from p onto _ (agrees (instructionAt code (c .place .position)) (c .place)) e r
@@ -216,7 +219,8 @@ module _ (code : Code) (checked : Checked code) where
 
   -- A request under way after n moves stands at n or further, in its code and outside a block, at a step no further than its position.
   pub follow-position : (log : Log) (id : ℕ) (q : Request) (n : ℕ) (c : Course) (t : ℕ) → follow log id code q n ≡ some (at c t) →
-      (n ≤ c .place .position) × (c .place .position < length code) × (sideAt code (c .place .position) ≡ outside) × (t ≤ c .place .position)
+      (n ≤ c .place .position) × (c .place .position < length code) × (sideAt code (c .place .position) ≡ outside)
+      × (t ≤ c .place .position)
   unfolding follow
   follow-position log id q zero c t e =
       let w : start q ≡ c = cc in

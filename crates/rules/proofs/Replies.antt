@@ -21,7 +21,8 @@ pub reply-more : (id : ℕ) (v : Result) (l : List Reply) (x : Reply) → replyT
 reply-more id v [] x e = none-some v refl e
 reply-more id v (r ∷ l) x e = go (eqb id (r .id)) e (reply-more id v l x)
   where
-    go : (b : Bool) → if_then_else_ b (some (r .value)) (replyTo id l) ≡ some v → (replyTo id l ≡ some v → replyTo id (l ++ x ∷ []) ≡ some v) →
+    go : (b : Bool) → if_then_else_ b (some (r .value)) (replyTo id l) ≡ some v →
+        (replyTo id l ≡ some v → replyTo id (l ++ x ∷ []) ≡ some v) →
         if_then_else_ b (some (r .value)) (replyTo id (l ++ x ∷ [])) ≡ some v
     go true h rec = h
     go false h rec = rec h

@@ -46,7 +46,8 @@ invariant pack room [] =
       slots = λ slot a e. none-some a refl e;
     }
 invariant pack room (c ∷ before) =
-    call-keeps pack (stateAfter pack room before) (machineAfter pack room before) (talliesAfter pack room before) (repliesAfter pack room before)
+    call-keeps pack (stateAfter pack room before) (machineAfter pack room before) (talliesAfter pack room before)
+    (repliesAfter pack room before)
     (invariant pack room before) c .kept
 
 -- An accepted turn is one of an agent, and the last that its workflow's size allows is a reply.
@@ -102,7 +103,8 @@ module _ (pack : Pack) (checked : CheckedPack pack) (room : ℕ) (calls : Histor
       held none e u q = false-true refl u
       held (some a) e u q =
           live-in-time a e (invariant pack room calls .slots slot a e)
-          (ap (λ (o : Option No). unless o s (rule pack s (turn slot)) .answer) q ∙ ap (λ (o : Option Agent). turnIn pack s slot o .answer) e) allow
+          (ap (λ (o : Option No). unless o s (rule pack s (turn slot)) .answer) q
+          ∙ ap (λ (o : Option Agent). turnIn pack s slot o .answer) e) allow
 
       go : (o : Option No) → refusal pack s (turn slot) ≡ o → InTime pack room calls slot
       go none q = held (s .slots slot) refl (ask-none _ _ _ (ask-none _ _ _ q .1) .0) q
@@ -116,7 +118,8 @@ module _ (pack : Pack) (room : ℕ) (calls : History) where
   pub replies-are : firstReplies (repliesAfter pack room calls) ≡ machineAfter pack room calls .replies
   replies-are = invariant pack room calls .core .firsts
 
-  pub equal-are : (r r′ : Reply) → List·Memᴰ r (repliesAfter pack room calls) → List·Memᴰ r′ (repliesAfter pack room calls) → r .id ≡ r′ .id → r .value ≡ r′ .value
+  pub equal-are : (r r′ : Reply) → List·Memᴰ r (repliesAfter pack room calls) → List·Memᴰ r′ (repliesAfter pack room calls) →
+      r .id ≡ r′ .id → r .value ≡ r′ .value
   equal-are r r′ h h′ e =
       let m = machineAfter pack room calls in
       let inv = invariant pack room calls in
@@ -137,14 +140,16 @@ pub demand3 : Demand3
 demand3 pack checked room calls = plain-run pack checked room (reverse calls)
 
 -- A reply that was given can be worked out from the log, as long as its request is in the book: the log leads through to it.
-pub replied-logged : (pack : Pack) → CheckedPack pack → (room : ℕ) (calls : History) (r : Reply) → List·Memᴰ r (repliesAfter pack room calls) →
+pub replied-logged : (pack : Pack) → CheckedPack pack → (room : ℕ) (calls : History) (r : Reply) →
+    List·Memᴰ r (repliesAfter pack room calls) →
     (q : Request) → stateAfter pack room calls .store .book (r .id) ≡ some q →
     replyLogged pack (stateAfter pack room calls .store .log) (r .id) (some q) ≡ some (r .value)
 replied-logged pack checked room calls r h q e =
     let inv = invariant pack room calls in
     let g = inv .core .counterpart (r .id) q e in
     subst (λ x. replyLogged pack (stateAfter pack room calls .store .log) (r .id) (some x) ≡ some (r .value)) (g .request-is)
-    (go (g .run) (subst (λ (x : Request). Checked (codeOf pack x)) (sym (g .request-is)) (checked (q .workflow) (inv .core .valid (r .id) q e))) (g .progress)
+    (go (g .run) (subst (λ (x : Request). Checked (codeOf pack x)) (sym (g .request-is))
+    (checked (q .workflow) (inv .core .valid (r .id) q e))) (g .progress)
     (inv .core .settled r h))
   where
     go : (run : Run) → Checked (codeOf pack (run .request)) →
@@ -156,7 +161,8 @@ replied-logged pack checked room calls r h q e =
         ends-logged pack (stateAfter pack room calls .store .log) (r .id) (run .request) v c (run .moveCount, f) ∙ sym given′ ∙ given
 
 -- booked workflows are below m
-pub booked-below : (pack : Pack) (room : ℕ) (calls : History) (id : ℕ) (q : Request) → stateAfter pack room calls .store .book id ≡ some q → q .workflow < length pack
+pub booked-below : (pack : Pack) (room : ℕ) (calls : History) (id : ℕ) (q : Request) →
+    stateAfter pack room calls .store .book id ≡ some q → q .workflow < length pack
 booked-below pack room calls id q e = invariant pack room calls .core .valid id q e
 
 -- Question 14 never says no: after each list of calls, each slot is empty or holds a sound agent.
@@ -166,6 +172,8 @@ sound-agents pack checked room calls slot a e =
     let inv = invariant pack room calls in
     let live = inv .slots slot a e in
     let book = live .book-is in
-    let p = follow-position (codeOf pack (live .run .request)) (checked (live .run .request .workflow) (inv .core .valid (a .id) (live .run .request) book))
+    let p =
+    follow-position (codeOf pack (live .run .request))
+    (checked (live .run .request .workflow) (inv .core .valid (a .id) (live .run .request) book))
     (stateAfter pack room calls .store .log) (a .id) (live .run .request) (live .turns) (a .course) (a .step) (live .there) in
     record { request = live .run .request; booked = book; below = p .1; side = p .2; steps = p .3 }

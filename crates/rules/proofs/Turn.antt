@@ -15,16 +15,19 @@ use Rattle.rules.specs.Questions.{No}
 use Rattle.rules.specs.Store.{Request, Log, Store, found, withRow, written}
 use Rattle.rules.specs.Logged.{codeOf, Stage, at, finished, behind}
 use Rattle.rules.specs.Calls.{codeBy, Agent, State, Outcome, unless, withSlot, throughBlock, turnOn, turnIn, turn}
-use Rattle.rules.specs.Plain.{Reply, Run, Machine, Tally, Tallies, answered, firstReplies, accepted, withAnswer, ahead, moveOn, move, fed, fedTurn, fedRun, tallied, oneMore}
+use Rattle.rules.specs.Plain.{Reply, Run, Machine, Tally, Tallies, answered, firstReplies, accepted, withAnswer, ahead, moveOn}
+use Rattle.rules.specs.Plain.{move, fed, fedTurn, fedRun, tallied, oneMore}
 use Rattle.rules.proofs.Updates.{none-some, false-true, le-cases, T-true, eqb-cases, update-same}
-use Rattle.rules.proofs.Follow.{Free, Same, same-here, Grows, same-grows, free-none, row-grows, row-elsewhere, row-later, row-here, follow-stays, follow-below, follow-next}
+use Rattle.rules.proofs.Follow.{Free, Same, same-here, Grows, same-grows, free-none, row-grows, row-elsewhere, row-later, row-here}
+use Rattle.rules.proofs.Follow.{follow-stays, follow-below, follow-next}
 use Rattle.rules.proofs.Replies.{replyTo, reply-more, reply-other, reply-new, answered-by, answered-first}
 use Rattle.rules.proofs.Invariant.{followed, Progress, underway, over, Live, Inv, Remains, slots-stay, slots-set}
 use Rattle.rules.proofs.Core.{come, come-to, run-ahead, core-moved}
 
 -- the invariant after a call with this outcome, which fed the machine to become m′ and the tallies t′ if it was accepted
 pub record Keeps (pack : Pack) (m m′ : Machine) (t t′ : Tallies) (rs : List Reply) (o : Outcome) : Type 0 where
-  pub kept : Inv pack (o .state) (if_then_else_ (accepted (o .answer)) m′ m) (if_then_else_ (accepted (o .answer)) t′ t) (withAnswer (o .answer) rs)
+  pub kept : Inv pack (o .state) (if_then_else_ (accepted (o .answer)) m′ m) (if_then_else_ (accepted (o .answer)) t′ t)
+      (withAnswer (o .answer) rs)
 
 -- questions: where one says no, nothing has changed
 pub unless-keeps : {pack : Pack} {m m′ : Machine} {t t′ : Tallies} {rs : List Reply} (no : Option No) {s : State} {o : Outcome} →
@@ -96,7 +99,8 @@ module _
                 behind = omega (arith, moved-is);
                 there =
                     subst (λ j. followed pack (s′ .log) j (r₁ .request) (suc (r .moveCount)) ≡ some (at (a .course) (a .step))) (sym (h .0))
-                    (subst (λ q. followed pack (s′ .log) id q (suc (r .moveCount)) ≡ some (at (a .course) (a .step))) (sym request-is) (h .1));
+                    (subst (λ q. followed pack (s′ .log) id q (suc (r .moveCount)) ≡ some (at (a .course) (a .step))) (sym request-is)
+                    (h .1));
               });
         }
       where
@@ -114,7 +118,8 @@ module _
             go (inr h) = same-grows (s .store .log) (s′ .log) j (λ p u. elsewhere p j u (h .0))
 
     -- one instruction outside a block
-    front-moves : (to : Course) → nextOf code (r .course) ≡ goes to → followed pack (s .store .log) id (r .request) (suc (r .moveCount)) ≡ some (at to step) →
+    front-moves : (to : Course) → nextOf code (r .course) ≡ goes to →
+        followed pack (s .store .log) id (r .request) (suc (r .moveCount)) ≡ some (at to step) →
         Inv pack (withSlot s slot (some (record { id = id; course = to; step = step })))
         (record { tables = m .tables; runs = ahead m id r to; replies = m .replies })
         (update t slot (tallyOf id (suc (r .moveCount)))) rs
@@ -123,7 +128,8 @@ module _
         (some (record { id = id; course = to; step = step })) (m .tables) (m .replies) refl refl
         (λ p u v e. e) (λ p j u n. same-here (s .store .log) p j u) (inv .core .tables) refl
         (underway step f none-from no-reply) (λ j n. refl) (inv .core .settled) (inv .core .firsts)
-        (λ a e. subst (λ (x : Agent). (x .id ≡ id) × (followed pack (s .store .log) id (r .request) (suc (r .moveCount)) ≡ some (at (x .course) (x .step))))
+        (λ a e. subst (λ (x : Agent). (x .id ≡ id) ×
+        (followed pack (s .store .log) id (r .request) (suc (r .moveCount)) ≡ some (at (x .course) (x .step))))
         (Option·some-injective (record { id = id; course = to; step = step }) a e) (refl, f))
 
     not-yet : answered id rs ≡ false
@@ -146,7 +152,8 @@ module _
         (update t slot (tallyOf id (suc (r .moveCount)))) (record { id = id; value = v } ∷ rs)
     unfolding firstReplies
     front-returns v f =
-        front (s .store) (record { id = id; value = v } ∷ rs) r₁ none (m .tables) (m .replies ++ record { id = id; value = v } ∷ []) refl refl
+        front (s .store) (record { id = id; value = v } ∷ rs) r₁ none (m .tables) (m .replies ++ record { id = id; value = v } ∷ [])
+        refl refl
         (λ p u v e. e) (λ p j u n. same-here (s .store .log) p j u) (inv .core .tables) refl
         (over v f new) (λ j n. reply-other j (m .replies) (record { id = id; value = v }) n) (λ w h. go w (List·Memᴰ·cases-cons h))
         (rw not-yet (ap (λ l. l ++ record { id = id; value = v } ∷ []) (inv .core .firsts)))
@@ -178,7 +185,8 @@ module _
         grows (row-elsewhere (s .store .log) p id step (b .result)) refl refl
         (underway (suc step) f (λ p′ u l. row-later (s .store .log) p id step (b .result) p′ u l (none-from p′ u (omega arith))) no-reply)
         (λ j n. refl) (inv .core .settled) (inv .core .firsts)
-        (λ a e. subst (λ (x : Agent). (x .id ≡ id) × (followed pack log′ id (r .request) (suc (r .moveCount)) ≡ some (at (x .course) (x .step))))
+        (λ a e. subst (λ (x : Agent). (x .id ≡ id) ×
+        (followed pack log′ id (r .request) (suc (r .moveCount)) ≡ some (at (x .course) (x .step))))
         (Option·some-injective (record { id = id; course = to; step = suc step }) a e) (refl, f))
       where
         to : Course
@@ -213,13 +221,17 @@ module _
         }
 
     -- by what its log row says: there is none
-    front-does : (from : Place) (p : ℕ) (onto : Result → Course) → nextOf code (r .course) ≡ does from p onto → (o : Option Result) → o ≡ none →
+    front-does : (from : Place) (p : ℕ) (onto : Result → Course) → nextOf code (r .course) ≡ does from p onto → (o : Option Result) →
+        o ≡ none →
         (T : ℕ → Table) → s .store .rows ≡ T →
-        Keeps pack m (blockDone from p onto T) t (update t slot (tallyOf id (suc (r .moveCount)))) rs (throughBlock s slot agent code from p onto o)
+        Keeps pack m (blockDone from p onto T) t (update t slot (tallyOf id (suc (r .moveCount)))) rs
+        (throughBlock s slot agent code from p onto o)
     unfolding throughBlock
     front-does from p onto e o no-row T same =
-        subst (λ (x : Option Result). Keeps pack m (blockDone from p onto T) t counted rs (throughBlock s slot agent code from p onto x)) (sym no-row)
-        (subst (λ (x : ℕ → Table). Keeps pack m (blockDone from p onto x) t counted rs (throughBlock s slot agent code from p onto none)) same
+        subst (λ (x : Option Result). Keeps pack m (blockDone from p onto T) t counted rs (throughBlock s slot agent code from p onto x))
+        (sym no-row)
+        (subst (λ (x : ℕ → Table). Keeps pack m (blockDone from p onto x) t counted rs
+        (throughBlock s slot agent code from p onto none)) same
         (record { kept = front-block from p onto (runBlock code from (s .store .rows p)) e }))
       where
         counted : Tallies
@@ -274,7 +286,8 @@ module _
         }
 
     -- a reply is the end of the request, so that the machine has given it
-    ended : (v : Result) → followed pack (s .store .log) (a .id) (r .request) (suc k) ≡ some (finished v) → replyTo (a .id) (m .replies) ≡ some v
+    ended : (v : Result) → followed pack (s .store .log) (a .id) (r .request) (suc k) ≡ some (finished v) →
+        replyTo (a .id) (m .replies) ≡ some v
     ended v f = go (le-cases (suc k) (r .moveCount) less) progress
       where
         go : (suc k ≡ r .moveCount) ⊎ (suc k < r .moveCount) → Progress pack (s .store .log) (m .replies) (a .id) r →
@@ -289,7 +302,8 @@ module _
             ap (followed pack (s .store .log) (a .id) (r .request)) (sym e) ∙ f in
             absurd (let z : _≡_ {A = ℕ} 0 1 = cc in omega arith)
         go (inr l) _ =
-            let b = follow-below (s .store .log) (a .id) (codeOf pack (r .request)) (r .request) (r .moveCount) (in-all .0) (suc k) l (in-all .1) in
+            let b =
+            follow-below (s .store .log) (a .id) (codeOf pack (r .request)) (r .request) (r .moveCount) (in-all .0) (suc k) l (in-all .1) in
             let b₂ = b .2 in
             absurd (let z : _≡_ {A = ℕ} 0 1 = cc in omega arith)
 
@@ -379,9 +393,11 @@ module _
     progress : Progress pack (s .store .log) (m .replies) (a .id) r
     progress =
         let g = inv .core .counterpart (a .id) (r .request) (live .book-is) in
-        subst (λ (x : Run). Progress pack (s .store .log) (m .replies) (a .id) x) (Option·some-injective (g .run) r (sym (g .run-is) ∙ live .run-is)) (g .progress)
+        subst (λ (x : Run). Progress pack (s .store .log) (m .replies) (a .id) x)
+        (Option·some-injective (g .run) r (sym (g .run-is) ∙ live .run-is)) (g .progress)
 
-    pub outcome-is : turnIn pack s slot (some a) ≡ turnOn s slot a (codeOf pack (r .request)) (nextOf (codeOf pack (r .request)) (a .course))
+    pub outcome-is : turnIn pack s slot (some a)
+        ≡ turnOn s slot a (codeOf pack (r .request)) (nextOf (codeOf pack (r .request)) (a .course))
     unfolding turnIn
     outcome-is = ap (λ (q : Option Request). turnOn s slot a (codeBy pack q) (nextOf (codeBy pack q) (a .course))) (live .book-is)
 
@@ -402,12 +418,14 @@ module _
         ap (followed pack (s .store .log) (a .id) (r .request)) (sym e) ∙ live .there in
         absurd (let z : _≡_ {A = ℕ} 0 1 = cc in omega arith)
     front-turn e (underway step f none-from no-reply) =
-        keeps-by pack m (fed pack m t (turn slot)) (move pack m (a .id) r) t (tallied t (turn slot)) (update t slot (tallyOf (a .id) (suc (r .moveCount)))) rs
+        keeps-by pack m (fed pack m t (turn slot)) (move pack m (a .id) r) t (tallied t (turn slot))
+        (update t slot (tallyOf (a .id) (suc (r .moveCount)))) rs
         (turnIn pack s slot (some a)) (turnOn s slot stands (codeOf pack (r .request)) (nextOf (codeOf pack (r .request)) (r .course)))
         (fed-is ∙ ap (λ b. if_then_else_ b (move pack m (a .id) r) m) (ltb-yes (r .moveCount) (suc k) (omega arith)))
         (tallied-is ∙ ap (λ n. update t slot (tallyOf (a .id) (suc n))) e)
         (outcome-is ∙ ap (λ (x : Agent). turnOn s slot x (codeOf pack (r .request)) (nextOf (codeOf pack (r .request)) (x .course))) same)
-        (front-keeps pack s m t rs inv slot (a .id) r step (live .run-is) f none-from no-reply (live .book-is) (nextOf (codeOf pack (r .request)) (r .course)) refl)
+        (front-keeps pack s m t rs inv slot (a .id) r step (live .run-is) f none-from no-reply (live .book-is)
+        (nextOf (codeOf pack (r .request)) (r .course)) refl)
       where
         there : followed pack (s .store .log) (a .id) (r .request) (r .moveCount) ≡ some (at (a .course) (a .step))
         there = ap (followed pack (s .store .log) (a .id) (r .request)) (sym e) ∙ live .there
@@ -431,19 +449,23 @@ module _
         (turnIn pack s slot (some a)) (turnOn s slot a (codeOf pack (r .request)) (nextOf (codeOf pack (r .request)) (a .course)))
         (fed-is ∙ ap (λ b. if_then_else_ b (move pack m (a .id) r) m) (ltb-no (r .moveCount) (suc k) l))
         tallied-is outcome-is
-        (back-keeps pack s m t rs inv slot a r k (live .run-is) (live .book-is) progress l (live .there) (nextOf (codeOf pack (r .request)) (a .course)) refl)
+        (back-keeps pack s m t rs inv slot a r k (live .run-is) (live .book-is) progress l (live .there)
+        (nextOf (codeOf pack (r .request)) (a .course)) refl)
 
     pub live-turn : Keeps pack m (fed pack m t (turn slot)) t (tallied t (turn slot)) rs (turnIn pack s slot (some a))
     live-turn = go (le-cases k (r .moveCount) (live .behind))
       where
-        go : (k ≡ r .moveCount) ⊎ (k < r .moveCount) → Keeps pack m (fed pack m t (turn slot)) t (tallied t (turn slot)) rs (turnIn pack s slot (some a))
+        go : (k ≡ r .moveCount) ⊎ (k < r .moveCount) →
+            Keeps pack m (fed pack m t (turn slot)) t (tallied t (turn slot)) rs (turnIn pack s slot (some a))
         go (inl e) = front-turn e progress
         go (inr l) = back-turn l
 
-pub turn-keeps : (pack : Pack) (s : State) (m : Machine) (t : Tallies) (rs : List Reply) → Inv pack s m t rs → (slot : ℕ) → isSome (s .slots slot) ≡ true →
+pub turn-keeps : (pack : Pack) (s : State) (m : Machine) (t : Tallies) (rs : List Reply) → Inv pack s m t rs → (slot : ℕ) →
+    isSome (s .slots slot) ≡ true →
     Keeps pack m (fed pack m t (turn slot)) t (tallied t (turn slot)) rs (turnIn pack s slot (s .slots slot))
 turn-keeps pack s m t rs inv slot used = go (s .slots slot) refl used
   where
-    go : (o : Option Agent) → s .slots slot ≡ o → isSome o ≡ true → Keeps pack m (fed pack m t (turn slot)) t (tallied t (turn slot)) rs (turnIn pack s slot o)
+    go : (o : Option Agent) → s .slots slot ≡ o → isSome o ≡ true →
+        Keeps pack m (fed pack m t (turn slot)) t (tallied t (turn slot)) rs (turnIn pack s slot o)
     go none e u = false-true refl u
     go (some a) e u = live-turn pack s m t rs inv slot a (inv .slots slot a e)

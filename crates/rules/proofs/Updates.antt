@@ -3,7 +3,7 @@ use mathlib.Core.Bool.{Bool, true, false}
 use mathlib.Core.Path.{_≡_, refl, sym, _∙_, ap}
 use mathlib.Core.Logic.{_⊎_, inl, inr}
 use mathlib.Core.Option.{Option, none, some}
-use Prim.Native.Nat.{ℕ, suc, _≤_, _<_}
+use Prim.Native.Nat.{ℕ, _≤_, _<_}
 use native.Mathlib.Omega.{arith}
 use lib.Dec.{T, eqb, ltb, eqb→eq, eqb-refl, ltb→lt, nltb→le}
 use Rattle.rules.specs.Basics.{if_then_else_, update}
@@ -98,26 +98,6 @@ module _ (log : (partition id step : ℕ) → Option ℕ) (p id t v : ℕ) where
       go (inr h) b c = inr (ap (λ f. f id′ t′) (h .1))
       go (inl h) (inr i) c = inr (ap (λ f. f id′ t′) (h .1) ∙ ap (λ f. f t′) (i .1) ∙ ap (λ r. log r id′ t′) (sym (h .0)))
       go (inl h) (inl i) (inr j) =
-          inr (ap (λ f. f id′ t′) (h .1) ∙ ap (λ f. f t′) (i .1) ∙ j .1 ∙ ap (λ r. log p r t′) (sym (i .0)) ∙ ap (λ r. log r id′ t′) (sym (h .0)))
+          inr (ap (λ f. f id′ t′) (h .1) ∙ ap (λ f. f t′) (i .1) ∙ j .1 ∙ ap (λ r. log p r t′) (sym (i .0))
+          ∙ ap (λ r. log r id′ t′) (sym (h .0)))
       go (inl h) (inl i) (inl j) = inl (h .0, i .0, j .0)
-
-  pub logged-grows : log p id t ≡ none → (p′ id′ t′ w : ℕ) → log p′ id′ t′ ≡ some w → logged log p id t v p′ id′ t′ ≡ some w
-  logged-grows free p′ id′ t′ w e = go (logged-cases p′ id′ t′)
-    where
-      go : ((p′ ≡ p) × (id′ ≡ id) × (t′ ≡ t)) ⊎ (logged log p id t v p′ id′ t′ ≡ log p′ id′ t′) → logged log p id t v p′ id′ t′ ≡ some w
-      go (inl h) = none-some w free (ap (λ x. log x id t) (sym (h .0)) ∙ ap (λ x. log p′ x t) (sym (h .1)) ∙ ap (λ x. log p′ id′ x) (sym (h .2)) ∙ e)
-      go (inr h) = h ∙ e
-
-  pub logged-elsewhere : (p′ id′ t′ : ℕ) → (id′ ≡ id → ⊥) → logged log p id t v p′ id′ t′ ≡ log p′ id′ t′
-  logged-elsewhere p′ id′ t′ n = go (logged-cases p′ id′ t′)
-    where
-      go : ((p′ ≡ p) × (id′ ≡ id) × (t′ ≡ t)) ⊎ (logged log p id t v p′ id′ t′ ≡ log p′ id′ t′) → logged log p id t v p′ id′ t′ ≡ log p′ id′ t′
-      go (inl h) = absurd (n (h .1))
-      go (inr h) = h
-
-  pub logged-later : (p′ t′ : ℕ) → suc t ≤ t′ → log p′ id t′ ≡ none → logged log p id t v p′ id t′ ≡ none
-  logged-later p′ t′ l e = go (logged-cases p′ id t′)
-    where
-      go : ((p′ ≡ p) × (id ≡ id) × (t′ ≡ t)) ⊎ (logged log p id t v p′ id t′ ≡ log p′ id t′) → logged log p id t v p′ id t′ ≡ none
-      go (inl h) = absurd (let h₂ = h .2 in omega arith)
-      go (inr h) = h ∙ e

@@ -9,7 +9,8 @@ use Rattle.rules.specs.Blocks.{Result, yields, within, runFrom, runBlock
 use Rattle.rules.specs.Courses.{passed, nextBy, nextOf}
 use Rattle.rules.specs.Store.{Store, withRow}
 use Rattle.rules.specs.Logged.{behind, replyFrom, replyLogged}
-use Rattle.rules.specs.Calls.{arrival, retry, turn, crash, Answer, done, moved, reply, refused, History, refusal, canTurn, canDo, canWrite, unless, rule, arrive, again, throughBlock, turnOn, turnIn, call, stateAfter, answerTo}
+use Rattle.rules.specs.Calls.{arrival, retry, turn, crash, Answer, done, moved, reply, refused, History, refusal, canTurn, canDo}
+use Rattle.rules.specs.Calls.{canWrite, unless, rule, arrive, again, throughBlock, turnOn, turnIn, call, stateAfter, answerTo}
 use Rattle.rules.specs.Plain.{oneMore, tallied, fedArrival, fedRun, fedTurn, fed, moveOn, move, talliesAfter, machineAfter}
 
 -- MOVE takes the amount in register 2 from the key in register 0 of partition 0, and adds it to the key in register 1 of partition 1.
@@ -61,7 +62,8 @@ loggedBy calls =
 
 -- what the program prints for it, with the machine's reply beside
 pub record WholeCase : Type 0 where
-  pub all-answers : answers (MOVE ∷ []) 5 ten ≡ refused (number 19) ∷ reply 7 (yields 30) ∷ moved ∷ moved ∷ moved ∷ done ∷ done ∷ moved ∷ moved ∷ done ∷ []
+  pub all-answers : answers (MOVE ∷ []) 5 ten ≡ refused (number 19) ∷ reply 7 (yields 30)
+      ∷ moved ∷ moved ∷ moved ∷ done ∷ done ∷ moved ∷ moved ∷ done ∷ []
   pub row-0 : after .rows 0 100 ≡ some 4294967266
   pub log-0 : after .log .usual 0 7 0 ≡ some 4294967266
   pub row-1 : after .rows 1 200 ≡ some 30

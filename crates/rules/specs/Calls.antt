@@ -128,7 +128,8 @@ movesTo s slot a to t = gives moved (withSlot s slot (some (record { id = a .id;
 
 -- A block first seeks its log row (id, step) in its own partition. If found, no row changes and what is logged is the result. If not,
 -- the block runs, and data rows and log row are written together. Either way step rises by 1.
-unfoldable pub throughBlock : State → (slot : ℕ) → Agent → Code → (begin : Place) (partition : ℕ) (onto : Result → Course) → (log : Option Result) → Outcome
+unfoldable pub throughBlock : State → (slot : ℕ) → Agent → Code → (begin : Place) (partition : ℕ) (onto : Result → Course) →
+    (log : Option Result) → Outcome
 throughBlock s slot a code from p onto (some r) = movesTo s slot a (onto r) (suc (a .step))
 throughBlock s slot a code from p onto none =
     let b = runBlock code from (s .store .rows p) in

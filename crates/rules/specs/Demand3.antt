@@ -28,7 +28,8 @@ pub record InTime (pack : Pack) (room : ℕ) (calls : History) (slot : ℕ) : Ty
 -- What holds after the calls.
 pub record PlainRun (pack : Pack) (room : ℕ) (calls : History) : Type 0 where
   -- each partition's data rows have exactly the data keys and values of the machine's table for it
-  pub rows : (partition key : ℕ) → stateAfter pack room calls .store .rows partition key ≡ machineAfter pack room calls .tables partition key
+  pub rows : (partition key : ℕ) →
+      stateAfter pack room calls .store .rows partition key ≡ machineAfter pack room calls .tables partition key
   -- the first replies in order are the machine's replies
   pub replies : firstReplies (repliesAfter pack room calls) ≡ machineAfter pack room calls .replies
   -- each later reply to an id is equal to the first: all replies to one id are equal

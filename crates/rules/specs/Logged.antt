@@ -41,8 +41,8 @@ onward log id code none = none
 onward log id code (some (at c t)) = byNext log id t (nextOf code c)
 onward log id code (some (finished r)) = none
 
--- How far its log leads a request: where it stands after so many moves, each block among them taken from its log row; none where a row
--- isn't there.
+-- How far its log leads a request: where it stands after so many moves, each block among them taken from its log row; none behind a row
+-- that isn't there, and behind the reply.
 unfoldable pub follow : Log → (id : ℕ) → Code → Request → (moves : ℕ) → Option Stage
 follow log id code q zero = some (at (start q) 0)
 follow log id code q (suc n) = onward log id code (follow log id code q n)

@@ -9,7 +9,9 @@ use Rattle.rules.specs.Instructions.{Code, Pack}
 use Rattle.rules.specs.Blocks.{Table, Result, runBlock}
 use Rattle.rules.specs.Courses.{Course, Next, goes, does, says, nextOf}
 use Rattle.rules.specs.Store.{Request}
-use Rattle.rules.specs.Calls.{codeOf, start, Call, arrival, retry, turn, crash, restart, stopped, Answer, done, moved, reply, refused, History, answerTo}
+use Rattle.rules.specs.Logged.{codeOf, start}
+use Rattle.rules.specs.Calls.{Call, arrival, retry, turn, crash, restart, stopped, History, answerTo}
+use Rattle.rules.specs.Calls.{Answer, done, moved, reply, refused}
 
 -- a reply: id and value
 pub record Reply : Type 0 where

@@ -66,9 +66,11 @@ module _ (pack store : List ℕ) (a : Agent) (h : a .id < 2 ^ 32) (t : Turnable 
       unbooked : lookup (bookKey (a .id) 0) (bookRows store) ≡ none → isSound pack a (bookOf (valueIn (bookRows store)) (a .id)) ≡ false
       unbooked e =
           unfold isSound in
-          ap (isSound pack a) (book-row (bookRows store) (a .id) h ∙ ap (λ o. requestOf o (argumentsOf (valueIn (bookRows store)) (a .id))) e)
+          ap (isSound pack a)
+          (book-row (bookRows store) (a .id) h ∙ ap (λ o. requestOf o (argumentsOf (valueIn (bookRows store)) (a .id))) e)
 
-      go : (o : Option ℕ) → lookup (bookKey (a .id) 0) (bookRows store) ≡ o → lookup (bookKey (a .id) 0) (bookRows store) ≡ some (workflowIn store (a .id))
+      go : (o : Option ℕ) → lookup (bookKey (a .id) 0) (bookRows store) ≡ o →
+          lookup (bookKey (a .id) 0) (bookRows store) ≡ some (workflowIn store (a .id))
       go none e = false-true (unbooked e) (t .sound)
       go (some v) e = e ∙ ap some (sym (ap (λ (o : Option ℕ). Option·getD o 0) e))
 
@@ -101,7 +103,8 @@ module _ (pack store : List ℕ) (a : Agent) (h : a .id < 2 ^ 32) (t : Turnable 
   pub below : w < count pack
   below = workflow-below pack store (a .id) w (booked-of-13 pack store (t .right)) booked-row
 
-  meant : (a .position < length (Calls.codeOf (packOf pack) request)) × (sideAt (Calls.codeOf (packOf pack) request) (a .position) ≡ outside) × (a .step ≤ a .position)
+  meant : (a .position < length (Calls.codeOf (packOf pack) request))
+      × (sideAt (Calls.codeOf (packOf pack) request) (a .position) ≡ outside) × (a .step ≤ a .position)
   meant = sound-meant pack (t .accepted) w below a request refl (subst (λ (o : Option Request). isSound pack a o ≡ true) booked (t .sound))
 
   pub in-size : a .position < sizeOf pack w
@@ -111,7 +114,8 @@ module _ (pack store : List ℕ) (a : Agent) (h : a .id < 2 ^ 32) (t : Turnable 
   in-ops = omega (arith, in-size, length-operations pack (accepted-laid pack (t .accepted)) w below)
 
   pub short-ops : length ops ≤ 256
-  short-ops = omega (arith, accepted-laid pack (t .accepted) .sizes w below .1, length-operations pack (accepted-laid pack (t .accepted)) w below)
+  short-ops =
+      omega (arith, accepted-laid pack (t .accepted) .sizes w below .1, length-operations pack (accepted-laid pack (t .accepted)) w below)
 
   pub few-steps : a .step ≤ a .position
   few-steps = meant .2
@@ -144,16 +148,20 @@ module _ (pack store : List ℕ) (a : Agent) (h : a .id < 2 ^ 32) (t : Turnable 
   unfolding contentsOf
   code-by = ap (codeBy (packOf pack)) booked ∙ code-is
 
+  -- its store beside any agents
+  abbrev beside : (ℕ → Option Calls.Agent) → Calls.State
+  beside slots = record { store = contentsOf (storeOf store); slots = slots }
+
   module _ (x : Next) (e : nextOf code (going at) ≡ x) where
     pub turn-is : (slots : ℕ → Option Calls.Agent) (slot : ℕ) →
-        turnIn (packOf pack) (record { store = contentsOf (storeOf store); slots = slots }) slot (some (held a))
-        ≡ turnOn (record { store = contentsOf (storeOf store); slots = slots }) slot (held a) code x
+        turnIn (packOf pack) (beside slots) slot (some (held a)) ≡ turnOn (beside slots) slot (held a) code x
     unfolding Calls.turnIn
     turn-is slots slot =
-        ap (λ (c : Code). turnOn (record { store = contentsOf (storeOf store); slots = slots }) slot (held a) c (nextOf c (going at))) code-by
-        ∙ ap (turnOn (record { store = contentsOf (storeOf store); slots = slots }) slot (held a) code) e
+        ap (λ (c : Code). turnOn (beside slots) slot (held a) c (nextOf c (going at))) code-by
+        ∙ ap (turnOn (beside slots) slot (held a) code) e
 
-    pub can-is : canTurn (packOf pack) (contentsOf (storeOf store)) (some (held a)) ≡ canDo (contentsOf (storeOf store)) (a .id) (a .step) code x
+    pub can-is : canTurn (packOf pack) (contentsOf (storeOf store)) (some (held a))
+        ≡ canDo (contentsOf (storeOf store)) (a .id) (a .step) code x
     unfolding Calls.canTurn
     can-is =
         ap (λ (c : Code). canDo (contentsOf (storeOf store)) (a .id) (a .step) c (nextOf c (going at))) code-by

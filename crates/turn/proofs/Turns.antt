@@ -46,7 +46,8 @@ use Rattle.meaning.proofs.Sense.{begin-below}
 use Rattle.meaning.proofs.Carry.{wrote-nothing}
 use Rattle.turn.specs.declared.Turned.{Turned}
 use Rattle.turn.specs.Turned.{Turnable, movedTo, replied, behindBlock, TurnedBy}
-use Rattle.turn.proofs.Standing.{below, in-size, in-ops, short-ops, few-steps, stands-outside, fits-16, turn-is, can-is, w, ops, ws, code, at, spot}
+use Rattle.turn.proofs.Standing.{below, in-size, in-ops, short-ops, few-steps, stands-outside, fits-16, turn-is, can-is, w, ops}
+use Rattle.turn.proofs.Standing.{ws, code, at, spot}
 
 -- how the book's rows are read
 abbrev book : List Row → (id : ℕ) → Option Request
@@ -73,7 +74,8 @@ module _ (pack store : List ℕ) (a : Agent) (h : a .id < 2 ^ 32) (t : Turnable 
   unfolding Calls.canDo Calls.turnOn answerOf agentOf
   is-move r to e p =
       subst (λ (z : Turned). TurnedBy pack store a z store) (sym p)
-      (unwritten (movedTo a to (a .step)) (inl refl) (can-is pack store a h t (goes (going to)) e) (turn-is pack store a h t (goes (going to)) e))
+      (unwritten (movedTo a to (a .step)) (inl refl) (can-is pack store a h t (goes (going to)) e)
+      (turn-is pack store a h t (goes (going to)) e))
 
   module _ (begin : Place) (p : ℕ)
       (e : nextOf (code pack store a h t) (going (at pack store a h t)) ≡ does begin p (passed (code pack store a h t) begin)) where
@@ -92,7 +94,8 @@ module _ (pack store : List ℕ) (a : Agent) (h : a .id < 2 ^ 32) (t : Turnable 
     partition-below =
         begin-below pack (t .accepted) (w pack store a h t) (below pack store a h t) store (t .right) (begin .position) p
         (subst (λ (x : Place). x .position < sizeOf pack (w pack store a h t)) (sym stands-there) (in-size pack store a h t))
-        (ap (λ (c : Code). instructionAt c (begin .position)) (workflow-at pack (w pack store a h t) (below pack store a h t)) ∙ begins-there)
+        (ap (λ (c : Code). instructionAt c (begin .position)) (workflow-at pack (w pack store a h t) (below pack store a h t))
+        ∙ begins-there)
 
     pub ready : Ready (ops pack store a h t) (ws pack store a h t) store p (begin .position)
     ready =
@@ -101,7 +104,9 @@ module _ (pack store : List ℕ) (a : Agent) (h : a .id < 2 ^ 32) (t : Turnable 
           sound = store-ok store (t .stored) .0;
           below = partition-below;
           in-code = begin-in;
-          begins = decoded-begin _ _ _ p (sym (instruction-at (ops pack store a h t) (ws pack store a h t) (begin .position) begin-in) ∙ begins-there) .0;
+          begins =
+              decoded-begin _ _ _ p (sym (instruction-at (ops pack store a h t) (ws pack store a h t) (begin .position) begin-in)
+              ∙ begins-there) .0;
         }
 
     module _ (store′ : List ℕ) (b : BlockOutcome) (r : Turned)
@@ -140,7 +145,8 @@ module _ (pack store : List ℕ) (a : Agent) (h : a .id < 2 ^ 32) (t : Turnable 
             sound =
                 λ n.
                 let f = store-ok store n in
-                store-passes store′ (y .sound (f .0)) (subst (λ (rows : List Row). bookOk (keysIn rows) ≡ true) (sym (y .book-rows)) (f .1));
+                store-passes store′ (y .sound (f .0))
+                (subst (λ (rows : List Row). bookOk (keysIn rows) ≡ true) (sym (y .book-rows)) (f .1));
             holds = refl;
             bytes = same-bytes book store store′ p lies (held a) (code pack store a h t) begin onto b logs through;
           }
@@ -159,7 +165,9 @@ module _ (pack store : List ℕ) (a : Agent) (h : a .id < 2 ^ 32) (t : Turnable 
                 turned =
                     λ y slots slot.
                     turn-is pack store a h t (does begin p onto) e slots slot
-                    ∙ ap (λ o. throughBlock (record { store = s; slots = slots }) slot (held a) (code pack store a h t) begin p onto (sought o)) log-is
+                    ∙ ap
+                    (λ o. throughBlock (record { store = s; slots = slots }) slot (held a) (code pack store a h t) begin p onto (sought o))
+                    log-is
                     ∙ passes-block book store store′ p lies (held a) (code pack store a h t) begin onto b logs through slots slot v f;
               })
           go NoRoom f =
@@ -173,8 +181,8 @@ module _ (pack store : List ℕ) (a : Agent) (h : a .id < 2 ^ 32) (t : Turnable 
 
 -- ── with what the code has in hand ──
 
-module _ (pack store : List ℕ) (a : Agent) (h : a .id < 2 ^ 32) (t : Turnable pack store a) (ops′ ws′ : List ℕ) (eops : ops′ ≡ ops pack store a h t)
-    (ews : ws′ ≡ ws pack store a h t) where
+module _ (pack store : List ℕ) (a : Agent) (h : a .id < 2 ^ 32) (t : Turnable pack store a) (ops′ ws′ : List ℕ)
+    (eops : ops′ ≡ ops pack store a h t) (ews : ws′ ≡ ws pack store a h t) where
   same-code : codeOf ops′ ws′ ≡ code pack store a h t
   same-code = λ i. codeOf (eops i) (ews i)
 
@@ -188,7 +196,8 @@ module _ (pack store : List ℕ) (a : Agent) (h : a .id < 2 ^ 32) (t : Turnable 
     abbrev place : Place
     place = placeOf (u .place)
 
-    answered : (n : Next) → u .next ≡ n → nextOf (code pack store a h t) (going (at pack store a h t)) ≡ nextAt (code pack store a h t) place n
+    answered : (n : Next) → u .next ≡ n →
+        nextOf (code pack store a h t) (going (at pack store a h t)) ≡ nextAt (code pack store a h t) place n
     answered n f =
         sym (subst (λ (c : Code). nextIn c u ≡ nextOf c (going (at pack store a h t))) same-code e)
         ∙ ap (nextAt (code pack store a h t) place) f
@@ -223,6 +232,7 @@ module _ (pack store : List ℕ) (a : Agent) (h : a .id < 2 ^ 32) (t : Turnable 
       does-block store′ b r g q =
           is-block pack store a h t place p (answered (Does p) f) store′ b r
           (subst
-          (λ (c : Code). Through store store′ p (a .id) (a .step) (runBlock c place (tableIn (rowsOf store p))) b (logIn (rowsOf store p) (a .id) (a .step)))
+          (λ (c : Code). Through store store′ p (a .id) (a .step) (runBlock c place (tableIn (rowsOf store p))) b
+          (logIn (rowsOf store p) (a .id) (a .step)))
           same-code g)
           (q ∙ ap (λ (c : Code). behindBlock c a place b) same-code)

@@ -54,10 +54,11 @@ abbrev pub behindBlock : Code → Agent → (begin : Place) → BlockOutcome →
 behindBlock code a begin (Result v) = movedTo a (passed code begin (yields v) .place) (suc (a .step))
 behindBlock code a begin NoRoom = record { answer = Refused 21 0 0; agent = a }
 
--- A turn of agent a gave r and left store′: refused by 21, agent and bytes are as they were; else answer and agent are those of the rule, in any slot
--- and beside any other agents, and the store holds the rule's rows.
+-- A turn of agent a gave r and left store′: refused by 21, agent and bytes are as they were; else answer and agent are those of the rule,
+-- in any slot and beside any other agents, and the store holds the rule's rows.
 pub record TurnedBy (pack store : List ℕ) (a : Agent) (r : Turned) (store′ : List ℕ) : Type 0 where
-  pub refused : canTurn (packOf pack) (contentsOf (storeOf store)) (some (held a)) ≡ false → (r ≡ record { answer = Refused 21 0 0; agent = a }) × (store′ ≡ store)
+  pub refused : canTurn (packOf pack) (contentsOf (storeOf store)) (some (held a)) ≡ false →
+      (r ≡ record { answer = Refused 21 0 0; agent = a }) × (store′ ≡ store)
   pub whole : Whole (r .agent)
   pub written : Wrote store store′ (contentsOf (storeOf store′))
   pub turned : canTurn (packOf pack) (contentsOf (storeOf store)) (some (held a)) ≡ true →

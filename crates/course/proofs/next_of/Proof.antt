@@ -26,15 +26,18 @@ next-of-spec =
     (λ c.
     let r = c .before .before .before in
     let s = r .before .before .before .before .before in
-    opens-block _ _ (s .args .t3) (s .pre) _ _ (r .before .operation-of .ensures) (r .register-of .ensures) _ (c .before .word-in .ensures) (c .if2 .taken))
+    opens-block _ _ (s .args .t3) (s .pre) _ _ (r .before .operation-of .ensures) (r .register-of .ensures) _
+    (c .before .word-in .ensures) (c .if2 .taken))
     (λ c κs.
     let r = c .before .before .before in
     let s = r .before .before .before .before .before in
-    let m = may-move _ _ (s .args .t3) (s .pre) _ _ (r .before .operation-of .ensures) (r .register-of .ensures) _ (c .before .word-in .ensures)
+    let m =
+    may-move _ _ (s .args .t3) (s .pre) _ _ (r .before .operation-of .ensures) (r .register-of .ensures) _ (c .before .word-in .ensures)
     (c .before .before .if1 .left) (c .if2 .left) in
     (m .0, search needs, search needs, m .1))
     (λ c.
     let r = c .before .before .before .before in
     let s = r .before .before .before .before .before in
-    moves-on _ _ (s .args .t3) (s .pre) _ _ (r .before .operation-of .ensures) (r .register-of .ensures) _ (c .before .before .word-in .ensures)
+    moves-on _ _ (s .args .t3) (s .pre) _ _ (r .before .operation-of .ensures) (r .register-of .ensures) _
+    (c .before .before .word-in .ensures)
     (c .moved .result) (c .moved .ensures)))

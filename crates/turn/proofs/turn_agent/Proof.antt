@@ -23,7 +23,8 @@ under c =
 -- its operation bytes and its operand bytes
 ops-are : (c : tie.After-operands-part) →
     let s = c .before .before .before .before .before .before in
-    c .before .operations-part .result .now ≡ ops (s .args .pack .now) (s .args .store .now) (s .args .a) (small (c .before .before .before)) (s .pre)
+    c .before .operations-part .result .now ≡ ops (s .args .pack .now) (s .args .store .now) (s .args .a)
+    (small (c .before .before .before)) (s .pre)
 ops-are c =
     let s = c .before .before .before .before .before .before in
     c .before .operations-part .ensures ∙ ap (operationsOf (s .args .pack .now)) (c .before .before .workflow-of .ensures)
@@ -52,20 +53,23 @@ turn-agent-spec =
     let n = c .before .before .before in
     let o = n .before .before .before in
     let s = o .before .before .before .before .before .before in
-    may-go _ _ (s .args .a) (small (o .before .before .before)) (s .pre) _ _ (ops-are o) (words-are o) (n .next-of .result) (n .next-of .ensures) (c .enum-told .given .1))
+    may-go _ _ (s .args .a) (small (o .before .before .before)) (s .pre) _ _ (ops-are o) (words-are o) (n .next-of .result)
+    (n .next-of .ensures) (c .enum-told .given .1))
     (λ c. search needs)
     (λ c κs.
     let x = c .before .before .before in
     let n = x .before .before .before in
     let o = n .before .before .before in
     let s = o .before .before .before .before .before .before in
-    may-run _ _ (s .args .a) (small (o .before .before .before)) (s .pre) _ _ (ops-are o) (words-are o) (n .next-of .result) (n .next-of .ensures) _ (x .next .given .1))
+    may-run _ _ (s .args .a) (small (o .before .before .before)) (s .pre) _ _ (ops-are o) (words-are o) (n .next-of .result)
+    (n .next-of .ensures) _ (x .next .given .1))
     (λ c κs.
     let x = c .before .before .before .before .before .before in
     let n = x .before .before .before in
     let o = n .before .before .before in
     let s = o .before .before .before .before .before .before in
-    may-leave _ _ (s .args .a) (small (o .before .before .before)) (s .pre) _ _ (ops-are o) (words-are o) (n .next-of .result) (n .next-of .ensures) _ (x .next .given .1))
+    may-leave _ _ (s .args .a) (small (o .before .before .before)) (s .pre) _ _ (ops-are o) (words-are o) (n .next-of .result)
+    (n .next-of .ensures) _ (x .next .given .1))
     (λ c. search needs)
     (λ c κs. search needs)
     (λ c. search needs)
@@ -74,7 +78,8 @@ turn-agent-spec =
     let n = x .before .before .before in
     let o = n .before .before .before in
     let s = o .before .before .before .before .before .before in
-    goes-on _ _ (s .args .a) (small (o .before .before .before)) (s .pre) _ _ (ops-are o) (words-are o) (n .next-of .result) (n .next-of .ensures) (x .enum-told .given .1) _ (c .stand-at .ensures))
+    goes-on _ _ (s .args .a) (small (o .before .before .before)) (s .pre) _ _ (ops-are o) (words-are o) (n .next-of .result)
+    (n .next-of .ensures) (x .enum-told .given .1) _ (c .stand-at .ensures))
     (λ c. search needs)
     (λ c.
     let g = c .before .before .before in
@@ -82,7 +87,8 @@ turn-agent-spec =
     let n = x .before .before .before in
     let o = n .before .before .before in
     let s = o .before .before .before .before .before .before in
-    does-block _ _ (s .args .a) (small (o .before .before .before)) (s .pre) _ _ (ops-are o) (words-are o) (n .next-of .result) (n .next-of .ensures) _ (x .next .given .1)
+    does-block _ _ (s .args .a) (small (o .before .before .before)) (s .pre) _ _ (ops-are o) (words-are o) (n .next-of .result)
+    (n .next-of .ensures) _ (x .next .given .1)
     _ _ _ (g .through-block .ensures) (c .leave-block .ensures _))
     (λ c. search needs)
     (λ c.
@@ -90,4 +96,5 @@ turn-agent-spec =
     let n = x .before .before .before in
     let o = n .before .before .before in
     let s = o .before .before .before .before .before .before in
-    replies _ _ (s .args .a) (small (o .before .before .before)) (s .pre) _ _ (ops-are o) (words-are o) (n .next-of .result) (n .next-of .ensures) _ (x .next2 .given .1) _ (c .reply .ensures)))
+    replies _ _ (s .args .a) (small (o .before .before .before)) (s .pre) _ _ (ops-are o) (words-are o) (n .next-of .result)
+    (n .next-of .ensures) _ (x .next2 .given .1) _ (c .reply .ensures)))
