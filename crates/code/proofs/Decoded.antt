@@ -50,21 +50,23 @@ module _ {A : Type 0} (f : ℕ → A) where
   pub getD-listOf : (n k : ℕ) (d : A) → k < n → getD (listOf f n 0) k d ≡ f k
   getD-listOf n k d h = listed n 0 k d h ∙ ap f (zero-add k)
 
--- to show something of each of the twelve operations
-pub by-operation : (P : ℕ → Type 0) → P 0 → P 1 → P 2 → P 3 → P 4 → P 5 → P 6 → P 7 → P 8 → P 9 → P 10 → P 11 → (op : ℕ) → op < 12 → P op
-by-operation P a b c d e f g h i j k l zero q = a
-by-operation P a b c d e f g h i j k l (suc zero) q = b
-by-operation P a b c d e f g h i j k l (suc (suc zero)) q = c
-by-operation P a b c d e f g h i j k l (suc (suc (suc zero))) q = d
-by-operation P a b c d e f g h i j k l (suc (suc (suc (suc zero)))) q = e
-by-operation P a b c d e f g h i j k l (suc (suc (suc (suc (suc zero))))) q = f
-by-operation P a b c d e f g h i j k l (suc (suc (suc (suc (suc (suc zero)))))) q = g
-by-operation P a b c d e f g h i j k l (suc (suc (suc (suc (suc (suc (suc zero))))))) q = h
-by-operation P a b c d e f g h i j k l (suc (suc (suc (suc (suc (suc (suc (suc zero)))))))) q = i
-by-operation P a b c d e f g h i j k l (suc (suc (suc (suc (suc (suc (suc (suc (suc zero))))))))) q = j
-by-operation P a b c d e f g h i j k l (suc (suc (suc (suc (suc (suc (suc (suc (suc (suc zero)))))))))) q = k
-by-operation P a b c d e f g h i j k l (suc (suc (suc (suc (suc (suc (suc (suc (suc (suc (suc zero))))))))))) q = l
-by-operation P a b c d e f g h i j k l (suc (suc (suc (suc (suc (suc (suc (suc (suc (suc (suc (suc n)))))))))))) q = absurd (omega arith)
+-- something holds of each of the n numbers from i on
+abbrev pub All : (P : ℕ → Type 0) → (n i : ℕ) → Type 0
+All P zero i = Unit {0}
+All P (suc n) i = P i × All P n (suc i)
+
+infixr 3 _also_
+abbrev pub _also_ : {A B : Type 0} → A → B → A × B
+x also y = (x, y)
+
+all-at : (P : ℕ → Type 0) (n i : ℕ) → All P n i → (k : ℕ) → k < n → P (i + k)
+all-at P zero i a k h = absurd (not-suc-le-zero h)
+all-at P (suc n) i a zero h = subst P (sym (add-zero i)) (a .0)
+all-at P (suc n) i a (suc k) h = subst P (suc-add i k ∙ sym (add-suc i k)) (all-at P n (suc i) (a .1) k (le-of-suc-le-suc h))
+
+-- to show something of each of the twelve operations: a line for each
+pub by-operation : (P : ℕ → Type 0) → All P 12 0 → (op : ℕ) → op < 12 → P op
+by-operation P a op h = subst P (zero-add op) (all-at P 12 0 a op h)
 
 abbrev pub sideFor : Bool → Side
 sideFor true = inside
@@ -96,18 +98,19 @@ module _ (d w : ℕ) where
   unfolding decode sideOf operandOf
   decoded-shape =
       by-operation Decoded
-      (refl, refl, refl)
-      (refl, refl, refl)
-      (refl, refl, refl)
-      (refl, refl, refl)
-      (refl, refl, refl)
-      (refl, refl, refl)
-      (refl, refl, refl)
-      (refl, refl, refl)
-      (refl, refl, refl)
-      (refl, refl, refl)
-      (refl, refl, refl)
-      (refl, refl, refl)
+      ((refl, refl, refl)
+      also (refl, refl, refl)
+      also (refl, refl, refl)
+      also (refl, refl, refl)
+      also (refl, refl, refl)
+      also (refl, refl, refl)
+      also (refl, refl, refl)
+      also (refl, refl, refl)
+      also (refl, refl, refl)
+      also (refl, refl, refl)
+      also (refl, refl, refl)
+      also (refl, refl, refl)
+      also tt)
 
   -- of any number: past B it reads as RETURN
   pub decoded-behind : (op : ℕ) → shape (decode op d w) .behind ≡ behindOf op
@@ -303,18 +306,19 @@ module _ (d size i w : ℕ) (h : d < 8) where
   unfolding decode operandOf inRange
   bounded-all =
       by-operation InBounds
-      (λ r. h)
-      (λ r. (h, ltb-true w 8 r))
-      (λ r. (h, ltb-true w 8 r))
-      (λ r. (h, ltb-true w 8 r))
-      jump-bounded
-      jump-bounded
-      (λ r. ltb-true w 8 r)
-      (λ r. h)
-      (λ r. (h, ltb-true w 8 r))
-      (λ r. (h, ltb-true w 8 r))
-      (λ r. (h, ltb-true w 8 r))
-      (λ r. h)
+      ((λ r. h)
+      also (λ r. (h, ltb-true w 8 r))
+      also (λ r. (h, ltb-true w 8 r))
+      also (λ r. (h, ltb-true w 8 r))
+      also jump-bounded
+      also jump-bounded
+      also (λ r. ltb-true w 8 r)
+      also (λ r. h)
+      also (λ r. (h, ltb-true w 8 r))
+      also (λ r. (h, ltb-true w 8 r))
+      also (λ r. (h, ltb-true w 8 r))
+      also (λ r. h)
+      also tt)
 
 module _ (w : ℕ) (ops ws : List ℕ) (e : codeNo w ops ws ≡ none) where
   pub bounded-at : (i : ℕ) → i < length ops → Bounded (instructionAt (codeOf ops ws) i)

@@ -17,10 +17,10 @@ use Rattle.code.proofs.Right.{on-registers}
 use Rattle.instruction.specs.declared.Spot.{Spot}
 use Rattle.instruction.specs.Step.{placeOf, Sourced}
 use Rattle.instruction.proofs.Sourced.{sourced-at}
-use Rattle.course.specs.Next.{Outside}
+use Rattle.course.specs.Next.{StandsOutside}
 
 -- `from` is where the agent stands, op and d are the operation and the register of its instruction
-module _ (ops ws : List ℕ) (from : Spot) (on : Outside ops ws from) (op d : ℕ) (eo : op ≡ operationAt ops (from .position))
+module _ (ops ws : List ℕ) (from : Spot) (on : StandsOutside ops ws from) (op d : ℕ) (eo : op ≡ operationAt ops (from .position))
     (ed : d ≡ registerAt ops (from .position)) where
   -- what its instruction asks for
   asks : (w : ℕ) → w ≡ wordAt ws (from .position) → (y : Act) → act (decode op d w) (placeOf from) ≡ y →

@@ -26,7 +26,7 @@ abbrev pub nextIn : Code → Upcoming → Rules.Next
 nextIn code u = nextAt code (placeOf (u .place)) (u .next)
 
 -- an agent stands in a workflow that is right, and outside a block
-pub record Outside (ops ws : List ℕ) (from : Spot) : Type 0 where
+pub record StandsOutside (ops ws : List ℕ) (from : Spot) : Type 0 where
   pub right : Right ops ws
   pub in-code : from .position < length ops
   pub outside : insideAt ops (from .position) ≡ false

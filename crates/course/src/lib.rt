@@ -7,7 +7,7 @@ ghost use Rattle.rules.specs.Blocks.{yields, behindEnd};
 ghost use Rattle.rules.specs.Courses.{going, passed, nextOf};
 ghost use Rattle.code.specs.Meaning.{codeOf};
 ghost use Rattle.instruction.specs.Step.{placeOf};
-ghost use Rattle.course.specs.Next.{nextIn, Outside};
+ghost use Rattle.course.specs.Next.{nextIn, StandsOutside};
 use instruction::Spot;
 
 // It stands elsewhere, after one instruction; it does a block of this partition; or it replies with this value.
@@ -25,7 +25,7 @@ pub struct Upcoming {
 
 // What the agent that stands at `from` does next, by its instruction.
 pub fn next_of(ops: &[u8], operands: &[u8], from: Spot) -> Upcoming
-    requires { ⌜ Outside (now ops) (now operands) from ⌝ }
+    requires { ⌜ StandsOutside (now ops) (now operands) from ⌝ }
     ensures { λ r. ⌜ nextIn (codeOf (now (ops .entry)) (now (operands .entry))) r
         ≡ nextOf (codeOf (now (ops .entry)) (now (operands .entry))) (going (placeOf from)) ⌝ }
 {

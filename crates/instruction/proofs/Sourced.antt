@@ -16,7 +16,7 @@ use Rattle.code.specs.Layout.{operationAt, wordAt}
 use Rattle.code.specs.Questions.{inRange}
 use Rattle.code.specs.Questions as Questions
 use Rattle.code.specs.Right.{Right}
-use Rattle.code.proofs.Decoded.{by-operation}
+use Rattle.code.proofs.Decoded.{by-operation, _also_}
 use Rattle.code.proofs.Right.{known-at, ranged-at}
 use Rattle.instruction.specs.Step.{Sourced}
 
@@ -25,18 +25,19 @@ sourced : (op size i w : ℕ) → op < 12 → inRange (operandOf op) size i w �
 unfolding Operations.operandOf Questions.inRange
 sourced op size i w h r =
     by-operation (λ (n : ℕ). inRange (operandOf n) size i w ≡ true → Sourced n w)
-    (λ e n. absurd (n refl))
-    below8
-    below8
-    below8
-    (λ e n. low e)
-    (λ e n. low e)
-    below8
-    (λ e n. let l = eqb-true w 0 e in omega arith)
-    below8
-    below8
-    below8
-    (λ e n. let l = eqb-true w 0 e in omega arith)
+    ((λ e n. absurd (n refl))
+    also below8
+    also below8
+    also below8
+    also (λ e n. low e)
+    also (λ e n. low e)
+    also below8
+    also (λ e n. let l = eqb-true w 0 e in omega arith)
+    also below8
+    also below8
+    also below8
+    also (λ e n. let l = eqb-true w 0 e in omega arith)
+    also tt)
     op h r
   where
     below8 : {n : ℕ} → ltb w 8 ≡ true → (n ≡ 0 → ⊥) → w ≡ w % 8

@@ -30,7 +30,7 @@ use Rattle.pack.proofs.Sizes.{length-operations}
 use Rattle.pack.proofs.Laws.{workflow-at, accepted-laid, accepted-right, length-workflow}
 use Rattle.store.specs.Rows.{lookup, storeOf}
 use Rattle.instruction.specs.declared.Spot.{Spot}
-use Rattle.course.specs.Next.{Outside}
+use Rattle.course.specs.Next.{StandsOutside}
 use Rattle.agents.specs.declared.Agent.{Agent}
 use Rattle.agents.specs.Slots.{held}
 use Rattle.meaning.specs.State.{contentsOf, valueIn, argumentsOf, requestOf, bookOf}
@@ -129,7 +129,7 @@ module _ (pack store : List ℕ) (a : Agent) (h : a .id < 2 ^ 32) (t : Turnable 
   right : Right ops ws
   right = accepted-right pack (t .accepted) w below
 
-  pub stands-outside : Outside ops ws spot
+  pub stands-outside : StandsOutside ops ws spot
   stands-outside = record { right = right; in-code = in-ops; outside = outside-at ops ws right (a .position) in-ops side }
 
   checked : Checked code

@@ -34,7 +34,7 @@ use Rattle.instruction.specs.Step.{placeOf}
 use Rattle.course.specs.declared.Next.{Next}
 use Rattle.course.specs.declared.Next.the-variants.{Goes, Does, Says}
 use Rattle.course.specs.declared.Upcoming.{Upcoming}
-use Rattle.course.specs.Next.{nextAt, nextIn, Outside}
+use Rattle.course.specs.Next.{nextAt, nextIn, StandsOutside}
 use Rattle.block.specs.declared.write.BlockOutcome.{BlockOutcome}
 use Rattle.block.specs.declared.write.BlockOutcome.the-variants.{Result, NoRoom}
 use Rattle.block.specs.Through.{tableIn, logIn, Ready, blockAt, Through}
@@ -186,10 +186,10 @@ module _ (pack store : List ℕ) (a : Agent) (h : a .id < 2 ^ 32) (t : Turnable 
   same-code : codeOf ops′ ws′ ≡ code pack store a h t
   same-code = λ i. codeOf (eops i) (ews i)
 
-  pub may-ask : Outside ops′ ws′ (spot pack store a h t)
+  pub may-ask : StandsOutside ops′ ws′ (spot pack store a h t)
   may-ask =
-      subst (λ (x : List ℕ). Outside x ws′ (spot pack store a h t)) (sym eops)
-      (subst (λ (x : List ℕ). Outside (ops pack store a h t) x (spot pack store a h t)) (sym ews) (stands-outside pack store a h t))
+      subst (λ (x : List ℕ). StandsOutside x ws′ (spot pack store a h t)) (sym eops)
+      (subst (λ (x : List ℕ). StandsOutside (ops pack store a h t) x (spot pack store a h t)) (sym ews) (stands-outside pack store a h t))
 
   -- the code's answer to what the agent does next
   module _ (u : Upcoming) (e : nextIn (codeOf ops′ ws′) u ≡ nextOf (codeOf ops′ ws′) (going (placeOf (spot pack store a h t)))) where
