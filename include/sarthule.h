@@ -35,30 +35,8 @@
  * Where a call is refused, store and slots are byte for byte as they were. The last two numbers are this library's own;
  * `answer` is looked at first.
  *
- * Questions, in the order in which they are put. The first no is the number of the refusal:
- *
- *    1  Is there a count, 1 to 16?
- *    2  Are all sizes there, each 1 to 256, sum at most 2,048?
- *    3  Is the length 1 + 2m + 5T?
- *    4  Is the operation 0 to B and bit 3 clear?
- *    5  Are w (a jump's target included), and d where fixed, in range?
- *    6  Does it stand, and its jump land, on the right side?
- *    7  Is it at most the 16th PUT of its block?
- *    8  Is the last instruction RETURN?
- *    9  Are there three bytes, P 1 to 8, C 5 to 256?
- *   10  Is the store's length right?
- *   11  Is each used count at most C, each used key of a form of its partition and unlike the others there, each unused
- *       row zero?
- *   12  Has each booked id all five rows?
- *   13  Is each booked workflow below m, each BEGIN's partition below P?
- *   14  Is each slot empty or sound?
- *   15  Is the slot 0 to 7?
- *   16  Is it empty (arrival, retry) or in use (turn, crash)?
- *   17  Is the workflow below m (arrival, opening)?
- *   18  If the id is known, are workflow and arguments those booked (arrival)?
- *   19  If it is new, are five book rows free (arrival)?
- *   20  Is the id booked (retry)?
- *   21  Has a block that isn't logged enough free rows: one, plus one per different new key it PUTs (turn)?
+ * Questions. The first no is the number of the refusal; sarthule_question below has them, in the order in which they are
+ * put: 24 stands between 16 and 17.
  *
  * The check puts 1 to 8. Open puts 1 to 8 and 17. Create puts 9 and 10. Restart puts none. Every other call puts all of
  * them, save those marked for calls that it isn't.
@@ -94,6 +72,37 @@ static inline uint32_t sarthule_word(const uint8_t *bytes, size_t i)
         | (uint32_t)bytes[4 * i + 3] << 24;
 }
 
+/* The question of a refusal, by its number; an empty text for a number that no call here puts. */
+static inline const char *sarthule_question(uint32_t number)
+{
+    switch (number) {
+    case 1: return "Is there a count, 1 to 16?";
+    case 2: return "Are all sizes there, each 1 to 256, sum at most 2,048?";
+    case 3: return "Is the length 1 + 2m + 5T?";
+    case 4: return "Is the operation 0 to B and bit 3 clear?";
+    case 5: return "Are w (a jump's target included), and d where fixed, in range?";
+    case 6: return "Does it stand, and its jump land, on the right side?";
+    case 7: return "Is it at most the 16th PUT of its block?";
+    case 8: return "Is the last instruction RETURN?";
+    case 9: return "Are there three bytes, P 1 to 8, C 5 to 256?";
+    case 10: return "Is the store's length right?";
+    case 11: return "Is each used count at most C, each used key of a form of its partition and unlike the others there, "
+                    "each unused row zero?";
+    case 12: return "Has each booked id all five rows?";
+    case 13: return "Is each booked workflow below m, each BEGIN's partition below P?";
+    case 14: return "Is each slot empty or sound?";
+    case 15: return "Is the slot 0 to 7?";
+    case 16: return "Is it empty (arrival, retry) or in use (turn, crash)?";
+    case 24: return "Is the id other than 0 (arrival)?";
+    case 17: return "Is the workflow below m (arrival, opening)?";
+    case 18: return "If the id is known, are workflow and arguments those booked (arrival)?";
+    case 19: return "If it is new, are five book rows free (arrival)?";
+    case 20: return "Is the id booked (retry)?";
+    case 21: return "Has a block that isn't logged enough free rows: one, plus one per different new key it PUTs (turn)?";
+    default: return "";
+    }
+}
+
 /* Is this a pack that calls may be given? Done, or refused with 1 to 8. */
 uint32_t sarthule_check(const uint8_t *pack, size_t pack_len, uint8_t *answer, size_t answer_len);
 
@@ -113,7 +122,8 @@ uint32_t sarthule_create(uint8_t *store, size_t store_len, size_t partitions, si
 
 /*
  * A request arrives: a new id is booked, with its workflow and four arguments, and an agent is started in the slot, which
- * must be empty. A known id with the same workflow and arguments only starts an agent. Done, or refused.
+ * must be empty. A known id with the same workflow and arguments only starts an agent. Done, or refused. Id 0, which a
+ * handheld sends until it is paired, is never accepted: 24, also where an older store has it booked.
  */
 uint32_t sarthule_arrival(const uint8_t *pack, size_t pack_len, uint8_t *store, size_t store_len, uint8_t *slots,
     size_t slots_len, size_t slot, uint32_t id, uint32_t workflow, uint32_t argument0, uint32_t argument1,
@@ -121,7 +131,7 @@ uint32_t sarthule_arrival(const uint8_t *pack, size_t pack_len, uint8_t *store, 
 
 /*
  * Starts an agent for a booked id in the slot, which must be empty: after a crash, or to have a reply again. What it has
- * logged is not done a second time. Done, or refused.
+ * logged is not done a second time. Done, or refused. A 0 that an older store has booked is retried like any other id.
  */
 uint32_t sarthule_retry(const uint8_t *pack, size_t pack_len, const uint8_t *store, size_t store_len, uint8_t *slots,
     size_t slots_len, size_t slot, uint32_t id, uint8_t *answer, size_t answer_len);

@@ -1,7 +1,8 @@
-//! Generated single calls on any bytes, done by the library through its C interface and by the reference.
+//! Generated single calls and lists of calls on any bytes, done by the library through its C interface and by the reference.
 
 use crate::sides::{answer, bytes, Lent};
-use reference::cases::{self, CallCase, Case, Order, Performed};
+use reference::cases::{self, CallCase, Case, ListCase, Order, Performed};
+use reference::refusal::QUESTIONS;
 use reference::{generate, Store};
 
 /// How many cases a file has: as many as the gate's own file.
@@ -50,17 +51,44 @@ fn difference(case: &CallCase) -> Option<&'static str> {
     tests.iter().find(|(_, same)| !same).map(|(what, _)| *what)
 }
 
-/// Compares the single calls of so many generated files, and says how many they were or which is the first that differs.
+/// The same of a list of calls: the answer of each, and what the last one left.
+fn list_difference(list: &ListCase) -> Option<&'static str> {
+    let mut lent = Lent { pack: list.pack.clone(), store: list.store.clone(), slots: bytes(&list.slots) };
+    let found: Vec<_> = list.calls.iter().map(|call| lent.perform(call)).collect();
+    let expected = list.perform();
+    let tests = [
+        ("an answer", found == expected.outcomes.into_iter().map(answer).collect::<Vec<_>>()),
+        ("the rows", rows(&lent.store) == rows(&expected.store)),
+        ("the slots", lent.slots == bytes(&expected.slots)),
+        ("the pack", lent.pack == list.pack),
+    ];
+    tests.iter().find(|(_, same)| !same).map(|(what, _)| *what)
+}
+
+/// A number whose words differ between the two, if there is one. The library's own programs put neither 22 nor 23.
+fn other_words() -> Option<u32> {
+    let numbers = (1..).zip(QUESTIONS).filter(|(number, _)| ![22, 23].contains(number));
+    numbers.into_iter().find(|(number, words)| sarthule::question(*number) != *words).map(|(number, _)| number)
+}
+
+/// Compares the calls of so many generated files, single ones and lists, and says how many they were or which is the first that differs.
 pub fn compare(files: u64) -> Result<usize, String> {
+    if let Some(number) = other_words() {
+        return Err(format!("question {number} has other words"));
+    }
     let mut compared = 0;
     for seed in 1..=files {
         let cases = cases::read_all(&generate::file(seed, CASES));
         for (number, case) in cases.iter().enumerate() {
-            let Some(Case::Call(case)) = case else { continue };
-            if let Some(what) = difference(case) {
-                return Err(format!("seed {seed}, case {number}: {what} differs ({:?})", case.order));
+            let (what, calls) = match case {
+                Some(Case::Call(case)) => (difference(case), 1),
+                Some(Case::List(list)) => (list_difference(list), list.calls.len()),
+                _ => continue,
+            };
+            if let Some(what) = what {
+                return Err(format!("seed {seed}, case {number}: {what} differs ({case:?})"));
             }
-            compared += 1;
+            compared += calls;
         }
     }
     Ok(compared)

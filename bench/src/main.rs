@@ -3,7 +3,7 @@
 //!     bench                   times all cases: nanoseconds for each side, and the ratio
 //!     bench list              the cases' names
 //!     bench once CASE SIDE    does one case once, inside `bench_measured`: for counts of instructions
-//!     bench calls [FILES]     compares the single calls of generated files (25): no times
+//!     bench calls [FILES]     compares the calls of generated files (25), single and in lists: no times
 //!
 //! SIDE is `ours`, `reference`, or `pass`: one pass over all bytes that each call is lent, which adds their words up and is the limit
 //! that no check of them can go below. Each case is first done by both sides, and their answers and rows are compared. Times are

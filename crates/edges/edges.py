@@ -1,8 +1,8 @@
 #!/usr/bin/env python3
 """Writes `stdin` and `stdout` of the program edges.
 
-Each edge below is its words, a case, and the answer that document 01 gives to it, written by hand from the document and not from any
-program. The sections follow the questions.
+Each edge below is its words, a case, and the answer that documents 01 and 02 give to it, written by hand from the documents and not from
+any program. The sections follow the questions.
 """
 import os
 import struct
@@ -50,6 +50,12 @@ def call(code, words=(), pack=b"", store=b"", slots=None):
     return head + b"".join(struct.pack("<12I", *r) for r in records) + bytes([code]) + struct.pack("<7I", *words)
 
 
+def calls(pack, store, orders):
+    """A list of calls on a store without agents, each given what the one before left; an order is a call and its words."""
+    head = struct.pack("<BII", 2, len(pack), len(store)) + pack + store + bytes(384) + bytes([len(orders)])
+    return head + b"".join(bytes([code]) + struct.pack("<7I", *words, *[0] * (7 - len(words))) for code, words in orders)
+
+
 def schedule(pack, P, C, requests, kinds, indexes=None, more=b""):
     events = bytes(kinds)
     which = bytes(indexes if indexes is not None else [0] * len(kinds))
@@ -74,6 +80,8 @@ MOVE = pack([(0x14, 0), (0x60, 0), (0x85, 4), (0x35, 2), (0x94, 5), (0x75, 0), (
 SEVEN = [7, 0, 100, 200, 30, 0]
 EIGHT = [8, 0, 100, 200, 30, 0]
 BOOKED = [(7, 0, [100, 200, 30, 0])]
+# what a runtime before W-201 could book
+ZERO = [(0, 0, [100, 200, 30, 0])]
 # two PUTs to one key, register 1's
 TWICE = pack([BEGIN, PUT, PUT, END, RETURN])
 AT_TWICE = {0: agent(7, registers=[100, 200, 30, 0])}
@@ -200,6 +208,24 @@ log 1 7 1 30
     ("a crash of an agent", call(CRASH, [7], ONE, store(book=BOOKED), {7: agent(7)}), DONE),
     ("an arrival where an agent is", call(ARRIVAL, [0, 8, 0], ONE, store(book=BOOKED), {0: agent(7)}), refused(16)),
     ("a retry where an agent is", call(RETRY, [0, 7], ONE, store(book=BOOKED), {0: agent(7)}), refused(16)),
+    # 24, between 16 and 17
+    ("an arrival with id 0", call(ARRIVAL, [0, 0, 0], ONE, store()), refused(24)),
+    ("an arrival with id 1", call(ARRIVAL, [0, 1, 0], ONE, store()), DONE),
+    ("id 0 with workflow 9 of one", call(ARRIVAL, [0, 0, 9], ONE, store()), refused(24)),
+    ("a booked id 0, the same request", call(ARRIVAL, [0, 0, 0, 100, 200, 30, 0], ONE, store(book=ZERO)), refused(24)),
+    ("a booked id 0, another argument", call(ARRIVAL, [0, 0, 0, 100, 200, 31, 0], ONE, store(book=ZERO)), refused(24)),
+    ("id 0, four book rows free", call(ARRIVAL, [0, 0, 0], ONE, store(1, 9, book=BOOKED)), refused(24)),
+    ("id 0 where an agent is", call(ARRIVAL, [0, 0, 0], ONE, store(book=BOOKED), {0: agent(7)}), refused(16)),
+    ("id 0 in slot 8", call(ARRIVAL, [8, 0, 0], ONE, store()), refused(15)),
+    ("id 0 while another slot is wrong", call(ARRIVAL, [0, 0, 0], ONE, store(), {3: agent(7)}), refused(14)),
+    ("a retry of a booked id 0", call(RETRY, [0, 0], ONE, store(book=ZERO)), DONE),
+    ("a retry of id 0 that is not booked", call(RETRY, [0, 0], ONE, store(book=BOOKED)), refused(20)),
+    ("id 0 in an older book, retried up to its reply, and again", calls(MOVE, store(2, 5, book=ZERO), [
+        (RETRY, [0, 0]), (TURN, [0]), (TURN, [0]), (CRASH, [0]), (ARRIVAL, [1, 0, 0, 100, 200, 30, 0]), (RETRY, [1, 0]),
+        (TURN, [1]), (TURN, [1]), (TURN, [1]), (TURN, [1]), (RETRY, [2, 0]), (TURN, [2]), (TURN, [2]), (TURN, [2]), (TURN, [2]),
+    ]), DONE + MOVED + MOVED + DONE + refused(24) + DONE + MOVED * 3 + "answer reply 0 30\n" + DONE + MOVED * 3 + "answer reply 0 30\n"),
+    ("a schedule with id 0", schedule(MOVE, 2, 5, [[0, 0, 100, 200, 30, 0], SEVEN], [0x00, 0x30, 0x10, 0x00, 0x01], [0, 0, 0, 1, 0]),
+     "events 5\n0 refused 24\n1 refused 20\n2 refused 16\n3 done\n4 refused 24\n"),
     # 17
     ("an arrival for workflow 1 of one", call(ARRIVAL, [0, 7, 1], ONE, store()), refused(17)),
     # 18

@@ -1,10 +1,11 @@
 #!/usr/bin/env python3
 """Kills the C host at random places and holds what it leaves to the stock's sums.
 
-kill.py STOCK FILE [ROUNDS [SEED]]: moves of random amounts under ids 1, 2, ..; each is tried again under its id until the host
-ends by itself, and ROUNDS tries in all are killed: by SIGKILL after a random time, or by the host itself at a random place between
-two calls or two steps of a save (STOCK_DIES). After every kill the file must still be a right store; at the end each id must have
-been counted once, and the stock must add up.
+kill.py STOCK FILE [ROUNDS [SEED]]: first a move of amount 0 under id 1, and one under id 0, which must be refused with 24 and its words.
+Then moves of random amounts under ids 2, 3, ..; each is tried again under its id until the host ends by itself, and ROUNDS tries in all
+are killed: by SIGKILL after a random time, or by the host itself at a random place between two calls or two steps of a save
+(STOCK_DIES). After every kill the file must still be a right store; at the end each id must have been counted once, and the stock must
+add up.
 """
 import os
 import random
@@ -46,13 +47,15 @@ def attempt(words, kill):
 
 subprocess.run([stock, path, "init", "2", "256"], check=True)
 before = time.time()
-attempt(["move", "1", "1", "0", "--id", "0"], None)
+attempt(["move", "1", "1", "0", "--id", "1"], None)
 length = time.time() - before
+refused = subprocess.run([stock, path, "move", "1", "1", "5", "--id", "0"], capture_output=True, text=True)
+assert (refused.returncode, refused.stderr) == (1, "refused 24: Is the id other than 0 (arrival)?\n"), refused
 
-killed, ended, total, replies = 0, 0, 0, {0: 0}
-for ident in range(1, IDS + 1):
+killed, ended, total, replies = 0, 0, 0, {1: 0}
+for ident in range(2, IDS + 2):
     words = ["move", str(random.randint(1, SHELVES)), str(random.randint(1, SHELVES)), str(random.randint(0, 2**32 - 1)), "--id", str(ident)]
-    tries = rounds * ident // IDS - rounds * (ident - 1) // IDS
+    tries = rounds * (ident - 1) // IDS - rounds * (ident - 2) // IDS
     for _ in range(tries):
         done, _ = attempt(words, random.choice(["time", "place"]))
         killed += not done
@@ -66,7 +69,7 @@ for ident in range(1, IDS + 1):
     assert sum(data.values()) % 2**32 == 0, f"the stock does not add up after id {ident}"
     assert sum(v for (part, _), v in data.items() if part == 1) % 2**32 == total, f"an id is not counted once, at id {ident}"
 data, log = rows()
-assert sorted(log) == sorted([(0, i, 0) for i in range(IDS + 1)] + [(1, i, 1) for i in range(IDS + 1)]), "log rows"
+assert sorted(log) == sorted([(0, i, 0) for i in range(1, IDS + 2)] + [(1, i, 1) for i in range(1, IDS + 2)]), "log rows"
 for ident, value in replies.items():
     done, out = attempt(["retry", str(ident)], None)
     assert out == f"reply {ident} {log[(1, ident, 1)]}\n" and log[(1, ident, 1)] == value, f"id {ident} replies otherwise"

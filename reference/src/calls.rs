@@ -73,6 +73,7 @@ pub fn arrival(
 ) -> Outcome {
     let mut lent = ask_all_state(pack, store, slots)?;
     let slot = ask_slot(slots, slot, false)?;
+    ask(24, request.id != 0)?;
     ask(17, lent.pack.workflow(request.workflow).is_some())?;
     match lent.store.request(request.id) {
         Some(booked) => ask(18, booked == request)?,

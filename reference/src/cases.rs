@@ -1,4 +1,5 @@
-//! The file `cases.bin`: schedules and single calls on any bytes, and their print.
+//! The file `cases.bin`: schedules, single calls and lists of calls on any bytes, and their
+//! print.
 
 use std::fmt::Write;
 
@@ -27,10 +28,21 @@ pub struct CallCase {
     pub order: Order,
 }
 
+/// Calls on a state that no schedule leads to, each given what the one before left.
+#[derive(Clone, Debug, PartialEq, Eq)]
+pub struct ListCase {
+    pub pack: Vec<u8>,
+    pub store: Vec<u8>,
+    pub slots: Slots,
+    /// At most 255.
+    pub calls: Vec<Call>,
+}
+
 #[derive(Clone, Debug, PartialEq, Eq)]
 pub enum Case {
     Schedule { pack: Vec<u8>, schedule: Vec<u8> },
     Call(Box<CallCase>),
+    List(Box<ListCase>),
 }
 
 impl Order {
@@ -81,6 +93,38 @@ impl Order {
     }
 }
 
+fn read_order(reader: &mut Reader) -> Option<Order> {
+    let code = reader.byte()?;
+    Order::read(code, reader.words()?)
+}
+
+/// One of the five calls.
+fn read_call(reader: &mut Reader) -> Option<Call> {
+    match read_order(reader)? {
+        Order::Call(call) => Some(call),
+        _ => None,
+    }
+}
+
+fn write_order(order: Order, file: &mut Vec<u8>) {
+    let (code, words) = order.encode();
+    file.push(code);
+    file.extend(words.iter().flat_map(|word| word.to_le_bytes()));
+}
+
+fn read_slots(reader: &mut Reader) -> Option<Slots> {
+    let mut slots = ALL_EMPTY;
+    for slot in &mut slots {
+        *slot = read_agent(reader)?;
+    }
+    Some(slots)
+}
+
+fn write_slots(slots: &Slots, file: &mut Vec<u8>) {
+    let records = slots.iter().flat_map(agent_words);
+    file.extend(records.flat_map(u32::to_le_bytes));
+}
+
 fn read_agent(reader: &mut Reader) -> Option<Agent> {
     let [in_use, id, position, step] = reader.words()?;
     let registers = reader.words()?;
@@ -116,18 +160,21 @@ impl Case {
                 pack,
                 schedule: second,
             }),
-            1 => {
-                let mut slots = ALL_EMPTY;
-                for slot in &mut slots {
-                    *slot = read_agent(reader)?;
-                }
-                let code = reader.byte()?;
-                let order = Order::read(code, reader.words()?)?;
-                Some(Self::Call(Box::new(CallCase {
+            1 => Some(Self::Call(Box::new(CallCase {
+                pack,
+                store: second,
+                slots: read_slots(reader)?,
+                order: read_order(reader)?,
+            }))),
+            2 => {
+                let slots = read_slots(reader)?;
+                let count = reader.byte()?;
+                let calls: Option<Vec<Call>> = (0..count).map(|_| read_call(reader)).collect();
+                Some(Self::List(Box::new(ListCase {
                     pack,
                     store: second,
                     slots,
-                    order,
+                    calls: calls?,
                 })))
             }
             _ => None,
@@ -139,18 +186,26 @@ impl Case {
         let (kind, pack, second) = match self {
             Self::Schedule { pack, schedule } => (0, pack, schedule),
             Self::Call(call) => (1, &call.pack, &call.store),
+            Self::List(list) => (2, &list.pack, &list.store),
         };
         file.push(kind);
         file.extend((pack.len() as u32).to_le_bytes());
         file.extend((second.len() as u32).to_le_bytes());
         file.extend(pack);
         file.extend(second);
-        if let Self::Call(call) = self {
-            let records = call.slots.iter().flat_map(agent_words);
-            file.extend(records.flat_map(u32::to_le_bytes));
-            let (code, words) = call.order.encode();
-            file.push(code);
-            file.extend(words.iter().flat_map(|word| word.to_le_bytes()));
+        match self {
+            Self::Schedule { .. } => {}
+            Self::Call(call) => {
+                write_slots(&call.slots, file);
+                write_order(call.order, file);
+            }
+            Self::List(list) => {
+                write_slots(&list.slots, file);
+                file.push(list.calls.len() as u8);
+                for call in &list.calls {
+                    write_order(Order::Call(*call), file);
+                }
+            }
         }
     }
 
@@ -159,7 +214,42 @@ impl Case {
         match self {
             Self::Schedule { pack, schedule } => schedule::program(pack, schedule),
             Self::Call(call) => call.print(),
+            Self::List(list) => list.print(),
         }
+    }
+}
+
+/// What a list of calls came to.
+#[derive(Clone, Debug)]
+pub struct Listed {
+    pub outcomes: Vec<Outcome>,
+    pub store: Vec<u8>,
+    pub slots: Slots,
+}
+
+impl ListCase {
+    /// Does the calls; the case itself stays as it is.
+    pub fn perform(&self) -> Listed {
+        let mut store = self.store.clone();
+        let mut slots = self.slots;
+        let calls = self.calls.iter();
+        let outcomes = calls
+            .map(|call| call.perform(&self.pack, &mut store, &mut slots))
+            .collect();
+        Listed {
+            outcomes,
+            store,
+            slots,
+        }
+    }
+
+    fn print(&self) -> String {
+        let listed = self.perform();
+        let answer = |outcome: &Outcome| format!("answer {}\n", answer_words(outcome));
+        let mut text: String = listed.outcomes.iter().map(answer).collect();
+        print_store(&listed.store, &mut text);
+        print_slots(&listed.slots, &mut text);
+        text
     }
 }
 

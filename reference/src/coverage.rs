@@ -3,7 +3,7 @@
 use std::fmt::Write;
 
 use crate::calls::{Answer, Call, Outcome};
-use crate::cases::{read_all, CallCase, Case, Order};
+use crate::cases::{read_all, CallCase, Case, ListCase, Order};
 use crate::refusal::QUESTIONS;
 use crate::schedule;
 
@@ -16,16 +16,17 @@ pub const ORDERS: [&str; 8] = [
 pub struct Coverage {
     pub schedules: usize,
     pub calls: usize,
+    pub lists: usize,
     pub malformed: usize,
     /// The events of schedules that ran.
     pub events: usize,
-    /// By question number, in schedules and in single calls; 0 is not used.
+    /// By question number, in schedules and in single and listed calls; 0 is not used.
     pub schedule_refusals: [usize; QUESTIONS.len() + 1],
     pub call_refusals: [usize; QUESTIONS.len() + 1],
     pub done: usize,
     pub moved: usize,
     pub replied: usize,
-    /// Single calls by what was called: accepted and refused.
+    /// Single and listed calls by what was called: accepted and refused.
     pub orders: [(usize, usize); ORDERS.len()],
 }
 
@@ -38,6 +39,7 @@ impl Coverage {
                     coverage.count_schedule(&pack, &schedule)
                 }
                 Some(Case::Call(call)) => coverage.count_call(&call),
+                Some(Case::List(list)) => coverage.count_list(&list),
                 None => coverage.malformed += 1,
             }
         }
@@ -64,13 +66,23 @@ impl Coverage {
 
     fn count_call(&mut self, case: &CallCase) {
         self.calls += 1;
-        let outcome = case.perform().outcome;
-        let (accepted, refused) = &mut self.orders[order_index(&case.order)];
+        self.count_order(&case.order, &case.perform().outcome);
+    }
+
+    fn count_list(&mut self, list: &ListCase) {
+        self.lists += 1;
+        for (call, outcome) in list.calls.iter().zip(list.perform().outcomes) {
+            self.count_order(&Order::Call(*call), &outcome);
+        }
+    }
+
+    fn count_order(&mut self, order: &Order, outcome: &Outcome) {
+        let (accepted, refused) = &mut self.orders[order_index(order)];
         match outcome {
             Ok(_) => *accepted += 1,
             Err(_) => *refused += 1,
         }
-        self.count(&outcome, false);
+        self.count(outcome, false);
     }
 
     fn count(&mut self, outcome: &Outcome, in_schedule: bool) {
@@ -90,11 +102,12 @@ impl Coverage {
 
     pub fn print(&self) -> String {
         let mut text = format!(
-            "cases {}\nschedules {}\nevents {}\ncalls {}\nmalformed {}\n",
-            self.schedules + self.calls + self.malformed,
+            "cases {}\nschedules {}\nevents {}\ncalls {}\nlists {}\nmalformed {}\n",
+            self.schedules + self.calls + self.lists + self.malformed,
             self.schedules,
             self.events,
             self.calls,
+            self.lists,
             self.malformed
         );
         for number in 1..=QUESTIONS.len() {

@@ -1,11 +1,11 @@
-//! A second supplier of the workflow runtime: written from document 01 alone,
+//! A second supplier of the workflow runtime: written from documents 01 and 02 alone,
 //! in plain Rust, so that another implementation can be held against it.
 //!
 //! * [`pack`]: the pack of workflows, its check and opening (questions 1 to 8, 17)
 //! * [`store`]: the store in bytes (questions 9 to 12)
 //! * [`agents`]: the eight slots (questions 13 and 14)
 //! * [`operations`]: what each operation does
-//! * [`calls`]: arrival, retry, turn, crash and restart (questions 15 to 21)
+//! * [`calls`]: arrival, retry, turn, crash and restart (questions 15 to 21 and 24)
 //! * [`schedule`]: the schedule program (questions 22 and 23)
 //! * [`plain`]: the plain machine and the check of demand 3 on what was run
 //! * [`cases`]: the file `cases.bin` and what is printed for each of its cases

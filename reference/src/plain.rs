@@ -185,6 +185,9 @@ impl<'a> Witness<'a> {
 
     fn see_arrival(&mut self, slot: u32, request: &Request) {
         self.tally.arrivals += 1;
+        if request.id == 0 {
+            self.blame("an arrival with id 0 was accepted".to_string());
+        }
         if !self.machine.has_booked(request.id) {
             self.tally.bookings += 1;
             self.machine.book(request);

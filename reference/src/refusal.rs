@@ -1,4 +1,4 @@
-//! The questions of document 01 and the first one that is answered with no.
+//! The questions of documents 01 and 02 and the first one that is answered with no.
 
 /// The first no: its number and, with questions 4 to 8, where it was put.
 #[derive(Clone, Copy, Debug, PartialEq, Eq, PartialOrd, Ord, Hash)]
@@ -8,8 +8,9 @@ pub struct Refusal {
     pub instruction: usize,
 }
 
-/// The questions in the document's words; question n stands at n − 1.
-pub const QUESTIONS: [&str; 23] = [
+/// The questions in the documents' words, by number and not in the order in which they are
+/// put: 24 is asked between 16 and 17. Question n stands at n − 1.
+pub const QUESTIONS: [&str; 24] = [
     "Is there a count, 1 to 16?",
     "Are all sizes there, each 1 to 256, sum at most 2,048?",
     "Is the length 1 + 2m + 5T?",
@@ -33,6 +34,7 @@ pub const QUESTIONS: [&str; 23] = [
     "Has a block that isn't logged enough free rows: one, plus one per different new key it PUTs (turn)?",
     "Is the length 6 + 24g + 2e, within limits?",
     "Is each kind at most 4, each index below g for kinds 0 and 3 and 0 otherwise?",
+    "Is the id other than 0 (arrival)?",
 ];
 
 impl Refusal {
@@ -50,7 +52,7 @@ impl Refusal {
         }
     }
 
-    /// The question in the document's words.
+    /// The question in the documents' words.
     pub fn words(&self) -> &'static str {
         QUESTIONS[usize::from(self.question) - 1]
     }

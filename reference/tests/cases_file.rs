@@ -4,10 +4,10 @@ mod common;
 
 use common::*;
 use reference::agents::ALL_EMPTY;
-use reference::cases::{print_all, read_all, write_all, CallCase, Case, Order};
+use reference::cases::{print_all, read_all, write_all, CallCase, Case, ListCase, Order};
 use reference::coverage::Coverage;
 use reference::generate;
-use reference::store::Request;
+use reference::store::{Request, Store};
 use reference::Call;
 
 fn on_state(state: &State, order: Order) -> Case {
@@ -161,6 +161,69 @@ fn cases_come_back_from_their_bytes() {
     assert_eq!(read, Some(cases));
 }
 
+/// Id 0 in an older store: retried up to its reply, and turned down when it arrives.
+fn older_list() -> ListCase {
+    let mut state = State::new(move_pack(), 2, 5);
+    let mut store = Store::read(state.store.as_mut_slice()).expect("right");
+    store.book(&request(0));
+    let mut calls = vec![Call::Retry { slot: 2, id: 0 }];
+    calls.extend([Call::Turn { slot: 2 }; 4]);
+    calls.push(Call::Arrival {
+        slot: 2,
+        request: request(0),
+    });
+    ListCase {
+        pack: state.pack,
+        store: state.store,
+        slots: state.slots,
+        calls,
+    }
+}
+
+#[test]
+fn a_list_prints_its_answers_and_what_it_left() {
+    let text = print(Case::List(Box::new(older_list())));
+    let expected = "\
+case 0
+answer done
+answer moved
+answer moved
+answer moved
+answer reply 0 30
+answer refused 24 0 0
+used 0 2
+used 1 2
+used 2 5
+row 0 0 4294967266
+row 0 9223372036854775908 4294967266
+row 1 1 30
+row 1 9223372036854776008 30
+row 2 0 0
+row 2 1 100
+row 2 2 200
+row 2 3 30
+row 2 4 0
+";
+    assert_eq!(text, expected);
+}
+
+#[test]
+fn the_bytes_of_a_list_come_back_and_hold_the_five_calls_only() {
+    let list = older_list();
+    let mut file = write_all(&[Case::List(Box::new(list.clone()))]);
+    let records = 9 + list.pack.len() + list.store.len();
+    assert_eq!(file.len(), records + 384 + 1 + 6 * 29);
+    assert_eq!((file[0], file[records + 384]), (2, 6));
+    assert_eq!(read_all(&file), [Some(Case::List(Box::new(list)))]);
+    let coverage = Coverage::of_file(&file);
+    assert_eq!((coverage.lists, coverage.calls), (1, 0));
+    assert_eq!((coverage.replied, coverage.question(24)), (1, 1));
+    for code in [0, 1, 2, 8] {
+        file[records + 385 + 29] = code;
+        assert_eq!(print_all(&file), "malformed case 0\n", "call {code}");
+    }
+}
+
 #[test]
 fn the_bytes_of_a_call_case() {
     let mut slots = ALL_EMPTY;
@@ -211,7 +274,7 @@ fn numbers_out_of_range_are_malformed() {
         print_all(&file)
     };
     let records = file.len() - 1 - 28 - 384;
-    assert_eq!(with(0, 2), "malformed case 0\n", "no such kind");
+    assert_eq!(with(0, 3), "malformed case 0\n", "no such kind");
     assert_eq!(with(records, 2), "malformed case 0\n", "in use is 0 or 1");
     assert_eq!(
         with(file.len() - 29, 8),

@@ -33,7 +33,7 @@ fn demand_3_holds_of_generated_lists() {
         total.data_rows,
     ];
     assert!(reached.iter().all(|times| *times > 1_000), "{total:?}");
-    for question in [13, 15, 16, 17, 18, 19, 20, 21] {
+    for question in [13, 15, 16, 17, 18, 19, 20, 21, 24] {
         assert!(total.refused[question] > 100, "question {question}");
     }
 }
@@ -176,6 +176,19 @@ fn the_witness_sees_spoiled_runtimes() {
     assert!(violations(|| Box::<LaterReply>::default()) > 20);
     assert!(violations(|| Box::new(NoRows)) > 20);
     assert!(violations(|| Box::new(NoReply)) > 20);
+}
+
+#[test]
+fn the_witness_sees_an_accepted_arrival_with_id_0() {
+    let pack = move_pack();
+    let mut witness = Witness::new(Pack::read(&pack).expect("a right pack"));
+    let zero = Call::Arrival {
+        slot: 0,
+        request: request(0),
+    };
+    witness.see(&zero, &Ok(Answer::Done));
+    let result = witness.close(&fresh(2, 5).expect("in range"));
+    assert!(result.is_err_and(|violation| violation.contains("id 0")));
 }
 
 #[test]

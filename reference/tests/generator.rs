@@ -6,7 +6,7 @@ use reference::generate::{self, encoded_pack, near_miss, Bounds};
 use reference::pack::{check, MOST_INSTRUCTIONS};
 use reference::random::Random;
 use reference::refusal::QUESTIONS;
-use reference::Operation;
+use reference::{Answer, Call, Operation, Outcome};
 
 #[test]
 fn a_seed_names_its_cases() {
@@ -32,7 +32,7 @@ fn a_small_file_covers_every_question_answer_and_call() {
             );
         }
         assert!(coverage.done > 0 && coverage.moved > 0 && coverage.replied > 0);
-        for number in 1..=21 {
+        for number in (1..=21).chain([24]) {
             assert!(
                 coverage.call_refusals[number] > 0,
                 "seed {seed}, call {number}"
@@ -41,6 +41,44 @@ fn a_small_file_covers_every_question_answer_and_call() {
         let called = |(accepted, refused): &(usize, usize)| accepted + refused > 0;
         assert!(coverage.orders.iter().all(called), "seed {seed}");
     }
+}
+
+/// Id 0 as handhelds send it, and as older stores have it.
+#[test]
+fn id_0_is_often_among_the_ids() {
+    let (mut arrivals, mut retried, mut replied) = (0, 0, 0);
+    let mut turned_down = [0; QUESTIONS.len() + 1];
+    let mut see = |call: &Call, outcome: &Outcome| match (call, outcome) {
+        (Call::Arrival { request, .. }, outcome) if request.id == 0 => {
+            let refusal = outcome.expect_err("an arrival with id 0");
+            turned_down[usize::from(refusal.question)] += 1;
+            arrivals += 1;
+        }
+        (Call::Retry { id: 0, .. }, Ok(_)) => retried += 1,
+        (_, Ok(Answer::Reply { id: 0, .. })) => replied += 1,
+        _ => {}
+    };
+    for case in generate::cases(14, 1_000) {
+        match case {
+            Case::Schedule { .. } => {}
+            Case::Call(case) => {
+                if let Order::Call(call) = &case.order {
+                    see(call, &case.perform().outcome);
+                }
+            }
+            Case::List(list) => {
+                for (call, outcome) in list.calls.iter().zip(list.perform().outcomes) {
+                    see(call, &outcome);
+                }
+            }
+        }
+    }
+    assert!(
+        arrivals > 100 && retried > 30 && replied > 20,
+        "{arrivals} {retried} {replied}"
+    );
+    assert!(turned_down[24] > 80 && turned_down[15] > 0 && turned_down[16] > 0);
+    assert_eq!([17, 18, 19].map(|number| turned_down[number]), [0; 3]);
 }
 
 #[test]

@@ -1,4 +1,4 @@
-//! Each of the questions 1 to 23 by hand, with its place and its neighbours.
+//! Each of the questions 1 to 24 by hand, with its place and its neighbours.
 
 mod common;
 
@@ -382,6 +382,58 @@ fn question_20_retry() {
     assert_eq!(question(state.retry(1, 7 + 65_536)), 20);
     assert_eq!(state.retry(1, 7), Ok(Answer::Done));
     assert_eq!(state.slots[1], Agent::started(7, [100, 200, 30, 0]));
+}
+
+/// MOVE with two partitions of ten rows and id 0 in the book, as an older runtime left it.
+fn older() -> State {
+    let mut state = State::new(move_pack(), 2, 10);
+    let mut store = Store::read(state.store.as_mut_slice()).expect("right");
+    store.book(&request(0));
+    state
+}
+
+#[test]
+fn question_24_request_number_zero() {
+    let asked = |state: &mut State, slot, workflow, amount| {
+        let mut zero = request(0);
+        zero.workflow = workflow;
+        zero.arguments[2] = amount;
+        let before = (state.store.clone(), state.slots);
+        let answer = question(state.arrival(slot, zero));
+        assert_eq!(before, (state.store.clone(), state.slots));
+        answer
+    };
+    let state = &mut State::with_move();
+    assert_eq!(asked(state, 1, 0, 30), 24);
+    assert_eq!(asked(state, 1, 9, 30), 24, "before 17");
+    assert_eq!(asked(state, 0, 0, 30), 16, "behind 16");
+    assert_eq!(asked(state, 8, 0, 30), 15, "behind 15");
+    let state = &mut older();
+    assert_eq!(asked(state, 0, 0, 30), 24, "a repeat too");
+    assert_eq!(asked(state, 0, 0, 31), 24, "before 18");
+    let state = &mut State::new(move_pack(), 2, 5);
+    assert_eq!(question(state.arrival(0, request(7))), 0);
+    assert_eq!(asked(state, 1, 0, 30), 24, "before 19");
+    assert_eq!(question(state.retry(1, 0)), 20, "not put to a retry");
+    let state = &mut State::new(move_pack(), 1, 5);
+    assert_eq!(asked(state, 0, 0, 30), 13, "behind 13");
+    assert_eq!(question(older().arrival(0, request(1))), 0, "0 only");
+}
+
+#[test]
+fn an_older_request_of_id_0_is_retried_up_to_its_reply() {
+    let mut state = older();
+    assert_eq!(state.retry(3, 0), Ok(Answer::Done));
+    assert_eq!(state.slots[3], Agent::started(0, [100, 200, 30, 0]));
+    for _ in 0..3 {
+        assert_eq!(state.turn(3), Ok(Answer::Moved));
+    }
+    assert_eq!(state.turn(3), Ok(Answer::Reply { id: 0, value: 30 }));
+    let rows = state.store.clone();
+    assert_eq!(state.retry(0, 0), Ok(Answer::Done));
+    let again: Vec<_> = (0..4).map(|_| state.turn(0)).collect();
+    assert_eq!(again[3], Ok(Answer::Reply { id: 0, value: 30 }));
+    assert_eq!(rows, state.store, "nothing counts twice");
 }
 
 /// Fills partition 0 with log rows of another id.

@@ -112,6 +112,9 @@ fn perform(word: &str, options: &Options) -> Result<(), Vec<Fault>> {
         "disasm" => disassembled(subject)?.into_bytes(),
         "plan" => {
             let planned = plan_file(subject, pack_names(options)?)?;
+            for warning in &planned.warnings {
+                eprintln!("{warning}");
+            }
             schedule::to_bytes(&planned.schedule)
         }
         "show" => shown(subject, &pack_names(options)?.unwrap_or_default())?.into_bytes(),

@@ -77,7 +77,7 @@ impl Expected {
     }
 }
 
-/// One no of document 01's questions, with what was found and expected.
+/// One no of the documents' questions, with what was found and expected.
 #[derive(Clone, Debug, PartialEq, Eq)]
 pub struct No {
     pub number: u32,
@@ -165,6 +165,31 @@ impl fmt::Display for Fault {
             Fault::Bytes { file, no } => write!(out, "{file}: {no}"),
             Fault::Whole { file, problem } => write!(out, "{file}: {problem}"),
         }
+    }
+}
+
+/// What a right text asks for and the runtime will refuse when it runs: no fault, since a schedule may have refusals.
+#[derive(Clone, Debug, PartialEq, Eq)]
+pub struct Warning {
+    pub file: String,
+    pub place: Word,
+    pub no: No,
+    pub whose: String,
+}
+
+impl fmt::Display for Warning {
+    fn fmt(&self, out: &mut fmt::Formatter) -> fmt::Result {
+        let Warning {
+            file,
+            place,
+            no,
+            whose,
+        } = self;
+        write!(
+            out,
+            "{file}:{}:{}: warning: {no}{whose}",
+            place.line, place.column
+        )
     }
 }
 

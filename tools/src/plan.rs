@@ -1,15 +1,16 @@
 //! The text form of schedules, read.
 
-use crate::fault::{Expected, Fault, No};
+use crate::fault::{Expected, Fault, No, Warning};
 use crate::scan::{self, Line, Word};
 use crate::schedule::{self, Event, Kind, Request, Schedule, MOST_EVENTS, MOST_REQUESTS};
 use crate::words::{Missing, Words};
 
-/// A schedule with the names its text gives to requests.
+/// A schedule with the names its text gives to requests, and what is known to be refused in it.
 #[derive(Clone, Debug)]
 pub struct Planned {
     pub names: Vec<String>,
     pub schedule: Schedule,
+    pub warnings: Vec<Warning>,
 }
 
 /// Reads the workflow names of a pack text: by `pack FILE`, as it stands in the plan.
@@ -45,6 +46,7 @@ struct Reader<'a> {
     events: Vec<Event>,
     too_many: bool,
     faults: Vec<Fault>,
+    warnings: Vec<Warning>,
 }
 
 impl<'a> Reader<'a> {
@@ -62,6 +64,7 @@ impl<'a> Reader<'a> {
             events: Vec::new(),
             too_many: false,
             faults: Vec::new(),
+            warnings: Vec::new(),
         }
     }
 
@@ -188,6 +191,7 @@ impl<'a> Reader<'a> {
 
     fn event(&mut self, first: Word, kind: Kind, mut words: Words) -> Result<(), Missing> {
         let mut request = 0;
+        let named = words.peek().clone();
         if kind.names_request() {
             request = words.one_of(&self.names)?;
             words.keyword("in")?;
@@ -209,6 +213,7 @@ impl<'a> Reader<'a> {
             slot: slot as u8,
             request: request as u8,
         };
+        self.warn_of_zero(named, &event, times as usize);
         self.events.extend((0..times).map(|_| event));
         if self.events.len() > MOST_EVENTS && !self.too_many {
             self.too_many = true;
@@ -222,6 +227,28 @@ impl<'a> Reader<'a> {
             );
         }
         Ok(())
+    }
+
+    /// An arrival with id 0 is never accepted: 24, if 15 or 16 does not say no first. For a slot above 7 it is always 15, so
+    /// nothing is said of 24 there.
+    fn warn_of_zero(&mut self, named: Word, event: &Event, times: usize) {
+        let zero = self.requests.get(usize::from(event.request));
+        let is_zero = zero.is_some_and(|request| request.id == 0);
+        if event.kind != Kind::Arrival || event.slot > 7 || !is_zero {
+            return;
+        }
+        let first = self.events.len();
+        let events = match times {
+            1 => format!("event {first}"),
+            _ => format!("events {first} to {}", first + times - 1),
+        };
+        let whose = format!(" (request {}, {events})", named.text);
+        self.warnings.push(Warning {
+            file: self.file.to_string(),
+            place: named,
+            no: No::of(24, "id 0".to_string(), "1 to 4294967295"),
+            whose,
+        });
     }
 
     fn finish(mut self, end: Word) -> Result<Planned, Vec<Fault>> {
@@ -240,6 +267,7 @@ impl<'a> Reader<'a> {
                     requests: self.requests,
                     events: self.events,
                 },
+                warnings: self.warnings,
             }),
             _ => Err(self.faults),
         }

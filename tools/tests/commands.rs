@@ -106,6 +106,25 @@ fn plan_and_show_make_the_same_bytes() {
 }
 
 #[test]
+fn an_arrival_with_id_0_is_warned_of_and_the_schedule_is_written() {
+    let folder = fresh("zero");
+    let text = "partitions 1\nrows 5\nrequest lost id 0 workflow 0 arguments 1 2 3 4\n\
+        request good id 1 workflow 0 arguments 1 2 3 4\narrival good in slot 0\narrival lost in slot 1\n\
+        retry lost in slot 1\nturn slot 0 x 2\n  arrival lost in slot 2 x 3\narrival lost in slot 9\n";
+    fs::write(folder.join("zero.plan"), text).expect("a plan");
+    let (status, printed, said) = told(wf(&folder, &["plan", "zero.plan", "-o", "zero.bin"]));
+    let words =
+        "refused 24: Is the id other than 0 (arrival)? Found id 0, expected 1 to 4294967295";
+    let expected = format!(
+        "zero.plan:6:9: warning: {words} (request lost, event 1)\n\
+         zero.plan:9:11: warning: {words} (request lost, events 5 to 7)\n"
+    );
+    assert_eq!((status, printed, said), (0, String::new(), expected));
+    let bytes = fs::read(folder.join("zero.bin")).expect("a schedule");
+    assert_eq!(bytes.len(), 6 + 2 * 24 + 2 * 9);
+}
+
+#[test]
 fn faults_are_listed_and_nothing_is_written() {
     let folder = fresh("faults");
     fs::write(folder.join("p.wf"), "workflow A\nSET r8 1\nRETURN r0 r0\n").unwrap();

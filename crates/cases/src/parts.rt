@@ -1,5 +1,6 @@
 // The parts of the case that bytes begin with: kind (1), two lengths (4 each), the pack, the store or the schedule. A call has
-// behind them eight agent records of twelve words, a call byte and seven words.
+// behind them eight agent records of twelve words, a call byte and seven words. A list of calls has the records, how many calls there
+// are (1), and for each its call byte and seven words.
 ghost use mathlib.Core.Bool.{true};
 ghost use mathlib.Core.Path.{_≡_};
 ghost use Prim.Native.Nat.{_+_, _*_, _≤_, _<_};
@@ -73,11 +74,61 @@ pub fn call_end(c: &[u8]) -> usize
     parts_end(c) + 413
 }
 
-// The seven words of a call.
+// The seven words of a call, behind its call byte.
 pub fn call_words(c: &[u8]) -> [u32; 7]
     requires { ⌜ HasCall (now c) ⌝ }
 {
-    let at = parts_end(c) + 385;
+    words_at(c, parts_end(c) + 385)
+}
+
+// A byte, as a count.
+fn wide(b: u8) -> usize
+    ensures { λ r. ⌜ (r ≡ b) × (r < 256) ⌝ }
+{
+    b as usize
+}
+
+// Is each call byte, the first of 29, that of one of the five calls, 3 to 7?
+fn calls_right(calls: &[u8]) -> bool {
+    let mut at = 0;
+    while at < calls.len() {
+        if calls[at] < 3 {
+            return false;
+        }
+        if 7 < calls[at] {
+            return false;
+        }
+        if calls.len() - at < 29 {
+            return true;
+        }
+        at += 29;
+    }
+    true
+}
+
+// How many bytes the records and calls of a list have that stand behind its store; 0 if they are not there or out of range.
+pub fn list_bytes(rest: &[u8]) -> usize
+    ensures { λ r. ⌜ r ≤ length (now (rest .entry)) ⌝ }
+{
+    if rest.len() < 385 {
+        return 0;
+    }
+    let n = 385 + 29 * wide(rest[384]);
+    if rest.len() < n {
+        return 0;
+    }
+    if records_right(&rest[0..384]) {
+        if calls_right(&rest[385..n]) {
+            return n;
+        }
+    }
+    0
+}
+
+// Seven words from a place on.
+pub fn words_at(c: &[u8], at: usize) -> [u32; 7]
+    requires { ⌜ at + 28 ≤ length (now c) ⌝ }
+{
     [
         words::read32(c, at),
         words::read32(c, at + 4),

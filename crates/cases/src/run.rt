@@ -51,6 +51,32 @@ fn print_call(c: &[u8], with_state: bool, buffer: &mut [u8])
     );
 }
 
+// The answers of calls, 29 bytes each, each call on what the one before left.
+fn print_answers(pack: &[u8], store: &mut [u8], records: &mut [u8], calls: &[u8])
+    requires { ⌜ length (now records) ≡ 384 ⌝ }
+{
+    let mut at = 0;
+    while 29 <= calls.len() - at {
+        let w = parts::words_at(calls, at + 1);
+        print::print_answer(call::make_call(pack, store, records, calls[at], w));
+        at += 29;
+    }
+}
+
+// A list of calls, on a copy of the store in `buffer` and a copy of the records.
+fn print_list(pack: &[u8], store: &[u8], list: &[u8], with_state: bool, buffer: &mut [u8])
+    requires { ⌜ (385 ≤ length (now list)) × (length (now store) ≤ length (now buffer)) ⌝ }
+{
+    let n = text::append_bytes(buffer, 0, store);
+    let mut records = [0u8; 384];
+    text::append_bytes(&mut records, 0, &list[0..384]);
+    print_answers(pack, &mut buffer[0..n], &mut records, &list[385..]);
+    if with_state {
+        print::print_store(&buffer[0..n]);
+        print::print_slots(&records);
+    }
+}
+
 // The longest store, 3 + 2 × 9 + 12 × 256 × 9.
 fn store_buffer() -> [u8; 27_669]
     ensures { λ r. ⌜ 27669 ≡ length r ⌝ }
@@ -87,6 +113,28 @@ fn print_call_case(c: &[u8], title: &[u8], with_state: bool, buffer: &mut [u8]) 
     0
 }
 
+// A case of kind 2, a list of calls.
+fn print_list_case(c: &[u8], title: &[u8], with_state: bool, buffer: &mut [u8]) -> usize
+    requires { ⌜ HasParts (now c) × (length (now c) ≤ length (now buffer)) ⌝ }
+    ensures { λ r. ⌜ r ≤ length (now (c .entry)) ⌝ }
+{
+    let from = parts::pack_end(c);
+    let to = parts::parts_end(c);
+    let n = parts::list_bytes(&c[to..]);
+    if n < 385 {
+        return 0;
+    }
+    io::write_all(STDOUT_FILENO, title);
+    print_list(
+        &c[9..from],
+        &c[from..to],
+        &c[to..to + n],
+        with_state,
+        buffer,
+    );
+    to + n
+}
+
 // A case of kind 0, a schedule.
 fn print_schedule_case(c: &[u8], title: &[u8]) -> usize
     requires { ⌜ HasParts (now c) ⌝ }
@@ -110,6 +158,9 @@ fn print_kind(c: &[u8], title: &[u8], with_state: bool, buffer: &mut [u8]) -> us
     }
     if kind == 1 {
         return print_call_case(c, title, with_state, buffer);
+    }
+    if kind == 2 {
+        return print_list_case(c, title, with_state, buffer);
     }
     0
 }

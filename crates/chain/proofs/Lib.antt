@@ -1,4 +1,5 @@
 pub mod Mirror
 pub mod Each
 pub mod Theorem
+pub mod RequestZero
 pub mod Never

@@ -95,6 +95,6 @@ lentFor (crash slot) pack store records = lentRefusal pack store records
 lentFor restart pack store records = none
 lentFor (stopped n) pack store records = lentRefusal pack store records
 
--- All questions that a call puts, 1 to 21, in order: the first no.
+-- All questions that a call puts, 1 to 21 and 24, in the order in which they are put: the first no.
 unfoldable pub refusalFor : (pack store : List ℕ) → (records : List Agent) → Call → Option No
 refusalFor pack store records c = orElse (lentFor c pack store records) (refusal (packOf pack) (stateOf store records) c)

@@ -138,7 +138,7 @@ module _ (pack : Pack) (s : State) (m : Machine) (t : Tallies) (rs : List Reply)
   rule-keeps : (c : Call) → refusal pack s c ≡ none → Keeps pack m (fed pack m t c) t (tallied t c) rs (rule pack s c)
   unfolding refusal rule fed tallied
   rule-keeps (arrival slot id w args) allow =
-      let below = ask-none _ _ _ (ask-none _ _ _ (ask-none _ _ _ allow .1) .1) .0 in
+      let below = ask-none _ _ _ (ask-none _ _ _ (ask-none _ _ _ (ask-none _ _ _ allow .1) .1) .1) .0 in
       arrive-keeps slot id (record { workflow = w; arguments = args }) (s .store .book id) (ltb→lt w (length pack) (true-T _ below)) refl
   rule-keeps (retry slot id) allow =
       again-keeps slot id (s .store .book id) refl (ask-none _ _ _ (ask-none _ _ _ (ask-none _ _ _ allow .1) .1) .0)

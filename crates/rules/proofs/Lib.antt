@@ -15,4 +15,5 @@ pub mod Positions
 pub mod Logged
 pub mod Blocks
 pub mod Theorem
+pub mod RequestZero
 pub mod WholeCase

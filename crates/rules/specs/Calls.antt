@@ -1,9 +1,9 @@
--- Agents and slots, and the five calls: the questions 15 to 21 of each, then what it does. Assumes nothing: these are definitions.
+-- Agents and slots, and the five calls: the questions 15 to 21 and 24 of each, then what it does. Assumes nothing: these are definitions.
 use mathlib.Core.Bool.{Bool, true, not}
 use mathlib.Core.List.{List, [], _∷_}
 use mathlib.Core.Option.{Option, none, some}
 use Prim.Native.Nat.{ℕ, suc, _+_}
-use lib.Dec.{ltb, leb}
+use lib.Dec.{eqb, ltb, leb}
 use lib.ListN.{length}
 use Rattle.rules.specs.Basics.{update, isSome}
 use Rattle.rules.specs.Questions.{No, number, ask}
@@ -74,14 +74,16 @@ canTurn pack s none = true
 canTurn pack s (some a) =
     canDo s (a .id) (a .step) (codeBy pack (s .book (a .id))) (nextOf (codeBy pack (s .book (a .id))) (a .course))
 
--- The questions 15 to 21 that each call puts, in order: the first no.
+-- The questions 15 to 21 and 24 that each call puts, in order: the first no. 24, is an arrival's id other than 0, is asked between 16 and
+-- 17, whatever the book has of 0; a retry does not put it.
 unfoldable pub refusal : Pack → State → Call → Option No
 refusal pack s (arrival slot id w args) =
     ask (number 15) (ltb slot 8)
     (ask (number 16) (not (isSome (s .slots slot)))
+    (ask (number 24) (not (eqb id 0))
     (ask (number 17) (ltb w (length pack))
     (ask (number 18) (asBooked (record { workflow = w; arguments = args }) (s .store .book id))
-    (ask (number 19) (canBook (s .store) (s .store .book id)) none))))
+    (ask (number 19) (canBook (s .store) (s .store .book id)) none)))))
 refusal pack s (retry slot id) =
     ask (number 15) (ltb slot 8)
     (ask (number 16) (not (isSome (s .slots slot)))

@@ -12,3 +12,4 @@ pub mod Logged
 pub mod Calls
 pub mod Plain
 pub mod Demand3
+pub mod RequestZero

@@ -1,10 +1,10 @@
--- The rules' questions 15 to 20, one by one, with the tests in hand. Assumes nothing.
+-- The rules' questions 15 to 20 and 24, one by one, with the tests in hand. Assumes nothing.
 use mathlib.Core.Bool.{true, false}
 use mathlib.Core.List.{List}
 use mathlib.Core.Option.{none, some}
 use mathlib.Core.Path.{_≡_, refl, ap}
 use Prim.Native.Nat.{ℕ, _≤_, _<_}
-use borrow.Author.Tests.{lt-ltb, le-ltb}
+use borrow.Author.Tests.{lt-ltb, le-ltb, eq-eqb, ne-eqb}
 use lib.ListN.{length}
 use Rattle.rules.specs.Questions.{number, ask}
 use Rattle.rules.specs.Questions as Questions
@@ -87,11 +87,17 @@ module _ (pack : Pack) (s : State) (slot : ℕ) where
       arrival-16 a e = rw (lt-ltb slot 8 h, e) refl
 
       module _ (e : s .slots slot ≡ none) where
-        pub arrival-17 : length pack ≤ w → refusal pack s (arrival slot id w args) ≡ some (number 17)
+        pub arrival-24 : id ≡ 0 → refusal pack s (arrival slot id w args) ≡ some (number 24)
         unfolding Calls.refusal Questions.ask
-        arrival-17 l = rw (lt-ltb slot 8 h, e, le-ltb w (length pack) l) refl
+        arrival-24 z = rw (lt-ltb slot 8 h, e, eq-eqb id 0 z) refl
 
-        -- behind 17 only 18 and 19 are left
-        pub arrival-rest : w < length pack → refusal pack s (arrival slot id w args) ≡ bookRefusal (s .store) id (record { workflow = w; arguments = args })
-        unfolding Calls.refusal Questions.ask bookRefusal
-        arrival-rest l = rw (lt-ltb slot 8 h, e, lt-ltb w (length pack) l) refl
+        module _ (other : id ≡ 0 → ⊥) where
+          pub arrival-17 : length pack ≤ w → refusal pack s (arrival slot id w args) ≡ some (number 17)
+          unfolding Calls.refusal Questions.ask
+          arrival-17 l = rw (lt-ltb slot 8 h, e, ne-eqb id 0 other, le-ltb w (length pack) l) refl
+
+          -- behind 17 only 18 and 19 are left
+          pub arrival-rest : w < length pack →
+              refusal pack s (arrival slot id w args) ≡ bookRefusal (s .store) id (record { workflow = w; arguments = args })
+          unfolding Calls.refusal Questions.ask bookRefusal
+          arrival-rest l = rw (lt-ltb slot 8 h, e, ne-eqb id 0 other, lt-ltb w (length pack) l) refl

@@ -71,7 +71,7 @@ pub fn retry(pack: &[u8], store: &[u8], agents: [Agent; 8], slot: usize, id: u32
     }
 }
 
-// Arrival books a new id, then starts an agent; a known id only starts one.
+// Arrival books a new id, then starts an agent; a known id only starts one. Id 0 is turned down, known or not.
 pub fn arrival(
     pack: &[u8],
     store: &mut [u8],
@@ -96,7 +96,11 @@ pub fn arrival(
             if a.in_use {
                 return agents::refused(16, 0, 0, agents);
             }
-            if pack::count_of(pack) <= workflow {
+            let m = pack::count_of(pack);
+            if id == 0 {
+                return agents::refused(24, 0, 0, agents);
+            }
+            if m <= workflow {
                 return agents::refused(17, 0, 0, agents);
             }
             let b = booking::book_request(store, id, workflow, a0, a1, a2, a3);

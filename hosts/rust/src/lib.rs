@@ -98,6 +98,35 @@ mod c {
     }
 }
 
+/// The question of a refusal, by its number, in the order in which they are put; an empty text for a number that no call here puts.
+pub fn question(number: u32) -> &'static str {
+    match number {
+        1 => "Is there a count, 1 to 16?",
+        2 => "Are all sizes there, each 1 to 256, sum at most 2,048?",
+        3 => "Is the length 1 + 2m + 5T?",
+        4 => "Is the operation 0 to B and bit 3 clear?",
+        5 => "Are w (a jump's target included), and d where fixed, in range?",
+        6 => "Does it stand, and its jump land, on the right side?",
+        7 => "Is it at most the 16th PUT of its block?",
+        8 => "Is the last instruction RETURN?",
+        9 => "Are there three bytes, P 1 to 8, C 5 to 256?",
+        10 => "Is the store's length right?",
+        11 => "Is each used count at most C, each used key of a form of its partition and unlike the others there, each unused row zero?",
+        12 => "Has each booked id all five rows?",
+        13 => "Is each booked workflow below m, each BEGIN's partition below P?",
+        14 => "Is each slot empty or sound?",
+        15 => "Is the slot 0 to 7?",
+        16 => "Is it empty (arrival, retry) or in use (turn, crash)?",
+        24 => "Is the id other than 0 (arrival)?",
+        17 => "Is the workflow below m (arrival, opening)?",
+        18 => "If the id is known, are workflow and arguments those booked (arrival)?",
+        19 => "If it is new, are five book rows free (arrival)?",
+        20 => "Is the id booked (retry)?",
+        21 => "Has a block that isn't logged enough free rows: one, plus one per different new key it PUTs (turn)?",
+        _ => "",
+    }
+}
+
 /// The i-th word of 4 bytes.
 pub fn word(bytes: &[u8], i: usize) -> u32 {
     u32::from_le_bytes([bytes[4 * i], bytes[4 * i + 1], bytes[4 * i + 2], bytes[4 * i + 3]])

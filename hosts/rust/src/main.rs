@@ -9,11 +9,12 @@
 //! disk, and renamed over the old one. A program that is killed at any place leaves a file from which the next one goes on: agents
 //! that were under way are emptied by a restart and started again from the book; what was logged is not done a second time.
 
-use sarthule::{arrival, create, restart, retry, store_bytes, turn, word, Answer, Request, Slots, EMPTY};
+use sarthule::{arrival, create, question, restart, retry, store_bytes, turn, word, Answer, Request, Slots, EMPTY};
 use std::error::Error;
 use std::fs::{self, File};
 use std::io::Write;
 use std::path::{Path, PathBuf};
+use std::process::ExitCode;
 
 type Try<T> = Result<T, Box<dyn Error>>;
 
@@ -143,14 +144,24 @@ impl Stock {
 fn said(answer: Answer) -> Try<Answer> {
     match answer {
         Answer::Refused { question: q @ 4..=8, workflow, instruction } => {
-            Err(format!("refused {q} {workflow} {instruction}").into())
+            Err(format!("refused {q} {workflow} {instruction}: {}", question(q)).into())
         }
-        Answer::Refused { question, .. } => Err(format!("refused {question}").into()),
+        Answer::Refused { question: q, .. } => Err(format!("refused {q}: {}", question(q)).into()),
         answer => Ok(answer),
     }
 }
 
-fn main() -> Try<()> {
+fn main() -> ExitCode {
+    match command() {
+        Ok(()) => ExitCode::SUCCESS,
+        Err(problem) => {
+            eprintln!("{problem}");
+            ExitCode::FAILURE
+        }
+    }
+}
+
+fn command() -> Try<()> {
     let words: Vec<String> = std::env::args().skip(1).collect();
     let words: Vec<&str> = words.iter().map(String::as_str).collect();
     match words[..] {

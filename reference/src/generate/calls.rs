@@ -3,13 +3,13 @@
 use super::damage::damage;
 use super::near_miss::{any_near_miss, near_miss};
 use super::packs::{encoded_pack, Bounds};
-use super::world::{new_request, World};
+use super::world::{changed, new_request, right_request, World};
 use crate::agents::{Agent, ALL_EMPTY, SLOTS};
 use crate::calls::Call;
-use crate::cases::{CallCase, Case, Order};
+use crate::cases::{CallCase, Case, ListCase, Order};
 use crate::pack::Pack;
 use crate::random::Random;
-use crate::schedule::Kind;
+use crate::schedule::{Event, Kind};
 use crate::store::{fresh, Key, Request, Shape, Store};
 
 /// A call that reads nothing but the pack.
@@ -80,9 +80,12 @@ pub fn create(random: &mut Random) -> Case {
     }))
 }
 
-/// A small world after some events.
+/// A small world after some events, at times on an older store.
 fn run_world(random: &mut Random) -> World {
     let mut world = World::small(random);
+    if random.one_in(6) {
+        world.book_zero(random);
+    }
     let events = random.between(2, 40);
     world.run(random, events);
     world
@@ -263,7 +266,7 @@ fn booked_case(random: &mut Random) -> CallCase {
     case_on(world, order)
 }
 
-/// A call aimed at a question from 15 to 20.
+/// A call aimed at a question from 15 to 20, or at 24.
 pub fn wrong(random: &mut Random, question: u8, lane: usize) -> Case {
     let mut world = booked_world(random);
     if world.slots.iter().all(|agent| agent.in_use) {
@@ -276,6 +279,7 @@ pub fn wrong(random: &mut Random, question: u8, lane: usize) -> Case {
         17 => arrival(empty, wrong_workflow(random, &world)),
         18 => arrival(empty, changed_repeat(random, &world, lane)),
         19 => arrival(empty, one_too_many(random, &mut world)),
+        24 => zero_arrives(random, &mut world, empty, lane),
         _ => Call::Retry {
             slot: empty,
             id: unbooked_id(random, &world),
@@ -391,10 +395,67 @@ fn one_too_many(random: &mut Random, world: &mut World) -> Request {
         store.book(&request);
     }
     world.store = store.bytes().to_vec();
-    let mut request = new_request(random, world.workflows);
-    request.workflow = random.below(world.workflows) as u32;
-    request.id = unbooked_id(random, world);
-    request
+    let unbooked = (0..).map(|_| unbooked_id(random, world));
+    let id = unbooked.into_iter().find(|id| *id != 0).unwrap_or(1);
+    right_request(random, world.workflows, id)
+}
+
+/// An arrival with id 0 where another question might answer: 15 and 16 do, 17 to 19 do not.
+fn zero_arrives(random: &mut Random, world: &mut World, empty: u32, lane: usize) -> Call {
+    let mut request = right_request(random, world.workflows, 0);
+    let mut slot = empty;
+    match lane % 8 {
+        0 => request.workflow = wrong_workflow(random, world).workflow,
+        1 => request = world.book_zero(random),
+        2 => request.arguments = world.book_zero(random).arguments.map(|word| word ^ 1),
+        3 => drop(one_too_many(random, world)),
+        4 => slot = world.some_slot(random, true).map_or(empty, u32::from),
+        5 => slot = some_wrong_slot(random),
+        _ => {}
+    }
+    arrival(slot, request)
+}
+
+/// Calls on an older store that has 0 in its book: its request is retried, up to its reply
+/// or with whatever comes between, and it arrives again, as it was or changed.
+pub fn older(random: &mut Random, lane: usize) -> Case {
+    let mut world = World::small(random);
+    let zero = world.book_zero(random);
+    let (store, slots) = (world.store.clone(), world.slots);
+    let slot = random.below(3) as u8;
+    let retry = Event {
+        kind: Kind::Retry,
+        slot,
+        request: (world.schedule.requests.len() - 1) as u8,
+    };
+    let turn = Event {
+        kind: Kind::Turn,
+        slot,
+        request: 0,
+    };
+    let mut calls = Vec::new();
+    let mut happens = |world: &mut World, event: Event| {
+        calls.push(world.schedule.call(&event));
+        world.apply(event);
+    };
+    for _ in 0..random.between(1, 2) {
+        happens(&mut world, retry);
+        for _ in 0..random.between(1, 16) {
+            let event = match lane % 2 {
+                0 => turn,
+                _ => world.next_event(random),
+            };
+            happens(&mut world, event);
+        }
+    }
+    calls.push(arrival(random.below(8) as u32, zero));
+    calls.push(arrival(random.below(8) as u32, changed(random, zero)));
+    Case::List(Box::new(ListCase {
+        pack: world.pack,
+        store,
+        slots,
+        calls,
+    }))
 }
 
 /// Restart, which asks nothing, on a right or damaged state.

@@ -42,8 +42,10 @@ enum Family {
     /// A call on a state damaged in one place.
     Damaged(u8),
     DamagedTwice,
-    /// A call that questions 15 to 20 refuse.
+    /// A call that questions 15 to 20 or 24 refuse.
     Wrong(u8),
+    /// A list of calls on an older store, which has id 0 in its book.
+    Older,
     /// A turn at an instruction outside a block, on any registers.
     OneInstruction,
     /// A block with exactly enough room, one row too few, or on the log.
@@ -60,11 +62,13 @@ enum Family {
 use Family::*;
 
 /// Taken in turn. What is likely to find a difference stands more than once.
-const FAMILIES: [Family; 83] = [
+const FAMILIES: [Family; 89] = [
     Schedule,
     NearMiss(1),
     Damaged(9),
     Check,
+    Older,
+    Wrong(24),
     Schedule,
     NearMiss(2),
     Wrong(15),
@@ -93,6 +97,8 @@ const FAMILIES: [Family; 83] = [
     NearMiss(8),
     Wrong(18),
     AfterRun,
+    Older,
+    Wrong(24),
     Schedule,
     BadSchedule(22),
     Damaged(13),
@@ -117,6 +123,8 @@ const FAMILIES: [Family; 83] = [
     BadPackSchedule,
     Damaged(14),
     Create,
+    Older,
+    Wrong(24),
     Schedule,
     NearMiss(5),
     DamagedTwice,
@@ -176,6 +184,7 @@ pub fn case(seed: u64, number: usize) -> Case {
         Damaged(question) => calls::damaged(random, question, lane),
         DamagedTwice => calls::damaged_twice(random),
         Wrong(question) => calls::wrong(random, question, lane),
+        Older => calls::older(random, lane),
         OneInstruction => turns::one_instruction(random, lane),
         ExactRoom => turns::at_block(random, turns::Room::Exact),
         OneRowShort => turns::at_block(random, turns::Room::OneShort),

@@ -4,7 +4,7 @@ use super::packs::{encoded_pack, Bounds};
 use crate::agents::{Slots, ALL_EMPTY, SLOTS};
 use crate::random::Random;
 use crate::schedule::{Event, Kind, Schedule};
-use crate::store::{fresh, Request};
+use crate::store::{fresh, Request, Store, BOOK_ROWS};
 
 /// Pack, store and slots, with the requests that may come.
 pub struct World {
@@ -60,6 +60,18 @@ impl World {
     pub fn without_requests(random: &mut Random) -> Self {
         let bounds = Bounds::any(random);
         Self::new(random, bounds, 5, 0)
+    }
+
+    /// Books id 0 in the store itself, as a runtime before W-201 did, and has it among the
+    /// requests, so that it is retried and repeated. No schedule leads to such a store.
+    pub fn book_zero(&mut self, random: &mut Random) -> Request {
+        let zero = right_request(random, self.workflows, 0);
+        let mut store = Store::lay_out(self.store.as_mut_slice()).expect("a store that ran");
+        if store.request(0).is_none() && store.free(store.shape().book()) >= BOOK_ROWS {
+            store.book(&zero);
+        }
+        self.schedule.requests.push(zero);
+        zero
     }
 
     /// Lets a number of events happen.
@@ -147,20 +159,35 @@ impl World {
 /// Requests with repeats and changed repeats of ids.
 fn some_requests(random: &mut Random, workflows: usize, count: usize) -> Vec<Request> {
     let mut requests: Vec<Request> = Vec::with_capacity(count);
-    for _ in 0..count {
-        let request = match requests.is_empty() || !random.one_in(3) {
+    for number in 0..count {
+        let mut request = match requests.is_empty() || !random.one_in(3) {
             true => new_request(random, workflows),
             false => repeat(random, &requests),
         };
+        if number == 0 {
+            // One that may be booked.
+            request.id = request.id.max(1);
+        }
         requests.push(request);
     }
     requests
 }
 
+/// A request of this id for a workflow of the pack.
+pub fn right_request(random: &mut Random, workflows: usize, id: u32) -> Request {
+    Request {
+        id,
+        workflow: random.below(workflows) as u32,
+        arguments: std::array::from_fn(|_| random.word()),
+    }
+}
+
 pub fn new_request(random: &mut Random, workflows: usize) -> Request {
-    let id = match random.one_in(3) {
-        true => random.word(),
-        false => random.below(40) as u32,
+    let id = match random.below(12) {
+        // What a handheld with a flat backup cell sends.
+        0 => 0,
+        1..=4 => random.word(),
+        _ => random.below(40) as u32,
     };
     let workflow = match random.below(40) {
         0 => random.pick(&[workflows, workflows + 1, 65_536, u32::MAX as usize]),
@@ -182,7 +209,7 @@ fn repeat(random: &mut Random, requests: &[Request]) -> Request {
 }
 
 /// The same id with one other word.
-fn changed(random: &mut Random, mut request: Request) -> Request {
+pub fn changed(random: &mut Random, mut request: Request) -> Request {
     match random.below(5) {
         4 => request.workflow = random.word_unlike(request.workflow),
         i => request.arguments[i] = random.word_unlike(request.arguments[i]),

@@ -20,7 +20,7 @@ use Rattle.meaning.specs.State.{stateOf}
 use Rattle.meaning.specs.Questions.{lentRefusal, lentFor}
 use Rattle.meaning.proofs.Asked.{lent-pack, lent-store, lent-14}
 use Rattle.meaning.proofs.Carry.{tidy-typed, is-stopped, is-refused, is-done}
-use Rattle.runtime.proofs.Rules.{arrival-15, arrival-16, arrival-17, arrival-rest}
+use Rattle.runtime.proofs.Rules.{arrival-15, arrival-16, arrival-24, arrival-17, arrival-rest}
 use Rattle.booking.proofs.Booking.{is-unbooked, arrives, as-booked}
 use Rattle.runtime.proofs.arrival.Statement.{statement}
 use Rattle.runtime.proofs.arrival.Tie as tie
@@ -36,9 +36,22 @@ tidied c = let s = c .before .before .before .before .before .before in tidy-typ
 free : (c : tie.Else2) → slotsOf (c .before .before .before .before .before .before .before .before .before .args .t3) (c .before .before .before .before .before .before .before .before .before .args .slot) ≡ none
 free c = let s = c .before .before .before .before .before .before .before .before .before .args in slot-empty (s .t3) (s .slot) (c .if2 .left)
 
+-- the id is not 0
+other : (c : tie.Else3) → c .before .before .before .before .before .before .before .before .before .before .before .args .id ≡ 0 → ⊥
+other c = c .if3 .left
+
 -- the workflow is below m
-below : (c : tie.Else3) → c .before .before .before .before .before .before .before .before .before .before .before .args .workflow < length (packOf (c .before .before .before .before .before .before .before .before .before .before .before .args .pack .now))
-below c = omega (arith, c .if3 .left, c .before .count-of .ensures, length-pack (c .before .before .before .before .before .before .before .before .before .before .before .args .pack .now))
+below : (c : tie.Else4) →
+    c .before .before .before .before .before .before .before .before .before .before .before .before .args .workflow
+    < length (packOf (c .before .before .before .before .before .before .before .before .before .before .before .before .args .pack .now))
+below c =
+    let m = c .before .before in
+    omega (
+      arith,
+      c .if4 .left,
+      m .count-of .ensures,
+      length-pack (m .before .before .before .before .before .before .before .before .before .before .args .pack .now),
+    )
 
 pub arrival-spec : {M : Type 1} → statement M
 unfolding lentFor stateOf recordOf Calls.rule Answers.answerOf
@@ -67,10 +80,20 @@ arrival-spec =
     let n = c .before .before .before in
     let e = n .before .before in
     let s = e .before .before .before .before .before .before .before .args in
+    is-refused _ _ _ _ _ 24 (asked (e .before))
+    (arrival-24 (packOf (s .pack .now)) (stateOf (s .store .now) (s .t3)) (s .slot) (s .id) (s .workflow) _ (e .if1 .left) (free n)
+    (c .before .if3 .taken)) (c .refused3 .ensures))
+    (λ c κs. search needs)
+    (λ c. search needs)
+    (λ c.
+    let x = c .before .before in
+    let n = x .before .before in
+    let e = n .before .before in
+    let s = e .before .before .before .before .before .before .before .args in
     is-refused _ _ _ _ _ 17 (asked (e .before))
-    (arrival-17 (packOf (s .pack .now)) (stateOf (s .store .now) (s .t3)) (s .slot) (s .id) (s .workflow) _ (e .if1 .left) (free n)
-    (omega (arith, c .before .if3 .taken, c .before .before .count-of .ensures, length-pack (s .pack .now)))) (c .refused3 .ensures))
-    (λ c κs. lent-store _ _ _ (asked (c .before .before .before .before .before .before)))
+    (arrival-17 (packOf (s .pack .now)) (stateOf (s .store .now) (s .t3)) (s .slot) (s .id) (s .workflow) _ (e .if1 .left) (free n) (other x)
+    (omega (arith, c .before .if4 .taken, x .before .count-of .ensures, length-pack (s .pack .now)))) (c .refused4 .ensures))
+    (λ c κs. lent-store _ _ _ (asked (c .before .before .before .before .before .before .before)))
     (λ c. search needs)
     (λ c κs. search needs)
     (λ c κs. search needs)
@@ -85,13 +108,14 @@ arrival-spec =
     let t = w .before .before in
     let k = t .before .before .before .before in
     let l = k .before .before in
-    let n = l .before .before in
+    let x = l .before in
+    let n = x .before .before in
     let e = n .before .before in
     let s = e .before .before .before .before .before .before .before .args in
     let q : Request = record { workflow = s .workflow; arguments = s .a0 ∷ s .a1 ∷ s .a2 ∷ s .a3 ∷ [] } in
     let yes-both = accepted-none (k .book-request .result) _ (k .book-request .ensures .answer) (t .enum-told2 .given .1) in
     is-done _ _ _ (s .t3) _ _ (s .slot) (some (record { id = s .id; course = start q; step = 0 })) _ _ (tidied (e .before)) (e .if1 .left) (asked (e .before))
-    (arrival-rest (packOf (s .pack .now)) (stateOf (s .store .now) (s .t3)) (s .slot) (s .id) (s .workflow) _ (e .if1 .left) (free n) (below l) ∙ yes-both)
+    (arrival-rest (packOf (s .pack .now)) (stateOf (s .store .now) (s .t3)) (s .slot) (s .id) (s .workflow) _ (e .if1 .left) (free n) (other x) (below l) ∙ yes-both)
     (arrives (stateOf (s .store .now) (s .t3)) (s .slot) (s .id) q _ (as-booked _ (s .id) q yes-both))
     (k .book-request .ensures .written yes-both) (ap (λ (o : Outcome). Answers.answerOf (o .answer)) (c .done .ensures))
     (ap (λ (o : Outcome). o .agents) (c .done .ensures) ∙ w .with-agent .ensures ∙ ap (set (s .t3) (s .slot)) (w .before .started .ensures)))
@@ -100,15 +124,16 @@ arrival-spec =
     let b = c .before .before in
     let k = b .before .before .before .before in
     let l = k .before .before in
-    let n = l .before .before in
+    let x = l .before in
+    let n = x .before .before in
     let e = n .before .before in
     let s = e .before .before .before .before .before .before .before .args in
     let q : Request = record { workflow = s .workflow; arguments = s .a0 ∷ s .a1 ∷ s .a2 ∷ s .a3 ∷ [] } in
     is-unbooked _ _ _ (s .t3) _ _ (s .id) q (k .book-request .result) (k .book-request .ensures) (asked (e .before))
-    (arrival-rest (packOf (s .pack .now)) (stateOf (s .store .now) (s .t3)) (s .slot) (s .id) (s .workflow) _ (e .if1 .left) (free n) (below l))
-    _ _ _ (b .b .given .1) (c .refused4 .ensures))
+    (arrival-rest (packOf (s .pack .now)) (stateOf (s .store .now) (s .t3)) (s .slot) (s .id) (s .workflow) _ (e .if1 .left) (free n) (other x) (below l))
+    _ _ _ (b .b .given .1) (c .refused5 .ensures))
     (λ c. search needs)
     (λ c.
     let v = c .before .before in
     let k = v .before .before in
-    is-stopped _ _ _ _ _ _ _ _ (refused-some (k .check-lent .result) _ _ _ _ (k .check-lent .ensures) (v .v .given .1)) (c .refused5 .ensures)))
+    is-stopped _ _ _ _ _ _ _ _ (refused-some (k .check-lent .result) _ _ _ _ (k .check-lent .ensures) (v .v .given .1)) (c .refused6 .ensures)))

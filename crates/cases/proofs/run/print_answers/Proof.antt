@@ -1,0 +1,34 @@
+-- `cases::run::print_answers` is safe and ends: 29 bytes of the calls are passed in each round. Assumes nothing.
+use borrow.Author.Needs.{needs}
+use Prim.Native.Nat.{_-_, _≤_}
+use mathlib.Core.Path.{_≡_, refl, _∙_}
+use lib.ListN.{length}
+use Rattle.cases.proofs.run.print_answers.Statement.{statement}
+use Rattle.cases.proofs.run.print_answers.Tie as tie
+
+abbrev Inv-loop : tie.InvT-loop
+Inv-loop pack store₀ records₀ calls at₀ store records at =
+    (at ≤ length calls) × (length store ≡ length store₀) × (length records ≡ length records₀)
+
+abbrev μ-loop : tie.MeasureT-loop
+μ-loop pack store₀ records₀ calls at₀ store records at = length calls - at
+
+pub print-answers-spec : {M : Type 1} → statement M
+print-answers-spec =
+    tie.close
+    (tie.spec
+    Inv-loop
+    μ-loop
+    (λ c. (search needs, refl, refl))
+    (λ c. search needs)
+    (λ c. search needs)
+    (λ c κs. search needs)
+    (λ c. search needs)
+    (λ c κs. search needs)
+    (λ c κs. search needs)
+    (λ c. search needs)
+    (λ c. search needs)
+    (λ c. (search needs, search needs, search needs))
+    (λ c. search needs)
+    (λ c. search needs)
+    (λ c. search needs))

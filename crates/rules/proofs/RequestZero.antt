@@ -1,0 +1,150 @@
+-- W-201, request number zero: an arrival with id 0 is turned down, and no call books a new 0. Assumes nothing.
+use mathlib.Core.Bool.{Bool, true, false, not}
+use mathlib.Core.Path.{_≡_, refl, sym, _∙_, ap}
+use mathlib.Core.List.{List, [], _∷_}
+use mathlib.Core.Logic.{_⊎_, inl, inr, ⊎-elim}
+use mathlib.Core.Option.{Option, none, some, Option·some-injective}
+use Prim.Native.Nat.{ℕ, _<_}
+use borrow.Author.Tests.{lt-ltb, eqb-true, eqb-false}
+use lib.Dec.{eqb}
+use Rattle.rules.specs.Questions.{No, number, ask}
+use Rattle.rules.specs.Instructions.{Code, Pack, Place}
+use Rattle.rules.specs.Blocks.{Result}
+use Rattle.rules.specs.Courses.{Course, Next, goes, does, says, nextOf}
+use Rattle.rules.specs.Store.{Request, sought, found}
+use Rattle.rules.specs.Calls.{Agent, State, Call, arrival, retry, turn, crash, restart, stopped, codeBy}
+use Rattle.rules.specs.Calls.{refusal, rule, arrive, again, throughBlock, turnOn, turnIn, unless, call, History, stateAfter}
+use Rattle.rules.specs.Plain.{machineAfter}
+use Rattle.rules.specs.RequestZero.{zeroNo, RequestZero, NoZero}
+use Rattle.rules.proofs.Updates.{none-some, false-true, update-other}
+use Rattle.rules.proofs.Questions.{ask-none}
+use Rattle.rules.proofs.Replies.{replyTo}
+use Rattle.rules.proofs.Theorem.{invariant}
+
+-- ── the questions ──
+
+-- where 24 is said behind a question of another number, the rest says it
+behind : (q : ℕ) (b : Bool) (rest : Option No) → eqb q 24 ≡ false → ask (number q) b rest ≡ some (number 24) → rest ≡ some (number 24)
+unfolding ask
+behind q true rest other e = e
+behind q false rest other e =
+    absurd (eqb-false q 24 other (ap (λ (n : No). n .question) (Option·some-injective (number q) (number 24) e)))
+
+-- where 24 is said, the id is 0 or the rest says it
+at-24 : (id : ℕ) (rest : Option No) → ask (number 24) (not (eqb id 0)) rest ≡ some (number 24) → (id ≡ 0) ⊎ (rest ≡ some (number 24))
+unfolding ask
+at-24 id rest e = go (eqb id 0) refl e
+  where
+    go : (b : Bool) → eqb id 0 ≡ b → ask (number 24) (not b) rest ≡ some (number 24) → (id ≡ 0) ⊎ (rest ≡ some (number 24))
+    go true z q = inl (eqb-true id 0 z)
+    go false z q = inr q
+
+-- where 24 says yes, the id is not 0
+not-zero : (id : ℕ) → not (eqb id 0) ≡ true → 0 ≡ id → ⊥
+not-zero id allow z = false-true (ap (λ n. not (eqb n 0)) (sym z)) allow
+
+module _ (pack : Pack) (s : State) where
+  turned-down : (slot w : ℕ) (args : List ℕ) → refusal pack s (arrival slot 0 w args) ≡ zeroNo s slot
+  unfolding refusal ask
+  turned-down slot w args = refl
+
+  none-accepted : (slot w : ℕ) (args : List ℕ) → refusal pack s (arrival slot 0 w args) ≡ none → ⊥
+  unfolding refusal
+  none-accepted slot w args allow = not-zero 0 (ask-none _ _ _ (ask-none _ _ _ (ask-none _ _ _ allow .1) .1) .0) refl
+
+  retried : (slot : ℕ) (q : Request) → slot < 8 → s .slots slot ≡ none → s .store .book 0 ≡ some q → refusal pack s (retry slot 0) ≡ none
+  unfolding refusal ask
+  retried slot q h e b = rw (lt-ltb slot 8 h, e, b) refl
+
+  nobody-else : (c : Call) → refusal pack s c ≡ some (number 24) →
+      ((slot : ℕ) × (w : ℕ) × (args : List ℕ) × (c ≡ arrival slot 0 w args)) ⊎ (c ≡ stopped (number 24))
+  unfolding refusal
+  nobody-else (arrival slot id w args) e =
+      ⊎-elim
+      (λ z. inl (slot, w, args, ap (λ n. arrival slot n w args) z))
+      (λ q. none-some (number 24) refl (behind 19 _ _ refl (behind 18 _ _ refl (behind 17 _ _ refl q))))
+      (at-24 id _ (behind 16 _ _ refl (behind 15 _ _ refl e)))
+  nobody-else (retry slot id) e = none-some (number 24) refl (behind 20 _ _ refl (behind 16 _ _ refl (behind 15 _ _ refl e)))
+  nobody-else (turn slot) e = none-some (number 24) refl (behind 21 _ _ refl (behind 16 _ _ refl (behind 15 _ _ refl e)))
+  nobody-else (crash slot) e = none-some (number 24) refl (behind 16 _ _ refl (behind 15 _ _ refl e))
+  nobody-else restart e = none-some (number 24) refl e
+  nobody-else (stopped n) e = inr (ap stopped (Option·some-injective n (number 24) e))
+
+  -- ── the book ──
+
+  -- what a call does books no new 0, when no question says no
+  pub rule-books-no-new : (c : Call) → refusal pack s c ≡ none → s .store .book 0 ≡ none → rule pack s c .state .store .book 0 ≡ none
+  unfolding refusal rule arrive again turnIn turnOn throughBlock
+  rule-books-no-new (arrival slot id w args) allow free = go (s .store .book id)
+    where
+      q : Request
+      q = record { workflow = w; arguments = args }
+
+      other : 0 ≡ id → ⊥
+      other = not-zero id (ask-none _ _ _ (ask-none _ _ _ (ask-none _ _ _ allow .1) .1) .0)
+
+      go : (o : Option Request) → arrive s slot id q o .state .store .book 0 ≡ none
+      go none = update-other (s .store .book) id (some q) 0 other ∙ free
+      go (some known) = free
+  rule-books-no-new (retry slot id) allow free = go (s .store .book id)
+    where
+      go : (o : Option Request) → again s slot id o .state .store .book 0 ≡ none
+      go none = free
+      go (some known) = free
+  rule-books-no-new (turn slot) allow free = go (s .slots slot)
+    where
+      through : (a : Agent) (code : Code) (from : Place) (p : ℕ) (onto : Result → Course) (o : Option Result) →
+          throughBlock s slot a code from p onto o .state .store .book 0 ≡ none
+      through a code from p onto none = free
+      through a code from p onto (some v) = free
+
+      on : (a : Agent) (code : Code) (x : Next) → turnOn s slot a code x .state .store .book 0 ≡ none
+      on a code (says v) = free
+      on a code (does from p onto) = through a code from p onto (found (s .store .log) p (a .id) (a .step))
+      on a code (goes to) = free
+
+      go : (o : Option Agent) → turnIn pack s slot o .state .store .book 0 ≡ none
+      go none = free
+      go (some a) = on a (codeBy pack (s .store .book (a .id))) (nextOf (codeBy pack (s .store .book (a .id))) (a .course))
+  rule-books-no-new (crash slot) allow free = free
+  rule-books-no-new restart allow free = free
+  rule-books-no-new (stopped n) allow free = free
+
+  books-no-new : (c : Call) → s .store .book 0 ≡ none → call pack s c .state .store .book 0 ≡ none
+  unfolding call unless
+  books-no-new c free = go (refusal pack s c) refl
+    where
+      go : (o : Option No) → refusal pack s c ≡ o → unless o s (rule pack s c) .state .store .book 0 ≡ none
+      go none e = rule-books-no-new c e free
+      go (some n) e = free
+
+  -- What W-201 asks of each call.
+  pub request-zero : RequestZero pack s
+  request-zero =
+      record {
+        none-accepted = none-accepted;
+        turned-down = turned-down;
+        nobody-else = nobody-else;
+        retried = retried;
+        books-no-new = books-no-new;
+      }
+
+-- ── lists of calls ──
+
+module _ (pack : Pack) (room : ℕ) where
+  not-booked : (calls : History) → stateAfter pack room calls .store .book 0 ≡ none
+  unfolding stateAfter
+  not-booked [] = refl
+  not-booked (c ∷ before) = books-no-new pack (stateAfter pack room before) c (not-booked before)
+
+  -- The plain run books no new 0.
+  pub no-zero : (calls : History) → NoZero pack room calls
+  no-zero calls =
+      let core = invariant pack room calls .core in
+      let run = core .unbooked 0 (not-booked calls) in
+      record {
+        run = run;
+        book = not-booked calls;
+        log = λ p t. ap sought (core .unlogged 0 run p t);
+        replies = λ r h z. none-some (r .value) (ap (λ j. replyTo j (machineAfter pack room calls .replies)) z ∙ core .unreplied 0 run) (core .settled r h);
+      }
