@@ -2,4 +2,5 @@ pub mod Mirror
 pub mod Each
 pub mod Theorem
 pub mod RequestZero
+pub mod AsBefore
 pub mod Never

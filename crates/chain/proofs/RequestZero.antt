@@ -26,7 +26,7 @@ use Rattle.meaning.specs.Carried.{Kept, Carried}
 use Rattle.chain.specs.Chain.{Event, Chain}
 use Rattle.chain.specs.RequestZero.{RequestZero, NoZero}
 use Rattle.chain.proofs.Each.{answers-yes}
-use Rattle.chain.proofs.Mirror.{Mirror, mirror}
+use Rattle.chain.proofs.Mirror.{mirror}
 
 -- ── each call ──
 

@@ -98,7 +98,8 @@ module _ (pack : List ℕ) (e : packRefusal pack ≡ none) (w : ℕ) (h : w < co
       not-inside true p = absurd (let z : _≡_ {A = ℕ} 0 1 = cc in omega arith)
 
 -- a request in the book has its workflow below m
-booked-workflow : (pack store : List ℕ) → bookedRight pack store ≡ true → (id : ℕ) (q : Request) → bookOf (valueIn (bookRows store)) id ≡ some q → q .workflow < count pack
+pub booked-workflow : (pack store : List ℕ) → bookedRight pack store ≡ true → (id : ℕ) (q : Request) →
+    bookOf (valueIn (bookRows store)) id ≡ some q → q .workflow < count pack
 unfolding bookOf requestOf
 booked-workflow pack store b id q e = go (ltb id (2 ^ 32)) (lookup (bookKey id 0) (bookRows store)) refl e
   where

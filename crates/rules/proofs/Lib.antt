@@ -16,4 +16,5 @@ pub mod Logged
 pub mod Blocks
 pub mod Theorem
 pub mod RequestZero
+pub mod ByLog
 pub mod WholeCase

@@ -146,5 +146,8 @@ module _ (pack : Pack) (room : ℕ) where
         run = run;
         book = not-booked calls;
         log = λ p t. ap sought (core .unlogged 0 run p t);
-        replies = λ r h z. none-some (r .value) (ap (λ j. replyTo j (machineAfter pack room calls .replies)) z ∙ core .unreplied 0 run) (core .settled r h);
+        replies =
+            λ r h z.
+            none-some (r .value) (ap (λ j. replyTo j (machineAfter pack room calls .replies)) z ∙ core .unreplied 0 run)
+            (core .settled r h);
       }

@@ -91,7 +91,8 @@ arrival-spec =
     let e = n .before .before in
     let s = e .before .before .before .before .before .before .before .args in
     is-refused _ _ _ _ _ 17 (asked (e .before))
-    (arrival-17 (packOf (s .pack .now)) (stateOf (s .store .now) (s .t3)) (s .slot) (s .id) (s .workflow) _ (e .if1 .left) (free n) (other x)
+    (arrival-17 (packOf (s .pack .now)) (stateOf (s .store .now) (s .t3)) (s .slot) (s .id) (s .workflow) _ (e .if1 .left) (free n)
+    (other x)
     (omega (arith, c .before .if4 .taken, x .before .count-of .ensures, length-pack (s .pack .now)))) (c .refused4 .ensures))
     (λ c κs. lent-store _ _ _ (asked (c .before .before .before .before .before .before .before)))
     (λ c. search needs)
@@ -115,7 +116,8 @@ arrival-spec =
     let q : Request = record { workflow = s .workflow; arguments = s .a0 ∷ s .a1 ∷ s .a2 ∷ s .a3 ∷ [] } in
     let yes-both = accepted-none (k .book-request .result) _ (k .book-request .ensures .answer) (t .enum-told2 .given .1) in
     is-done _ _ _ (s .t3) _ _ (s .slot) (some (record { id = s .id; course = start q; step = 0 })) _ _ (tidied (e .before)) (e .if1 .left) (asked (e .before))
-    (arrival-rest (packOf (s .pack .now)) (stateOf (s .store .now) (s .t3)) (s .slot) (s .id) (s .workflow) _ (e .if1 .left) (free n) (other x) (below l) ∙ yes-both)
+    (arrival-rest (packOf (s .pack .now)) (stateOf (s .store .now) (s .t3)) (s .slot) (s .id) (s .workflow) _ (e .if1 .left) (free n)
+    (other x) (below l) ∙ yes-both)
     (arrives (stateOf (s .store .now) (s .t3)) (s .slot) (s .id) q _ (as-booked _ (s .id) q yes-both))
     (k .book-request .ensures .written yes-both) (ap (λ (o : Outcome). Answers.answerOf (o .answer)) (c .done .ensures))
     (ap (λ (o : Outcome). o .agents) (c .done .ensures) ∙ w .with-agent .ensures ∙ ap (set (s .t3) (s .slot)) (w .before .started .ensures)))
@@ -130,10 +132,12 @@ arrival-spec =
     let s = e .before .before .before .before .before .before .before .args in
     let q : Request = record { workflow = s .workflow; arguments = s .a0 ∷ s .a1 ∷ s .a2 ∷ s .a3 ∷ [] } in
     is-unbooked _ _ _ (s .t3) _ _ (s .id) q (k .book-request .result) (k .book-request .ensures) (asked (e .before))
-    (arrival-rest (packOf (s .pack .now)) (stateOf (s .store .now) (s .t3)) (s .slot) (s .id) (s .workflow) _ (e .if1 .left) (free n) (other x) (below l))
+    (arrival-rest (packOf (s .pack .now)) (stateOf (s .store .now) (s .t3)) (s .slot) (s .id) (s .workflow) _ (e .if1 .left) (free n)
+    (other x) (below l))
     _ _ _ (b .b .given .1) (c .refused5 .ensures))
     (λ c. search needs)
     (λ c.
     let v = c .before .before in
     let k = v .before .before in
-    is-stopped _ _ _ _ _ _ _ _ (refused-some (k .check-lent .result) _ _ _ _ (k .check-lent .ensures) (v .v .given .1)) (c .refused6 .ensures)))
+    is-stopped _ _ _ _ _ _ _ _ (refused-some (k .check-lent .result) _ _ _ _ (k .check-lent .ensures) (v .v .given .1))
+    (c .refused6 .ensures)))

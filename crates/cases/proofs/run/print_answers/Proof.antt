@@ -1,7 +1,7 @@
 -- `cases::run::print_answers` is safe and ends: 29 bytes of the calls are passed in each round. Assumes nothing.
 use borrow.Author.Needs.{needs}
 use Prim.Native.Nat.{_-_, _≤_}
-use mathlib.Core.Path.{_≡_, refl, _∙_}
+use mathlib.Core.Path.{_≡_, refl}
 use lib.ListN.{length}
 use Rattle.cases.proofs.run.print_answers.Statement.{statement}
 use Rattle.cases.proofs.run.print_answers.Tie as tie
