@@ -15,7 +15,8 @@ use Rattle.rules.specs.Plain.{accepted, withAnswer, Tallies, tallied}
 use Rattle.rules.proofs.Updates.{false-true, update-same}
 use Rattle.rules.proofs.Questions.{ask-none, orElse-none}
 use Rattle.rules.proofs.Calls.{rule-accepted}
-use Rattle.rules.proofs.ByLog.{ByLog, turn-is, turn-counted, rule-by-log, at-first, given-before, given-equal, turns-at-most, last-replies}
+use Rattle.rules.proofs.Stands.{turn-is, turn-counted, turns-at-most, last-replies}
+use Rattle.rules.proofs.ByLog.{ByLog, rule-by-log, at-first, given-before, given-equal}
 use Rattle.pack.proofs.Laws.{length-pack, length-workflow, accepted-checked}
 use Rattle.pack.specs.Meaning.{packOf}
 use Rattle.store.specs.Rows.{storeOf}
@@ -102,19 +103,19 @@ module _ (pack older : List ℕ) where
             counted =
                 ap (λ (b : Bool). if_then_else_ b (tallied (talliesOf events) (turn slot)) (talliesOf events) slot) allow
                 ∙ ap (λ (f : Tallies). f slot)
-                (turn-counted (packOf pack) first (stateOf store records) (talliesOf events) (repliesOf events) inv slot a st)
+                (turn-counted (packOf pack) (stateOf store records) (talliesOf events) slot a st)
                 ∙ update-same (talliesOf events) slot (some (record { id = a .id; turns = suc (st .moves) }));
             booked = st .book-is;
             workflow = w;
-            at-most = omega (arith, turns-at-most (packOf pack) (stateOf store records) (talliesOf events slot) slot a st checked, size);
+            at-most = omega (arith, turns-at-most (packOf pack) (stateOf store records) (talliesOf events) slot a st checked, size);
             last =
                 λ x.
-                let l = last-replies (packOf pack) (stateOf store records) (talliesOf events slot) slot a st checked (x ∙ sym size) in (
+                let l = last-replies (packOf pack) (stateOf store records) (talliesOf events) slot a st checked (x ∙ sym size) in (
                   l .0,
                   h .carried all-yes .0
                       ∙ ap (λ (y : Option Calls.Agent). turnIn (packOf pack) (stateOf store records) slot y .answer) e
                       ∙ ap (λ (y : Outcome). y .answer)
-                      (turn-is (packOf pack) first (stateOf store records) (talliesOf events) (repliesOf events) inv slot a st)
+                      (turn-is (packOf pack) (stateOf store records) (talliesOf events) slot a st)
                       ∙ l .1,
                 );
           }

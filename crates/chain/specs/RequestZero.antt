@@ -31,7 +31,7 @@ pub record RequestZero (pack store : List ℕ) (records : List Agent) (answer : 
     -- an arrival with id 0 is never accepted
     pub none-accepted : (slot w : ℕ) (args : List ℕ) → Carried pack store records (arrival slot 0 w args) answer records′ store′ →
         accepted (answerOf answer) ≡ false
-    -- it gets the first no of 1 to 16 or else 24, whatever its workflow and arguments and whatever the book has of 0; nothing lent is changed
+    -- it gets the first no of 1 to 16 or else 24, whatever its workflow, its arguments and the book; nothing lent is changed
     pub turned-down : (slot w : ℕ) (args : List ℕ) → Carried pack store records (arrival slot 0 w args) answer records′ store′ →
         (n : No) → orElse (lentRefusal pack store records) (zeroNo (stateOf store records) slot) ≡ some n →
         (answerOf answer ≡ Calls.refused n) × Kept store records store′ records′

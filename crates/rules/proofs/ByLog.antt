@@ -5,34 +5,23 @@ use mathlib.Core.Path.{_≡_, refl, sym, _∙_, ap, subst}
 use mathlib.Core.List.{List, [], _∷_, List·Memᴰ, List·Memᴰ·cases-cons, List·Memᴰ·not-nil}
 use mathlib.Core.Logic.{_⊎_, inl, inr}
 use mathlib.Core.Option.{Option, none, some, Option·some-injective}
-use Prim.Native.Nat.{ℕ, suc, _≤_}
-use native.Mathlib.Omega.{arith}
-use lib.ListN.{length, getD}
+use Prim.Native.Nat.{ℕ, suc}
 use Rattle.rules.specs.Basics.{update, isSome}
-use Rattle.rules.specs.Instructions.{Code, Pack, Place, act, actAt}
-use Rattle.rules.specs.Blocks.{Result, yields, Block, runBlock}
-use Rattle.rules.specs.Courses.{Course, Next, goes, does, says, nextBy, nextOf}
-use Rattle.rules.specs.Checked.{Checked}
+use Rattle.rules.specs.Instructions.{Code, Pack, Place}
+use Rattle.rules.specs.Blocks.{Result, Block, runBlock}
+use Rattle.rules.specs.Courses.{Course, Next, goes, does, says, nextOf}
 use Rattle.rules.specs.Store.{Request, Store, sought, found, booked, written}
 use Rattle.rules.specs.Logged.{codeOf, start, Stage, at, finished, behind, byNext, follow, replyLogged}
-use Rattle.rules.specs.Calls.{codeBy, Agent, State, Outcome, Call, arrival, retry, turn, crash, restart, stopped, reply}
+use Rattle.rules.specs.Calls.{Agent, State, Outcome, Call, arrival, retry, turn, crash, restart, stopped}
 use Rattle.rules.specs.Calls.{withSlot, started, arrive, again, throughBlock, turnOn, turnIn, refusal, rule}
-use Rattle.rules.specs.Plain.{Reply, withAnswer, Tally, Tallies, tallied, oneMore}
+use Rattle.rules.specs.Plain.{Reply, withAnswer, Tally, Tallies, tallied}
 use Rattle.rules.proofs.Updates.{none-some, false-true, update-same, update-other, update-each}
 use Rattle.rules.proofs.Questions.{ask-none}
 use Rattle.rules.proofs.Follow.{row-grows, row-here, follow-stays, follow-next}
 use Rattle.rules.proofs.Logged.{Ends, ends-once, ends-stay, logged-ends}
 use Rattle.rules.proofs.Invariant.{Remains}
 use Rattle.rules.proofs.Turn.{tallyOf}
-use Rattle.rules.proofs.Positions.{follow-position}
-
--- an agent stands where the log leads its request in as many moves as it has had turns
-pub record Stands (pack : Pack) (s : Store) (tally : Option Tally) (a : Agent) : Type 0 where
-  pub request : Request
-  pub moves : ℕ
-  pub counted : tally ≡ some (record { id = a .id; turns = moves })
-  pub book-is : s .book (a .id) ≡ some request
-  pub there : follow (s .log) (a .id) (codeOf pack request) request moves ≡ some (at (a .course) (a .step))
+use Rattle.rules.proofs.Stands.{Stands, turn-is, turn-counted}
 
 -- a reply is the one to which the log leads its request
 pub record Given (pack : Pack) (s : Store) (r : Reply) : Type 0 where
@@ -215,16 +204,6 @@ module _ (pack : Pack) (first : Store) where
       turns-on (says v) e = says-it v e
       turns-on (does from p onto) e = through from p onto e (found (s .store .log) p (a .id) (a .step)) refl
 
-      -- the turn of this agent is by its booked workflow
-      pub turn-is : turnIn pack s slot (some a) ≡ turnOn s slot a code (nextOf code (a .course))
-      unfolding turnIn
-      turn-is = ap (λ (q : Option Request). turnOn s slot a (codeBy pack q) (nextOf (codeBy pack q) (a .course))) (h .book-is)
-
-      -- and counts one more
-      pub turn-counted : tallied t (turn slot) ≡ update t slot tally
-      unfolding tallied oneMore
-      turn-counted = ap (λ o. update t slot (oneMore o)) (h .counted)
-
     turns : (o : Option Agent) → s .slots slot ≡ o → isSome o ≡ true →
         ByLog pack first (turnIn pack s slot o .state) (tallied t (turn slot)) (withAnswer (turnIn pack s slot o .answer) rs)
     turns none e u = false-true refl u
@@ -232,8 +211,8 @@ module _ (pack : Pack) (first : Store) where
         let h = inv .slots slot a e in
         subst (λ (x : Tallies). ByLog pack first (turnIn pack s slot (some a) .state) x
         (withAnswer (turnIn pack s slot (some a) .answer) rs))
-        (sym (turn-counted a h))
-        (subst (λ (x : Outcome). ByLog pack first (x .state) (update t slot (tally a h)) (withAnswer (x .answer) rs)) (sym (turn-is a h))
+        (sym (turn-counted pack s t slot a h))
+        (subst (λ (x : Outcome). ByLog pack first (x .state) (update t slot (tally a h)) (withAnswer (x .answer) rs)) (sym (turn-is pack s t slot a h))
         (turns-on a h (nextOf (codeOf pack (h .request)) (a .course)) refl))
 
   -- What a call does goes by the log, when no question says no.
@@ -293,27 +272,3 @@ module _ (pack : Pack) (first : Store) where
         (subst (λ (x : Request). Ends (s .store .log) (r′ .id) (codeOf pack x) x (r .value)) same
         (subst (λ i. Ends (s .store .log) i (codeOf pack (g .request)) (g .request) (r .value)) e (g .ends)))
         (g′ .ends)
-
--- An agent's turns are at most its workflow's size, and the last that it allows is a reply.
-module _ (pack : Pack) (s : State) (tally : Option Tally) (slot : ℕ) (a : Agent) (h : Stands pack (s .store) tally a)
-    (c : Checked (codeOf pack (h .request))) where
-  pub turns-at-most : suc (h .moves) ≤ length (codeOf pack (h .request))
-  turns-at-most =
-      let code = codeOf pack (h .request) in
-      let p = follow-position code c (s .store .log) (a .id) (h .request) (h .moves) (a .course) (a .step) (h .there) in
-      let p₀ = p .0 in
-      let p₁ = p .1 in
-      omega arith
-
-  pub last-replies : suc (h .moves) ≡ length (codeOf pack (h .request)) →
-      (v : Result) × (turnOn s slot a (codeOf pack (h .request)) (nextOf (codeOf pack (h .request)) (a .course)) .answer ≡ reply (a .id) v)
-  unfolding turnOn nextOf nextBy actAt act
-  last-replies e =
-      let code = codeOf pack (h .request) in
-      let p = follow-position code c (s .store .log) (a .id) (h .request) (h .moves) (a .course) (a .step) (h .there) in
-      let p₀ = p .0 in
-      let p₁ = p .1 in
-      let l = c .last-returns (a .course .place .position) (omega arith) in (
-        yields (getD (a .course .place .registers) (l .0) 0),
-        ap (λ x. turnOn s slot a code (nextBy code (a .course .place) (act x (a .course .place))) .answer) (l .1),
-      )

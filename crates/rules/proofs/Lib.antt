@@ -9,9 +9,10 @@ pub mod Follow
 pub mod Replies
 pub mod Invariant
 pub mod Core
+pub mod Positions
+pub mod Stands
 pub mod Turn
 pub mod Calls
-pub mod Positions
 pub mod Logged
 pub mod Blocks
 pub mod Theorem

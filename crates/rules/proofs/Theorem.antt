@@ -4,16 +4,13 @@ use mathlib.Core.Path.{_≡_, refl, sym, _∙_, ap, subst}
 use mathlib.Core.List.{List, [], _∷_, reverse, List·Memᴰ, List·Memᴰ·not-nil}
 use mathlib.Core.Option.{Option, none, some, Option·some-injective}
 use Prim.Native.Nat.{ℕ, suc, _<_}
-use native.Mathlib.Omega.{arith}
-use lib.ListN.{getD, length}
+use lib.ListN.{length}
 use Rattle.rules.specs.Basics.{if_then_else_, isSome}
 use Rattle.rules.specs.Questions.{No}
-use Rattle.rules.specs.Instructions.{Pack, act, actAt}
-use Rattle.rules.specs.Blocks.{yields}
-use Rattle.rules.specs.Courses.{nextBy, nextOf}
+use Rattle.rules.specs.Instructions.{Pack}
 use Rattle.rules.specs.Store.{Request}
 use Rattle.rules.specs.Logged.{codeOf, replyLogged}
-use Rattle.rules.specs.Calls.{State, Agent, Outcome, refusal, rule, unless, turnIn, turnOn, turn, call, History, stateAfter}
+use Rattle.rules.specs.Calls.{State, Agent, Outcome, refusal, rule, unless, turnIn, turn, call, History, stateAfter}
 use Rattle.rules.specs.Plain.{Reply, Run, Machine, Tallies, accepted, tallied, machineAfter, talliesAfter, repliesAfter, firstReplies}
 use Rattle.rules.specs.Checked.{Checked, CheckedPack}
 use Rattle.rules.specs.Demand3.{InTime, PlainRun, Demand3, SoundAgent}
@@ -21,7 +18,8 @@ use Rattle.rules.proofs.Updates.{none-some, false-true, update-same}
 use Rattle.rules.proofs.Replies.{replyTo}
 use Rattle.rules.proofs.Invariant.{Progress, underway, over, Live, Inv}
 use Rattle.rules.proofs.Logged.{ends-logged}
-use Rattle.rules.proofs.Turn.{outcome-is, tallied-is, tallyOf}
+use Rattle.rules.proofs.Stands.{turn-is, turn-counted, turns-at-most, last-replies}
+use Rattle.rules.proofs.Turn.{live-stands, tallyOf}
 use Rattle.rules.proofs.Questions.{ask-none}
 use Rattle.rules.proofs.Calls.{call-keeps}
 use Rattle.rules.proofs.Positions.{follow-position}
@@ -67,13 +65,12 @@ module _ (pack : Pack) (checked : CheckedPack pack) (room : ℕ) (calls : Histor
   live-in-time : (a : Agent) → s .slots slot ≡ some a → (live : Live pack (s .store .log) (s .store .book) (m .runs) (t slot) a) →
       call pack s (turn slot) .answer ≡ turnIn pack s slot (some a) .answer →
       accepted (call pack s (turn slot) .answer) ≡ true → InTime pack room calls slot
-  unfolding talliesAfter turnOn nextOf nextBy actAt act
+  unfolding talliesAfter
   live-in-time a held live same allow =
       let inv = invariant pack room calls in
-      let code = codeOf pack (live .run .request) in
       let own = live .book-is in
-      let c : Checked code = checked (live .run .request .workflow) (inv .core .valid (a .id) (live .run .request) own) in
-      let pos = follow-position code c (s .store .log) (a .id) (live .run .request) (live .turns) (a .course) (a .step) (live .there) in
+      let c = checked (live .run .request .workflow) (inv .core .valid (a .id) (live .run .request) own) in
+      let st = live-stands pack s m t rs inv slot a live in
       record {
         agent = a;
         turns = suc (live .turns);
@@ -81,18 +78,14 @@ module _ (pack : Pack) (checked : CheckedPack pack) (room : ℕ) (calls : Histor
         in-slot = held;
         counted =
             ap (λ (b : Bool). if_then_else_ b (tallied t (turn slot)) t slot) allow
-            ∙ ap (λ (f : Tallies). f slot) (tallied-is pack s m t rs inv slot a live)
+            ∙ ap (λ (f : Tallies). f slot) (turn-counted pack s t slot a st)
             ∙ update-same t slot (tallyOf (a .id) (suc (live .turns)));
         booked = own;
-        at-most = omega arith;
+        at-most = turns-at-most pack s t slot a st c;
         last =
             λ e.
-            let l = c .last-returns (a .course .place .position) (omega arith) in (
-              yields (getD (a .course .place .registers) (l .0) 0),
-              same
-                  ∙ ap (λ (o : Outcome). o .answer) (outcome-is pack s m t rs inv slot a live)
-                  ∙ ap (λ x. turnOn s slot a code (nextBy code (a .course .place) (act x (a .course .place))) .answer) (l .1),
-            );
+            let l = last-replies pack s t slot a st c e in
+            (l .0, same ∙ ap (λ (o : Outcome). o .answer) (turn-is pack s t slot a st) ∙ l .1);
       }
 
   turn-in-time : accepted (call pack s (turn slot) .answer) ≡ true → InTime pack room calls slot

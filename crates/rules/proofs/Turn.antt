@@ -12,17 +12,18 @@ use Rattle.rules.specs.Instructions.{Code, Pack, Place}
 use Rattle.rules.specs.Blocks.{Table, Result, Block, runBlock}
 use Rattle.rules.specs.Courses.{Course, Next, goes, does, says, nextOf}
 use Rattle.rules.specs.Questions.{No}
-use Rattle.rules.specs.Store.{Request, Log, Store, found, withRow, written}
+use Rattle.rules.specs.Store.{Log, Store, found, withRow, written}
 use Rattle.rules.specs.Logged.{codeOf, Stage, at, finished, behind}
-use Rattle.rules.specs.Calls.{codeBy, Agent, State, Outcome, unless, withSlot, throughBlock, turnOn, turnIn, turn}
+use Rattle.rules.specs.Calls.{Agent, State, Outcome, unless, withSlot, throughBlock, turnOn, turnIn, turn}
 use Rattle.rules.specs.Plain.{Reply, Run, Machine, Tally, Tallies, answered, firstReplies, accepted, withAnswer, ahead, moveOn}
-use Rattle.rules.specs.Plain.{move, fed, fedTurn, fedRun, tallied, oneMore}
+use Rattle.rules.specs.Plain.{move, fed, fedTurn, fedRun, tallied}
 use Rattle.rules.proofs.Updates.{none-some, false-true, le-cases, T-true, eqb-cases, update-same}
 use Rattle.rules.proofs.Follow.{Free, Same, same-here, Grows, same-grows, free-none, row-grows, row-elsewhere, row-later, row-here}
 use Rattle.rules.proofs.Follow.{follow-stays, follow-below, follow-next}
 use Rattle.rules.proofs.Replies.{replyTo, reply-more, reply-other, reply-new, answered-by, answered-first}
 use Rattle.rules.proofs.Invariant.{followed, Progress, underway, over, Live, Inv, Remains, slots-stay, slots-set}
 use Rattle.rules.proofs.Core.{come, come-to, run-ahead, core-moved}
+use Rattle.rules.proofs.Stands.{Stands, turn-is, turn-counted}
 
 -- the invariant after a call with this outcome, which fed the machine to become m′ and the tallies t′ if it was accepted
 pub record Keeps (pack : Pack) (m m′ : Machine) (t t′ : Tallies) (rs : List Reply) (o : Outcome) : Type 0 where
@@ -396,18 +397,20 @@ module _
         subst (λ (x : Run). Progress pack (s .store .log) (m .replies) (a .id) x)
         (Option·some-injective (g .run) r (sym (g .run-is) ∙ live .run-is)) (g .progress)
 
-    pub outcome-is : turnIn pack s slot (some a)
+    -- it stands where the log leads its request
+    abbrev pub live-stands : Stands pack (s .store) (t slot) a
+    live-stands = record { request = r .request; moves = k; counted = live .tally-is; book-is = live .book-is; there = live .there }
+
+    outcome-is : turnIn pack s slot (some a)
         ≡ turnOn s slot a (codeOf pack (r .request)) (nextOf (codeOf pack (r .request)) (a .course))
-    unfolding turnIn
-    outcome-is = ap (λ (q : Option Request). turnOn s slot a (codeBy pack q) (nextOf (codeBy pack q) (a .course))) (live .book-is)
+    outcome-is = turn-is pack s t slot a live-stands
 
     fed-is : fed pack m t (turn slot) ≡ if_then_else_ (ltb (r .moveCount) (suc k)) (move pack m (a .id) r) m
     unfolding fed fedTurn fedRun
     fed-is = ap (fedTurn pack m) (live .tally-is) ∙ ap (fedRun pack m (a .id) (suc k)) (live .run-is)
 
-    pub tallied-is : tallied t (turn slot) ≡ update t slot (tallyOf (a .id) (suc k))
-    unfolding tallied oneMore
-    tallied-is = ap (λ o. update t slot (oneMore o)) (live .tally-is)
+    tallied-is : tallied t (turn slot) ≡ update t slot (tallyOf (a .id) (suc k))
+    tallied-is = turn-counted pack s t slot a live-stands
 
     -- at the front
     front-turn : k ≡ r .moveCount → Progress pack (s .store .log) (m .replies) (a .id) r →

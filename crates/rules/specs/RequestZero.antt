@@ -21,7 +21,7 @@ zeroNo s slot = ask (number 15) (ltb slot 8) (ask (number 16) (not (isSome (s .s
 pub record RequestZero (pack : Pack) (s : State) : Type 0 where
   -- an arrival with id 0 is never accepted
   pub none-accepted : (slot w : ℕ) (args : List ℕ) → refusal pack s (arrival slot 0 w args) ≡ none → ⊥
-  -- it gets that no, whatever its workflow and arguments and whatever the book has of 0
+  -- it gets `zeroNo`, whatever its workflow and arguments and whatever the book has of 0
   pub turned-down : (slot w : ℕ) (args : List ℕ) → refusal pack s (arrival slot 0 w args) ≡ zeroNo s slot
   -- 24 is said to arrivals with id 0 only (`stopped` stands for a call of any kind that never comes to 15)
   pub nobody-else : (c : Call) → refusal pack s c ≡ some (number 24) →
