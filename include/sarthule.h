@@ -139,7 +139,8 @@ uint32_t sarthule_retry(const uint8_t *pack, size_t pack_len, const uint8_t *sto
 /*
  * The agent in the slot does one instruction, or at BEGIN its whole block, with all rows of it and its log row; at RETURN
  * it replies and its slot is emptied. Moved, reply, or refused. An agent of a workflow of n instructions replies after at
- * most n turns.
+ * most n turns. In a block, GET of a key that is absent leaves its register as it was (it becomes 0 no more); what a block
+ * came to that an older library has logged stays as it is.
  */
 uint32_t sarthule_turn(const uint8_t *pack, size_t pack_len, uint8_t *store, size_t store_len, uint8_t *slots,
     size_t slots_len, size_t slot, uint8_t *answer, size_t answer_len);

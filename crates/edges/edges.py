@@ -91,11 +91,24 @@ def turn(p=ONE, s=None, slots=None, slot=0):
     return call(TURN, [slot], p, store() if s is None else s, slots)
 
 
+def reading(*block, s=None, end=5):
+    """Request 7 up to its reply: register 5 becomes 9, then a block in partition 0 whose result is register `end`'s. Before it registers
+    0 to 3 are 100, 200, 30, 0."""
+    p = pack([NINE, BEGIN, *block, (0x70 | end, 0), RETURN])
+    return calls(p, store(1, 5, book=BOOKED) if s is None else s, [(RETRY, [0, 7])] + [(TURN, [0])] * 3)
+
+
+def replies(value):
+    return DONE + MOVED * 2 + "answer reply 7 %d\n" % value
+
+
 def refused(n, workflow=0, instruction=0):
     return "answer refused %d %d %d\n" % (n, workflow, instruction)
 
 
 DONE, MOVED = "answer done\n", "answer moved\n"
+NINE = (0x05, 9)  # register 5 becomes 9
+GET = (0x85, 0)  # the value at register 0's key, to register 5
 
 EDGES = [
     ("the whole case", schedule(MOVE, 2, 5, [SEVEN, EIGHT], [0x00, 0x10, 0x10, 0x20, 0x31, 0x11, 0x11, 0x11, 0x11, 0x01], [0] * 9 + [1]), """\
@@ -238,6 +251,44 @@ log 1 7 1 30
     # 20
     ("a retry of a booked id", call(RETRY, [0, 7], ONE, store(book=BOOKED)), DONE),
     ("a retry of an id that is not booked", call(RETRY, [0, 8], ONE, store(book=BOOKED)), refused(20)),
+    # GET of an absent key
+    ("an absent key, d holds 9", reading(GET), replies(9)),
+    ("an absent key behind a PUT of it", reading((0x90, 2), GET), replies(30)),
+    ("an absent key behind a PUT of 0 at it", reading((0x90, 3), GET), replies(0)),
+    ("an absent key behind a PUT of another key", reading((0x91, 2), GET), replies(9)),
+    ("an absent key ahead of a PUT of it", reading(GET, (0x90, 2)), replies(9)),
+    ("an absent key, the block has SET d to 4", reading((0x05, 4), GET), replies(4)),
+    ("an absent key, an earlier block has SET d to 4", calls(
+        pack([NINE, BEGIN, (0x05, 4), (0x75, 0), BEGIN, (0x85, 1), (0x75, 0), RETURN]), store(1, 5, book=BOOKED),
+        [(RETRY, [0, 7])] + [(TURN, [0])] * 4), DONE + MOVED * 3 + "answer reply 7 9\n"),
+    ("an absent key, d is s", reading((0x80, 0), end=0), replies(100)),
+    ("a key that holds 0, d holds 9", reading(GET, s=store(1, 5, [(0, data(100), 0)], BOOKED)), replies(0)),
+    ("a key that holds 5, d holds 9", reading(GET, s=store(1, 5, [(0, data(100), 5)], BOOKED)), replies(5)),
+    ("a key that another partition has", reading(GET, s=store(2, 5, [(1, data(100), 5)], BOOKED)), replies(9)),
+    ("a log row with the key's number", reading(GET, s=store(1, 5, [(0, log(0, 100), 5)], BOOKED)), replies(9)),
+    ("a book row with the key's number", reading(GET, s=store(1, 10, book=BOOKED + [(12, 0, [1, 2, 3, 5])])), replies(9)),
+    ("HAS of an absent key, d holds 9", reading((0xA5, 0)), replies(0)),
+    ("HAS of an absent key behind a PUT of 0 at it", reading((0x90, 3), (0xA5, 0)), replies(1)),
+    ("an absent key's register PUT at another key", schedule(pack([NINE, BEGIN, GET, (0x91, 5), (0x75, 0), RETURN]), 1, 5, [SEVEN],
+     [0x00, 0x10, 0x10, 0x10]), "events 4\n0 done\n1 moved\n2 moved\n3 reply 7 9\nrow 0 200 9\nlog 0 7 0 9\n"),
+    ("an absent key, written by another request before the retry", schedule(
+        pack([NINE, BEGIN, GET, (0x75, 0), RETURN], [BEGIN, (0x90, 1), END, RETURN]), 1, 10, [SEVEN, [8, 1, 100, 200, 30, 0]],
+        [0x00, 0x10, 0x10, 0x20, 0x01, 0x11, 0x30, 0x10, 0x10, 0x10], [0, 0, 0, 0, 1, 0, 0, 0, 0, 0]), """\
+events 10
+0 done
+1 moved
+2 moved
+3 done
+4 done
+5 moved
+6 done
+7 moved
+8 moved
+9 reply 7 9
+row 0 100 200
+log 0 7 0 9
+log 0 8 0 100
+"""),
     # turns and restart
     ("a turn at RETURN", turn(s=store(book=BOOKED), slots={0: agent(7, registers=[42])}), "answer reply 7 42\n"),
     ("a restart asks nothing", call(RESTART, store=b"\xff"), DONE),

@@ -1,4 +1,4 @@
-//! What the operations do, by the document's table.
+//! What the operations do, by document 01's table; GET of an absent key as W-206 has it.
 
 use std::collections::BTreeMap;
 
@@ -57,7 +57,8 @@ pub fn run_block(
                 let result = registers[d];
                 return BlockRun { result, puts };
             }
-            Operation::Get => registers[d] = seen(registers[s]).unwrap_or(0),
+            // An absent key leaves register d of the block's own copy as it was.
+            Operation::Get => registers[d] = seen(registers[s]).unwrap_or(registers[d]),
             Operation::Has => registers[d] = u32::from(seen(registers[s]).is_some()),
             Operation::Put => {
                 puts.insert(registers[d], registers[s]);

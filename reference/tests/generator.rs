@@ -1,12 +1,14 @@
 //! The generator: the same seed the same bytes, small files, and nothing left out.
 
-use reference::cases::{Case, Order};
+use reference::cases::{CallCase, Case, Order};
 use reference::coverage::Coverage;
 use reference::generate::{self, encoded_pack, near_miss, Bounds};
-use reference::pack::{check, MOST_INSTRUCTIONS};
+use reference::operations::{run_block, Registers};
+use reference::pack::{check, encode, open, MOST_INSTRUCTIONS};
 use reference::random::Random;
 use reference::refusal::QUESTIONS;
-use reference::{Answer, Call, Operation, Outcome};
+use reference::store::{Key, Store};
+use reference::{Answer, Call, Operation, Outcome, Pack};
 
 #[test]
 fn a_seed_names_its_cases() {
@@ -81,6 +83,72 @@ fn id_0_is_often_among_the_ids() {
     assert_eq!([17, 18, 19].map(|number| turned_down[number]), [0; 3]);
 }
 
+/// An instruction that, put ahead of a GET, gives it another meaning where its key is absent.
+type Ahead = fn(d: u8, s: u32, record: &Registers) -> (u8, u32);
+
+/// The result of the block ahead of an agent whose turn it is, as it is and with an
+/// instruction ahead of each GET; `None` where no block runs, or one with jumps or GETs of
+/// their own key's register.
+fn results(case: &CallCase, ahead: Ahead) -> Option<(u32, u32)> {
+    let Order::Call(Call::Turn { slot }) = case.order else {
+        return None;
+    };
+    if case.perform().outcome != Ok(Answer::Moved) {
+        return None;
+    }
+    let agent = case.slots[slot as usize];
+    let store = Store::read(case.store.as_slice()).expect("an accepted turn");
+    let pack = Pack::read(&case.pack).expect("an accepted turn");
+    let workflow = pack.workflow(store.request(agent.id)?.workflow)?;
+    let begin = workflow.instruction(agent.position as usize)?;
+    let step = agent.step as u16;
+    let log_key = Key::Log { id: agent.id, step }.stored();
+    let partition = begin.w as usize;
+    if begin.operation != Operation::Begin || store.find(partition, log_key).is_some() {
+        return None;
+    }
+    let (mut as_it_is, mut changed) = (Vec::new(), Vec::new());
+    for index in agent.position as usize..workflow.behind_block(agent.position as usize) {
+        let instruction = workflow.instruction(index)?;
+        let (byte, d) = (instruction.byte(), instruction.d);
+        let reads = instruction.operation == Operation::Get;
+        if instruction.operation.is_jump() || reads && instruction.s() == d {
+            return None;
+        }
+        if reads {
+            changed.push(ahead(d as u8, instruction.w, &agent.registers));
+        }
+        as_it_is.push((byte, instruction.w));
+        changed.push((byte, instruction.w));
+    }
+    let result = |rows: Vec<(u8, u32)>| {
+        let bytes = encode(&[[rows, vec![(0xB0, 0)]].concat()]);
+        let find = |key: u32| store.find(partition, Key::Data(key).stored());
+        run_block(&open(&bytes, 0).expect("right"), 0, agent.registers, find).result
+    };
+    Some((result(as_it_is), result(changed)))
+}
+
+/// 0, what register s holds, or what the record holds, each for what the block's own
+/// register d holds.
+#[test]
+fn a_wrong_reading_of_an_absent_key_shows() {
+    let wrong: [Ahead; 3] = [
+        |d, _, _| (d, 0),
+        |d, s, _| (0x10 | d, s),
+        |d, _, record| (d, record[usize::from(d)]),
+    ];
+    let mut shown = [0; 3];
+    for case in generate::cases(11, 1_000) {
+        let Case::Call(case) = case else { continue };
+        for (ahead, shown) in wrong.iter().zip(&mut shown) {
+            let shows = results(&case, *ahead).is_some_and(|(right, wrong)| right != wrong);
+            *shown += usize::from(shows);
+        }
+    }
+    assert!(shown.iter().all(|times| *times > 5), "{shown:?}");
+}
+
 #[test]
 fn right_packs_pass_the_check_and_have_every_operation() {
     let mut random = Random::new(11);
@@ -89,7 +157,7 @@ fn right_packs_pass_the_check_and_have_every_operation() {
         let bounds = Bounds::any(&mut random);
         let pack = encoded_pack(&mut random, bounds);
         assert_eq!(check(&pack), Ok(()));
-        for instruction in reference::Pack::read(&pack).expect("right").instructions() {
+        for instruction in Pack::read(&pack).expect("right").instructions() {
             seen[usize::from(instruction.operation.code())] = true;
         }
     }

@@ -4,7 +4,7 @@ mod common;
 
 use common::*;
 use reference::pack::encode;
-use reference::store::{Key, Store};
+use reference::store::{Key, Request, Store};
 use reference::Answer;
 
 /// Runs one block on arguments 100, 200, 30, 0; answers with its result.
@@ -28,7 +28,7 @@ fn result_of(body: &[(u8, u32)]) -> u32 {
 
 #[test]
 fn get_and_has_see_earlier_puts() {
-    assert_eq!(result_of(&[(0x87, 0)]), 0, "absent");
+    assert_eq!(result_of(&[(0x87, 0)]), 0, "absent, and register 7 is 0");
     assert_eq!(result_of(&[(0xA7, 0)]), 0);
     assert_eq!(result_of(&[(0x90, 2), (0x87, 0)]), 30);
     assert_eq!(result_of(&[(0x90, 2), (0x90, 1), (0x87, 0)]), 200);
@@ -38,6 +38,54 @@ fn get_and_has_see_earlier_puts() {
         "a PUT of 0 is present"
     );
     assert_eq!(result_of(&[(0x90, 2), (0xA7, 1)]), 0);
+}
+
+#[test]
+fn get_of_an_absent_key_leaves_its_register_as_it_was() {
+    // SET r7 9 ahead: the block's own register, since the record's is 0.
+    let nine = (0x07, 9);
+    assert_eq!(result_of(&[nine, (0x87, 0)]), 9);
+    assert_eq!(result_of(&[nine, (0x91, 2), (0x87, 0)]), 9, "another key");
+    assert_eq!(result_of(&[nine, (0x90, 2), (0x87, 0)]), 30, "behind a PUT");
+    assert_eq!(result_of(&[nine, (0x90, 3), (0x87, 0)]), 0, "a PUT of 0");
+    assert_eq!(
+        result_of(&[nine, (0x87, 0), (0x90, 2)]),
+        9,
+        "ahead of a PUT"
+    );
+    assert_eq!(result_of(&[(0x17, 1), (0x87, 7)]), 200, "d is s");
+    assert_eq!(result_of(&[nine, (0xA7, 0)]), 0, "HAS is as it was");
+}
+
+#[test]
+fn get_of_a_key_that_holds_0_is_0() {
+    let block = vec![BEGIN, (0x91, 3), (0x70, 0), BEGIN, (0x82, 1), (0x72, 0)];
+    let mut state = State::new(encode(&[[block, vec![RETURN]].concat()]), 1, 12);
+    state.arrival(0, request(7)).expect("an arrival");
+    for _ in 0..2 {
+        assert_eq!(state.turn(0), Ok(Answer::Moved));
+    }
+    let agent = state.slots[0];
+    assert_eq!(agent.registers, [0, 200, 30, 0, 0, 0, 0, 0]);
+}
+
+#[test]
+fn a_logged_block_does_not_read_again() {
+    let workflow = vec![BEGIN, (0x82, 0), (0x72, 0), RETURN];
+    let count = vec![BEGIN, (0x90, 1), (0x70, 0), RETURN];
+    let mut state = State::new(encode(&[workflow, count]), 1, 12);
+    state.arrival(0, request(7)).expect("an arrival");
+    assert_eq!(state.turn(0), Ok(Answer::Moved));
+    state.crash(0).expect("a crash");
+    let counted = Request {
+        workflow: 1,
+        ..request(8)
+    };
+    state.arrival(1, counted).expect("an arrival");
+    assert_eq!(state.turn(1), Ok(Answer::Moved));
+    state.retry(0, 7).expect("a retry");
+    assert_eq!(state.turn(0), Ok(Answer::Moved));
+    assert_eq!(state.turn(0), Ok(Answer::Reply { id: 7, value: 30 }));
 }
 
 #[test]

@@ -29,6 +29,8 @@ pub struct Operation {
     pub name: &'static str,
     pub form: Form,
     pub side: Side,
+    /// What it does, in the words of the documents: d and s are what these registers hold.
+    pub does: &'static str,
 }
 
 pub const JLT: u8 = 4;
@@ -38,24 +40,74 @@ pub const END: u8 = 7;
 pub const PUT: u8 = 9;
 pub const RETURN: u8 = 11;
 
-const fn row(name: &'static str, form: Form, side: Side) -> Operation {
-    Operation { name, form, side }
+const fn row(name: &'static str, form: Form, side: Side, does: &'static str) -> Operation {
+    Operation {
+        name,
+        form,
+        side,
+        does,
+    }
 }
 
-/// The operations 0 to B in their order.
+/// The operations 0 to B in their order: document 01's table, GET as W-206 has it.
 pub const OPERATIONS: [Operation; 12] = [
-    row("SET", Form::RegisterNumber, Side::Anywhere),
-    row("COPY", Form::RegisterRegister, Side::Anywhere),
-    row("ADD", Form::RegisterRegister, Side::Anywhere),
-    row("SUB", Form::RegisterRegister, Side::Anywhere),
-    row("JLT", Form::RegisterRegisterLabel, Side::Anywhere),
-    row("JEQ", Form::RegisterRegisterLabel, Side::Anywhere),
-    row("BEGIN", Form::Number, Side::Outside),
-    row("END", Form::Register, Side::Inside),
-    row("GET", Form::RegisterRegister, Side::Inside),
-    row("PUT", Form::RegisterRegister, Side::Inside),
-    row("HAS", Form::RegisterRegister, Side::Inside),
-    row("RETURN", Form::Register, Side::Outside),
+    row("SET", Form::RegisterNumber, Side::Anywhere, "d becomes w"),
+    row(
+        "COPY",
+        Form::RegisterRegister,
+        Side::Anywhere,
+        "d becomes s",
+    ),
+    row(
+        "ADD",
+        Form::RegisterRegister,
+        Side::Anywhere,
+        "d becomes d + s, its remainder by 2^32",
+    ),
+    row(
+        "SUB",
+        Form::RegisterRegister,
+        Side::Anywhere,
+        "d becomes d − s, its remainder by 2^32",
+    ),
+    row(
+        "JLT",
+        Form::RegisterRegisterLabel,
+        Side::Anywhere,
+        "if d < s, goes to the target",
+    ),
+    row(
+        "JEQ",
+        Form::RegisterRegisterLabel,
+        Side::Anywhere,
+        "if d = s, goes to the target",
+    ),
+    row(
+        "BEGIN",
+        Form::Number,
+        Side::Outside,
+        "opens a block in partition w",
+    ),
+    row("END", Form::Register, Side::Inside, "closes it, result d"),
+    row(
+        "GET",
+        Form::RegisterRegister,
+        Side::Inside,
+        "d becomes the value at key s; if the key is absent, d stays as it was",
+    ),
+    row(
+        "PUT",
+        Form::RegisterRegister,
+        Side::Inside,
+        "the value at key d becomes s",
+    ),
+    row(
+        "HAS",
+        Form::RegisterRegister,
+        Side::Inside,
+        "d becomes 1 if key s is present, else 0",
+    ),
+    row("RETURN", Form::Register, Side::Outside, "the reply is d"),
 ];
 
 /// The number of an operation by its name.

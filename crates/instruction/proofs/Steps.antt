@@ -73,9 +73,9 @@ module _ (rs : List Row) (x : Running) (y : Spot) (kept : Kept (x .pending)) whe
       }
 
   module _ (d s : ℕ) (h : register (placeOf (x .place)) s < 2 ^ 32) (o : Option ℕ) (e : seen (rowsIn (x .pending)) rs (dataKey (register (placeOf (x .place)) s)) ≡ o) where
-    pub step-get : placeOf y ≡ becomes (placeOf (x .place)) d (Option·getD o 0) → Stepped (act (GET d s) (placeOf (x .place))) rs x (atPlace x y) 0
+    pub step-get : placeOf y ≡ becomes (placeOf (x .place)) d (Option·getD o (register (placeOf (x .place)) d)) → Stepped (act (GET d s) (placeOf (x .place))) rs x (atPlace x y) 0
     unfolding Instructions.act
-    step-get = step-reads (register (placeOf (x .place)) s) h o e (λ found. becomes (placeOf (x .place)) d (Option·getD found 0))
+    step-get = step-reads (register (placeOf (x .place)) s) h o e (λ found. becomes (placeOf (x .place)) d (Option·getD found (register (placeOf (x .place)) d)))
 
     pub step-has : placeOf y ≡ becomes (placeOf (x .place)) d (if_then_else_ (isSome o) 1 0) → Stepped (act (HAS d s) (placeOf (x .place))) rs x (atPlace x y) 0
     unfolding Instructions.act

@@ -105,7 +105,7 @@ fn at_place(x: Running, place: Spot) -> Running
     Running { place, pending }
 }
 
-// GET.
+// GET. An absent key leaves register d as it was.
 fn got(store: &[u8], partition: usize, x: Running, d: usize, s: usize) -> Running
     requires { ⌜ Sound (now store) × (partition ≤ partsOf (now store)) × Kept (x .pending) × (d < 8) × (s < 8) × (x .place .position + 1 < 2 ^ 64) ⌝ }
     ensures { λ r. ⌜ Stepped (act (Instruction.GET d s) (placeOf (x .place))) (rowsOf (now (store .entry)) partition) x r 0 ⌝ }
@@ -113,10 +113,11 @@ fn got(store: &[u8], partition: usize, x: Running, d: usize, s: usize) -> Runnin
     let place = x.place;
     let pending = x.pending;
     let key = data_key(place.registers[s]);
+    let old = place.registers[d];
     let g = seen_value(store, partition, pending, key);
     match g {
         Got::Value(v) => at_place(x, set(place, d, v)),
-        Got::Absent => at_place(x, set(place, d, 0)),
+        Got::Absent => at_place(x, set(place, d, old)),
     }
 }
 

@@ -18,4 +18,5 @@ pub mod Blocks
 pub mod Theorem
 pub mod RequestZero
 pub mod ByLog
+pub mod NeverWritten
 pub mod WholeCase

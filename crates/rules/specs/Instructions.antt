@@ -55,7 +55,7 @@ pub data Act : Type 0 where
   puts : (key value : ℕ) → Act
   returns : (reply : ℕ) → Act
 
--- The table of operations. ADD and SUB keep the remainder by 2^32.
+-- The table of operations. ADD and SUB keep the remainder by 2^32; GET of an absent key leaves d as it was.
 unfoldable pub act : Instruction → Place → Act
 act (SET d w) at = moves (becomes at d w)
 act (COPY d s) at = moves (becomes at d (register at s))
@@ -65,7 +65,7 @@ act (JLT d s target) at = moves (if ltb (register at d) (register at s) then got
 act (JEQ d s target) at = moves (if eqb (register at d) (register at s) then goto at target else next at)
 act (BEGIN p) at = opens p
 act (END d) at = closes (register at d)
-act (GET d s) at = reads (register at s) (λ found. becomes at d (Option·getD found 0))
+act (GET d s) at = reads (register at s) (λ found. becomes at d (Option·getD found (register at d)))
 act (PUT d s) at = puts (register at d) (register at s)
 act (HAS d s) at = reads (register at s) (λ found. becomes at d (if isSome found then 1 else 0))
 act (RETURN d) at = returns (register at d)

@@ -13,3 +13,4 @@ pub mod Calls
 pub mod Plain
 pub mod Demand3
 pub mod RequestZero
+pub mod NeverWritten

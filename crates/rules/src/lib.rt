@@ -1,5 +1,5 @@
-// Document 01 and request W-201 of document 02 without bytes: definitions in specs/, demand 3 and request number zero over them in
-// proofs/. The code is the type of an answer to questions.
+// Document 01 and requests W-201 and W-206 of document 02 without bytes: definitions in specs/; demand 3, request number zero and reading
+// a key never written over them in proofs/. The code is the type of an answer to questions.
 ghost use mathlib.Core.Path.{_≡_};
 ghost use mathlib.Core.Option.{none, some};
 ghost use Rattle.rules.specs.Questions.{no};

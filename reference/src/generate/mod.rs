@@ -48,6 +48,8 @@ enum Family {
     Older,
     /// A turn at an instruction outside a block, on any registers.
     OneInstruction,
+    /// A block that reads a key: absent, here, or PUT by the block.
+    Reading,
     /// A block with exactly enough room, one row too few, or on the log.
     ExactRoom,
     OneRowShort,
@@ -62,11 +64,12 @@ enum Family {
 use Family::*;
 
 /// Taken in turn. What is likely to find a difference stands more than once.
-const FAMILIES: [Family; 89] = [
+const FAMILIES: [Family; 95] = [
     Schedule,
     NearMiss(1),
     Damaged(9),
     Check,
+    Reading,
     Older,
     Wrong(24),
     Schedule,
@@ -77,6 +80,7 @@ const FAMILIES: [Family; 89] = [
     NearMiss(3),
     Damaged(10),
     Open,
+    Reading,
     Schedule,
     NearMiss(4),
     Wrong(16),
@@ -93,6 +97,7 @@ const FAMILIES: [Family; 89] = [
     NearMiss(7),
     Damaged(12),
     Odd,
+    Reading,
     Schedule,
     NearMiss(8),
     Wrong(18),
@@ -111,6 +116,7 @@ const FAMILIES: [Family; 89] = [
     BadSchedule(9),
     Damaged(14),
     Logged,
+    Reading,
     Schedule,
     NearMiss(6),
     Wrong(20),
@@ -129,6 +135,7 @@ const FAMILIES: [Family; 89] = [
     NearMiss(5),
     DamagedTwice,
     OneRowShort,
+    Reading,
     Schedule,
     NearMiss(2),
     Wrong(18),
@@ -149,6 +156,7 @@ const FAMILIES: [Family; 89] = [
     Restart,
     NearMiss(6),
     ExactRoom,
+    Reading,
     OneInstruction,
     BadSchedule(22),
     OneInstruction,
@@ -186,6 +194,7 @@ pub fn case(seed: u64, number: usize) -> Case {
         Wrong(question) => calls::wrong(random, question, lane),
         Older => calls::older(random, lane),
         OneInstruction => turns::one_instruction(random, lane),
+        Reading => turns::reading(random, lane),
         ExactRoom => turns::at_block(random, turns::Room::Exact),
         OneRowShort => turns::at_block(random, turns::Room::OneShort),
         Logged => turns::at_block(random, turns::Room::Logged),

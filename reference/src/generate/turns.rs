@@ -1,5 +1,5 @@
-//! Turns of an agent at one instruction, or at a BEGIN with the room in its partition
-//! counted out.
+//! Turns of an agent at one instruction, at a block that reads, or at a BEGIN with the room
+//! in its partition counted out.
 
 use super::calls::shuffle_rows;
 use crate::agents::{Agent, ALL_EMPTY, SLOTS};
@@ -45,6 +45,13 @@ fn any_request(random: &mut Random) -> Request {
     }
 }
 
+/// An agent of it at its first instruction, with anything in its registers.
+fn any_agent(random: &mut Random, request: &Request) -> Agent {
+    let mut agent = Agent::started(request.id, request.arguments);
+    agent.registers = std::array::from_fn(|_| random.word());
+    agent
+}
+
 /// The turn of one agent in any slot.
 fn turn_case(random: &mut Random, pack: Vec<u8>, store: Vec<u8>, agent: Agent) -> Case {
     let slot = random.below(SLOTS);
@@ -56,6 +63,76 @@ fn turn_case(random: &mut Random, pack: Vec<u8>, store: Vec<u8>, agent: Agent) -
         slots,
         order: Order::Call(Call::Turn { slot: slot as u32 }),
     }))
+}
+
+/// A turn at a block that reads one key into a register that mostly holds something: a key
+/// that is absent, one that is here (with 0 at times), one that the block has PUT.
+pub fn reading(random: &mut Random, lane: usize) -> Case {
+    let request = any_request(random);
+    let agent = any_agent(random, &request);
+    let rows = random.between(5, 12) as u32;
+    let mut store = Store::lay_out(fresh(2, rows).expect("in range")).expect("fresh");
+    store.book(&request);
+    let mut registers: [usize; 8] = std::array::from_fn(|number| number);
+    random.shuffle(&mut registers);
+    let [s, d, other, ..] = registers;
+    let partition = random.below(2);
+    let key = agent.registers[s];
+    let data_key = Key::Data(key).stored();
+    match lane % 6 {
+        1 => seem_present(random, &mut store, partition, key, request.id),
+        2 => _ = store.put(partition, data_key, 0),
+        3 => _ = store.put(partition, data_key, random.word()),
+        _ => {}
+    }
+    let ahead = match lane % 6 {
+        4 => Some((0x90 | s as u8, other as u32)),
+        5 => Some((0x90 | other as u8, s as u32)),
+        _ => None,
+    };
+    let pack = reads_first(random, partition, ahead, d, s);
+    let mut bytes = store.bytes().to_vec();
+    shuffle_rows(random, &mut bytes);
+    turn_case(random, pack, bytes, agent)
+}
+
+/// A workflow whose block does `ahead` and then reads key s into d, or at times into s itself.
+/// Mostly d is SET first, so that the block's copy of it is not the record's.
+fn reads_first(
+    random: &mut Random,
+    partition: usize,
+    ahead: Option<(u8, u32)>,
+    d: usize,
+    s: usize,
+) -> Vec<u8> {
+    let set = (!random.one_in(3)).then(|| (d as u8, random.word()));
+    let read = match random.one_in(8) {
+        true => s as u8,
+        false => d as u8,
+    };
+    let operation: u8 = random.pick(&[0x80, 0x80, 0x80, 0x80, 0x80, 0xA0]);
+    let mut code = vec![(0x60, partition as u32)];
+    code.extend(set);
+    code.extend(ahead);
+    code.push((operation | read, s as u32));
+    code.extend([(0x70 | read, 0), (0xB0, 0)]);
+    pack::encode(&[code])
+}
+
+/// Rows that are not the data row of this key here: its data row in the other partition, and
+/// a log row here whose stored key is the same number (never step 0 of the request itself).
+fn seem_present(
+    random: &mut Random,
+    store: &mut Store<Vec<u8>>,
+    partition: usize,
+    key: u32,
+    id: u32,
+) {
+    store.put(1 - partition, Key::Data(key).stored(), random.word());
+    let (of, step) = (key / 65_536, (key % 65_536) as u16);
+    if (of, step) != (id, 0) {
+        store.put(partition, Key::Log { id: of, step }.stored(), random.word());
+    }
 }
 
 /// How much room a block that is about to run finds.
@@ -75,8 +152,7 @@ pub fn at_block(random: &mut Random, room: Room) -> Case {
     let rows = random.between(5, 12) as u32;
     let mut store = Store::lay_out(fresh(partitions, rows).expect("in range")).expect("fresh");
     store.book(&request);
-    let mut agent = Agent::started(request.id, request.arguments);
-    agent.registers = std::array::from_fn(|_| random.word());
+    let agent = any_agent(random, &request);
     fill_to(random, &mut store, &pack, &agent, room);
     let mut bytes = store.bytes().to_vec();
     shuffle_rows(random, &mut bytes);

@@ -14,6 +14,8 @@ got-spec =
     (λ c. search needs)
     (λ c. search needs)
     (λ c κs. search needs)
+    (λ c. search needs)
+    (λ c. search needs)
     (λ c κs. search needs)
     (λ c. search needs)
     (λ c κs. search needs)
@@ -25,7 +27,7 @@ got-spec =
     let st = c .before in
     let m = c .before .before .before in
     let sv = m .before .before in
-    let dk = sv .before in
+    let dk = sv .before .before in
     let s = dk .before .before .before .before .before in
     let a = s .args in
     let k = dk .data-key .ensures in
@@ -36,7 +38,7 @@ got-spec =
     let st = c .before in
     let m = st .before in
     let sv = m .before .before in
-    let dk = sv .before in
+    let dk = sv .before .before in
     let s = dk .before .before .before .before .before in
     let a = s .args in
     let k = dk .data-key .ensures in
