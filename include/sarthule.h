@@ -22,6 +22,11 @@
  * Slot s starts at byte 48 * s. An empty slot is all zero. Bytes that are no record (another word 0, a word 2 or 3 that is
  * too great) are refused with 14 by every call that puts question 14, and stay as they are.
  *
+ * Rows. In `store` the used rows of each partition and of the book come first, by rising stored key, so log rows stand
+ * before data rows; the unused rows are zero. Two stores of the same P and C with equal contents are equal bytes, whichever
+ * calls led to them. An earlier library left rows in the order in which they came: such a store is put in order once, by
+ * sarthule_order; until then every other call that puts question 11 refuses it with 11.
+ *
  * Answers. A call returns one of these numbers, and writes three words into `answer` (sarthule_word reads them):
  *
  *   returned              word 0     word 1     word 2
@@ -38,8 +43,8 @@
  * Questions. The first no is the number of the refusal; sarthule_question below has them, in the order in which they are
  * put: 24 stands between 16 and 17.
  *
- * The check puts 1 to 8. Open puts 1 to 8 and 17. Create puts 9 and 10. Restart puts none. Every other call puts all of
- * them, save those marked for calls that it isn't.
+ * The check puts 1 to 8. Open puts 1 to 8 and 17. Create puts 9 and 10. Order puts 9 to 12, of 11 all but the rising keys.
+ * Restart puts none. Every other call puts all of them, save those marked for calls that it isn't.
  */
 #ifndef SARTHULE_H
 #define SARTHULE_H
@@ -87,7 +92,7 @@ static inline const char *sarthule_question(uint32_t number)
     case 9: return "Are there three bytes, P 1 to 8, C 5 to 256?";
     case 10: return "Is the store's length right?";
     case 11: return "Is each used count at most C, each used key of a form of its partition and unlike the others there, "
-                    "each unused row zero?";
+                    "each unused row zero, and are the used keys rising?";
     case 12: return "Has each booked id all five rows?";
     case 13: return "Is each booked workflow below m, each BEGIN's partition below P?";
     case 14: return "Is each slot empty or sound?";
@@ -119,6 +124,14 @@ uint32_t sarthule_open(const uint8_t *pack, size_t pack_len, uint32_t workflow, 
  */
 uint32_t sarthule_create(uint8_t *store, size_t store_len, size_t partitions, size_t rows, uint8_t *answer,
     size_t answer_len);
+
+/*
+ * Puts a store of an earlier library in order: the same rows, those of each partition and of the book by rising stored key.
+ * It is given neither pack nor slots, and agents that are under way go on as before. A store in order stays byte for byte
+ * as it is, so the call may be made whenever a store is opened. Done, or refused with 9 to 12; of 11 it asks all but the
+ * rising keys.
+ */
+uint32_t sarthule_order(uint8_t *store, size_t store_len, uint8_t *answer, size_t answer_len);
 
 /*
  * A request arrives: a new id is booked, with its workflow and four arguments, and an agent is started in the slot, which

@@ -1,6 +1,7 @@
 #!/bin/sh
 # compare.sh [FILES] [CASES] [FIRST SEED]: generates FILES files of CASES cases each (25 of 1,000, seeds from 1 on), runs each through the
-# proved program `conformance` and through the reference, and says how many cases were compared and which is the first that differs.
+# proved program `conformance` and through the reference, and says how many cases were compared and which is the first that differs. What
+# they print has the bytes of each store that a call left, so rows in another order differ too.
 # Needed first: `rt check conformance`, and `cargo build --release --offline` in reference/.
 set -eu
 files=${1:-25} cases=${2:-1000} seed=${3:-1}
@@ -21,8 +22,12 @@ while [ "$seed" -le "$last" ]; do
     (cd "$work" && "$proved") >"$work/found"
     if ! cmp -s "$work/expected" "$work/found"; then
         line=$(diff "$work/expected" "$work/found" | sed -n '1s/[^0-9].*//p')
-        echo "seed $seed: $(head -n "$line" "$work/expected" | grep '^case ' | tail -n 1) differs, in line $line"
-        diff "$work/expected" "$work/found" | head -n 6
+        sed -n "${line}p" "$work/expected" >"$work/left"
+        sed -n "${line}p" "$work/found" >"$work/right"
+        column=$(cmp "$work/left" "$work/right" | sed 's/.* \([0-9][0-9]*\), line.*/\1/')
+        echo "seed $seed: $(head -n "$line" "$work/expected" | grep '^case ' | tail -n 1) differs, in line $line, column $column"
+        # a line of bytes may be long
+        diff "$work/expected" "$work/found" | head -n 6 | cut -c -200
         exit 1
     fi
     compared=$((compared + $(grep -c '^case ' "$work/expected")))

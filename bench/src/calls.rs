@@ -2,20 +2,14 @@
 
 use crate::sides::{answer, bytes, Lent};
 use reference::cases::{self, CallCase, Case, ListCase, Order, Performed};
+use reference::generate;
 use reference::refusal::QUESTIONS;
-use reference::{generate, Store};
 
 /// How many cases a file has: as many as the gate's own file.
 const CASES: usize = 1000;
 
 /// The bytes of an opened workflow's two parts; empty on a refusal.
 type Parts = (Vec<u8>, Vec<u8>);
-
-/// The rows of each partition by rising key; of bytes that are no store the bytes.
-fn rows(bytes: &[u8]) -> Result<Vec<Vec<(u64, u32)>>, Vec<u8>> {
-    let store = Store::lay_out(bytes).map_err(|_| bytes.to_vec())?;
-    Ok((0..=store.shape().book()).map(|partition| store.sorted_rows(partition)).collect())
-}
 
 fn ours(case: &CallCase, lent: &mut Lent) -> (sarthule::Answer, Parts) {
     let none = Parts::default();
@@ -33,7 +27,8 @@ fn ours(case: &CallCase, lent: &mut Lent) -> (sarthule::Answer, Parts) {
     }
 }
 
-/// What differs between the two, if anything does. Where a call is refused, nothing lent may have changed, byte for byte.
+/// What differs between the two, if anything does: the store byte for byte, since rows stand by rising key. Where a call is refused,
+/// nothing lent may have changed.
 fn difference(case: &CallCase) -> Option<&'static str> {
     let mut lent = Lent { pack: case.pack.clone(), store: case.store.clone(), slots: bytes(&case.slots) };
     let (found, parts) = ours(case, &mut lent);
@@ -43,7 +38,7 @@ fn difference(case: &CallCase) -> Option<&'static str> {
     let tests = [
         ("the answer", found == answer(outcome)),
         ("the parts", parts == expected),
-        ("the rows", rows(&lent.store) == rows(&store)),
+        ("the store", lent.store == store),
         ("the slots", lent.slots == bytes(&slots)),
         ("what a refusal leaves", !refused || (lent.store == case.store && lent.slots == bytes(&case.slots))),
         ("the pack", lent.pack == case.pack),
@@ -58,7 +53,7 @@ fn list_difference(list: &ListCase) -> Option<&'static str> {
     let expected = list.perform();
     let tests = [
         ("an answer", found == expected.outcomes.into_iter().map(answer).collect::<Vec<_>>()),
-        ("the rows", rows(&lent.store) == rows(&expected.store)),
+        ("the store", lent.store == expected.store),
         ("the slots", lent.slots == bytes(&expected.slots)),
         ("the pack", lent.pack == list.pack),
     ];

@@ -2,7 +2,7 @@
 
 use reference::agents::ALL_EMPTY;
 use reference::pack::encode;
-use reference::store::{fresh, Key, Request};
+use reference::store::{book_key, fresh, Key, Request};
 use reference::{Agent, Call, Slots, Store};
 
 /// What a call is given.
@@ -70,8 +70,8 @@ fn turning(partitions: u32) -> Vec<(u8, u32)> {
     code
 }
 
-/// A store that has `free` rows left in each partition, and six in the book, of C rows each: log rows and data rows in turn, keys
-/// in no order. Ids 1, 2, .. are booked with workflow 0 and the arguments of the measured turn.
+/// A store that has `free` rows left in each partition, and six in the book, of C rows each: as many log rows as data rows, by rising
+/// key. Ids 1, 2, .. are booked with workflow 0 and the arguments of the measured turn.
 fn full_store(partitions: u32, rows: u32, free: u32, keys_from: u32) -> Vec<u8> {
     let mut numbers = Numbers::new(7);
     let mut store = Store::lay_out(fresh(partitions, rows).expect("numbers in range")).expect("a fresh store");
@@ -92,12 +92,16 @@ fn full_store(partitions: u32, rows: u32, free: u32, keys_from: u32) -> Vec<u8> 
     store.bytes().to_vec()
 }
 
-/// P partitions, C rows, m workflows: that of the measured turn, and others of 256 instructions. Slot 0 stands at the block of the
-/// measured turn, the others but the last are in use too.
-pub fn nearly_full(partitions: u32, rows: u32, m: usize) -> State {
-    let keys_from = 500;
+/// A pack of m workflows: that of the measured turn, and others of 256 instructions.
+pub fn turning_pack(partitions: u32, m: usize) -> Vec<u8> {
     let mut workflows = vec![workflow(256, partitions); m];
     workflows[0] = turning(partitions);
+    encode(&workflows)
+}
+
+/// P partitions, C rows, m workflows. Slot 0 stands at the block of the measured turn, the others but the last are in use too.
+pub fn nearly_full(partitions: u32, rows: u32, m: usize) -> State {
+    let keys_from = 500;
     let booked = (rows - 5) / 5;
     let mut slots = ALL_EMPTY;
     for (i, slot) in (1..).zip(slots.iter_mut().take(7)) {
@@ -106,7 +110,123 @@ pub fn nearly_full(partitions: u32, rows: u32, m: usize) -> State {
         slot.registers[7] = keys_from;
         slot.registers[6] = 1;
     }
-    State { pack: encode(&workflows), store: full_store(partitions, rows, 18, keys_from), slots }
+    State { pack: turning_pack(partitions, m), store: full_store(partitions, rows, 18, keys_from), slots }
+}
+
+/// The data key of row i, for an even i; the rows put at an odd i are log rows, so this key of an odd i is used by none.
+fn data_key(i: u32) -> u32 {
+    1_000_000 + 64 * i
+}
+
+/// A store of C = 256 rows: `used` rows in each partition, half of them log rows; then it is booked.
+fn filled(partitions: u32, used: u32, book: impl Fn(&mut Store<Vec<u8>>)) -> Vec<u8> {
+    let mut numbers = Numbers::new(13);
+    let mut store = Store::lay_out(fresh(partitions, 256).expect("numbers in range")).expect("a fresh store");
+    for partition in 0..partitions as usize {
+        for i in 0..used {
+            let key = match i % 2 {
+                0 => Key::Data(data_key(i)),
+                _ => Key::Log { id: 1_000 + 64 * i + numbers.below(64), step: (i % 7) as u16 },
+            };
+            store.put(partition, key.stored(), numbers.below(u32::MAX));
+        }
+    }
+    book(&mut store);
+    store.bytes().to_vec()
+}
+
+fn book_all(store: &mut Store<Vec<u8>>, ids: std::ops::RangeInclusive<u32>) {
+    ids.for_each(|id| store.book(&Request { id, workflow: 0, arguments: [id, 2, 3, 4] }));
+}
+
+/// Where 16 keys stand among a partition's data rows.
+#[derive(Clone, Copy)]
+pub enum Keys {
+    Present,
+    Below,
+    Between,
+    Behind,
+}
+
+impl Keys {
+    /// The first of the keys, and how far the next is.
+    fn first_and_step(self) -> (u32, u32) {
+        match self {
+            Self::Present => (data_key(0), 64 * 14),
+            Self::Below => (500, 1),
+            Self::Between => (data_key(1), 64 * 14),
+            Self::Behind => (2_000_000, 1),
+        }
+    }
+}
+
+/// One partition of C = 256 with 239 rows, 17 free, and 50 requests in the book, ids 2 to 51. The only workflow is a block that does
+/// `operation` 16 times, to the keys in turn; id 2 stands at it in slot 0. Its log row goes ahead of all rows.
+pub fn at_block(operation: u8, keys: Keys) -> State {
+    let mut code = vec![(0x60, 0)];
+    (0..16).for_each(|_| code.extend([(operation, 7), (0x27, 6)]));
+    code.extend([(0x71, 0), (0xB0, 0)]);
+    let mut slots = ALL_EMPTY;
+    slots[0] = Agent::started(2, [2, 2, 3, 4]);
+    (slots[0].registers[7], slots[0].registers[6]) = keys.first_and_step();
+    State { pack: encode(&[code]), store: filled(1, 239, |store| book_all(store, 2..=51)), slots }
+}
+
+/// P = 8 and C = 256, as full as it goes: all rows of the partitions are used, and 255 of the book, by 51 requests, ids 1 to 51. The
+/// only workflow is RETURN; id 2 stands at it in slot 0.
+pub fn full() -> State {
+    let mut slots = ALL_EMPTY;
+    slots[0] = Agent::started(2, [2, 2, 3, 4]);
+    State { pack: encode(&[vec![(0xB0, 0)]]), store: filled(8, 256, |store| book_all(store, 1..=51)), slots }
+}
+
+/// The same, but the book's first row is the only one of its id, so that 12 is answered with no as soon as it is put.
+pub fn first_id_alone() -> State {
+    let book = |store: &mut Store<Vec<u8>>| {
+        store.put(8, book_key(1, 0), 0);
+        book_all(store, 2..=52);
+    };
+    State { store: filled(8, 256, book), ..full() }
+}
+
+/// The same, but no row is used save the five of id 2.
+pub fn nearly_empty() -> State {
+    State { store: filled(8, 0, |store| book_all(store, 2..=2)), ..full() }
+}
+
+/// How the rows of a store that is put in order stand before.
+#[derive(Clone, Copy)]
+pub enum Standing {
+    Falling,
+    Random,
+    Rising,
+}
+
+impl Standing {
+    fn arrange(self, rows: &mut [(u64, u32)], numbers: &mut Numbers) {
+        match self {
+            Self::Falling => rows.reverse(),
+            Self::Random => (1..rows.len()).rev().for_each(|i| rows.swap(i, numbers.below(i as u32 + 1) as usize)),
+            Self::Rising => {}
+        }
+    }
+}
+
+/// The full store with the rows of each partition and of the book in another order.
+pub fn standing(standing: Standing) -> State {
+    let mut state = full();
+    let mut numbers = Numbers::new(17);
+    let store = Store::lay_out(state.store.clone()).expect("a store");
+    let shape = store.shape();
+    for partition in 0..=shape.book() {
+        let mut rows: Vec<_> = store.rows(partition).collect();
+        standing.arrange(&mut rows, &mut numbers);
+        for (row, (key, value)) in rows.into_iter().enumerate() {
+            state.store[shape.key_at(partition, row)..][..8].copy_from_slice(&key.to_le_bytes());
+            state.store[shape.value_at(partition, row)..][..4].copy_from_slice(&value.to_le_bytes());
+        }
+    }
+    state
 }
 
 /// A list of calls on an empty store: MOVE requests between 16 keys, turned in eight slots, with crashes, retries and restarts.

@@ -6,16 +6,17 @@
 //!     bench calls [FILES]     compares the calls of generated files (25), single and in lists: no times
 //!
 //! SIDE is `ours`, `reference`, or `pass`: one pass over all bytes that each call is lent, which adds their words up and is the limit
-//! that no check of them can go below. Each case is first done by both sides, and their answers and rows are compared. Times are
-//! the best of many runs, since another program on the machine can only add to them.
+//! that no check of them can go below. Each case is first done by both sides, and their answers, slots and stores are compared, byte for
+//! byte. Times are the best of many runs, since another program on the machine can only add to them.
 
 mod calls;
 mod inputs;
 mod sides;
 
-use inputs::{nearly_full, pack, schedule, State};
+use inputs::{at_block, first_id_alone, full, nearly_empty, nearly_full, pack, schedule, standing, turning_pack};
+use inputs::{Keys, Standing, State};
 use reference::store::Request;
-use reference::{Call, Store};
+use reference::Call;
 use sides::{answer, bytes, Lent};
 use std::hint::black_box;
 use std::time::{Duration, Instant};
@@ -26,30 +27,77 @@ enum Work {
     Calls(State, Vec<Call>),
 }
 
+/// A name, and what makes the work: only that of the case which is done is made.
 struct Case {
     name: String,
-    work: Work,
+    make: Box<dyn Fn() -> Work>,
 }
 
-fn case(name: &str, work: Work) -> Case {
-    Case { name: name.into(), work }
+fn case(name: &str, make: impl Fn() -> Work + 'static) -> Case {
+    Case { name: name.into(), make: Box::new(make) }
+}
+
+fn one(name: &str, state: impl Fn() -> State + 'static, call: Call) -> Case {
+    case(name, move || Work::Calls(state(), vec![call]))
 }
 
 const TURN: Call = Call::Turn { slot: 0 };
-const ARRIVAL: Call =
-    Call::Arrival { slot: 7, request: Request { id: 90_000, workflow: 1, arguments: [1, 2, 3, 4] } };
+const CRASH: Call = Call::Crash { slot: 0 };
 
-/// The main cases, then how each grows.
+const fn arrival(id: u32, workflow: u32) -> Call {
+    Call::Arrival { slot: 7, request: Request { id, workflow, arguments: [1, 2, 3, 4] } }
+}
+
+const ARRIVAL: Call = arrival(90_000, 1);
+
+/// The operations of a block that puts or reads 16 keys: PUT of the key itself, GET into register 1.
+const PUT: u8 = 0x97;
+const GET: u8 = 0x81;
+
+/// The one case that is refused: 12 says no at the book's first id, so that what it takes is 1 to 11.
+const NO_TO_12: &str = "no to 12 full P=8 C=256";
+
+/// Where a key's place matters, each beside a crash on the same state, which puts the same questions and does nothing with rows: keys
+/// that a block puts or reads, ids that arrive. Then what the questions take on a full store, and putting one in order.
+fn cases_of_order() -> Vec<Case> {
+    let at = |what: &str, operation, keys, call| {
+        one(&format!("{what} P=1 C=256"), move || at_block(operation, keys), call)
+    };
+    let order =
+        |what: &str, rows| one(&format!("order {what} P=8 C=256"), move || standing(rows), Call::PutInOrder);
+    vec![
+        at("crash at puts", PUT, Keys::Below, CRASH),
+        at("puts 16 below", PUT, Keys::Below, TURN),
+        at("puts 16 between", PUT, Keys::Between, TURN),
+        at("puts 16 behind", PUT, Keys::Behind, TURN),
+        at("gets 16 present", GET, Keys::Present, TURN),
+        at("gets 16 below", GET, Keys::Below, TURN),
+        at("gets 16 between", GET, Keys::Between, TURN),
+        at("gets 16 behind", GET, Keys::Behind, TURN),
+        at("arrival least", PUT, Keys::Below, arrival(1, 0)),
+        at("arrival greatest", PUT, Keys::Below, arrival(u32::MAX, 0)),
+        one("crash nearly empty P=8", nearly_empty, CRASH),
+        one("crash full P=8 C=256", full, CRASH),
+        one(NO_TO_12, first_id_alone, CRASH),
+        order("falling", Standing::Falling),
+        order("random", Standing::Random),
+        order("rising", Standing::Rising),
+    ]
+}
+
+/// The main cases, then how each grows, then those of rows by rising key.
 fn cases() -> Vec<Case> {
     let at = |what: &str, call, p, c, m| {
-        let state = nearly_full(p, c, m);
-        case(&format!("{what} P={p} C={c} T={}", total(&state.pack)), Work::Calls(state, vec![call]))
+        let total = total(&turning_pack(p, m));
+        one(&format!("{what} P={p} C={c} T={total}"), move || nearly_full(p, c, m), call)
     };
     let events = |c| {
-        let (state, calls) = schedule(c, 1024);
-        case(&format!("schedule 1024 C={c}"), Work::Calls(state, calls))
+        case(&format!("schedule 1024 C={c}"), move || {
+            let (state, calls) = schedule(c, 1024);
+            Work::Calls(state, calls)
+        })
     };
-    let check = |size| case(&format!("check 8 x {size}"), Work::Check(pack(8, size, 8)));
+    let check = |size| case(&format!("check 8 x {size}"), move || Work::Check(pack(8, size, 8)));
     let mut all = vec![check(256), at("turn", TURN, 8, 256, 8), at("arrival", ARRIVAL, 8, 256, 8), events(256)];
     all.extend([64, 128].map(check));
     for c in [32, 64, 128, 256] {
@@ -57,6 +105,7 @@ fn cases() -> Vec<Case> {
     }
     all.extend([2, 4, 8].map(|m| at("turn", TURN, 1, 32, m)));
     all.extend([32, 64, 128].map(events));
+    all.extend(cases_of_order());
     all
 }
 
@@ -91,25 +140,32 @@ fn perform_all(state: &mut State, calls: &[Call]) -> Vec<sarthule::Answer> {
     calls.iter().map(|call| answer(call.perform(&state.pack, &mut state.store, &mut state.slots))).collect()
 }
 
-/// Both sides once: answers, slots and rows are the same.
-fn compare(case: &Case) {
-    let Work::Calls(state, calls) = &case.work else {
-        let Work::Check(pack) = &case.work else { unreachable!() };
-        assert_eq!(sarthule::check(pack), sarthule::Answer::Done, "{}", case.name);
-        assert!(reference::pack::check(pack).is_ok());
-        return;
+/// The number of a refusal, 0 for any other answer.
+fn question(answer: &sarthule::Answer) -> u32 {
+    match answer {
+        sarthule::Answer::Refused { question, .. } => *question,
+        _ => 0,
+    }
+}
+
+/// Both sides once: answers, slots and stores are the same.
+fn compare(name: &str, work: &Work) {
+    let (state, calls) = match work {
+        Work::Calls(state, calls) => (state, calls),
+        Work::Check(pack) => {
+            assert_eq!(sarthule::check(pack), sarthule::Answer::Done, "{name}");
+            assert!(reference::pack::check(pack).is_ok());
+            return;
+        }
     };
     let mut lent = Lent::of(state);
     let ours: Vec<_> = calls.iter().map(|call| lent.perform(call)).collect();
     let mut theirs = state.clone();
-    assert_eq!(ours, perform_all(&mut theirs, calls), "{}", case.name);
-    assert_eq!(lent.slots, bytes(&theirs.slots), "{}", case.name);
-    let (a, b) = (Store::lay_out(&lent.store).expect("a store"), Store::lay_out(&theirs.store).expect("a store"));
-    for partition in 0..=a.shape().book() {
-        assert_eq!(a.sorted_rows(partition), b.sorted_rows(partition), "{}", case.name);
-    }
+    assert_eq!(ours, perform_all(&mut theirs, calls), "{name}");
+    assert_eq!(lent.slots, bytes(&theirs.slots), "{name}");
+    assert!(lent.store == theirs.store, "{name}: the stores differ");
     if calls.len() == 1 {
-        assert!(!matches!(ours[0], sarthule::Answer::Refused { .. }), "{}: {:?}", case.name, ours[0]);
+        assert_eq!(question(&ours[0]), if name == NO_TO_12 { 12 } else { 0 }, "{name}");
     }
 }
 
@@ -125,8 +181,12 @@ fn passes(work: &Work) {
             black_box(pass(black_box(pack)));
         }
         Work::Calls(state, calls) => {
-            for _ in calls {
-                black_box((pass(black_box(&state.pack)), pass(black_box(&state.store)), black_box(&state.slots)));
+            for call in calls {
+                black_box(pass(black_box(&state.store)));
+                // the store is all that this call is lent
+                if *call != Call::PutInOrder {
+                    black_box((pass(black_box(&state.pack)), black_box(&state.slots)));
+                }
             }
         }
     }
@@ -168,8 +228,8 @@ fn time_reference(work: &Work) -> f64 {
 }
 
 /// One case once, for a tool that counts instructions within `bench_measured`.
-fn once(case: &Case, side: &str) {
-    match (&case.work, side) {
+fn once(work: &Work, side: &str) {
+    match (work, side) {
         (work, "pass") => bench_measured(&mut || passes(work)),
         (Work::Check(pack), "ours") => bench_measured(&mut || {
             black_box(sarthule::check(pack));
@@ -214,14 +274,15 @@ fn main() {
         ["list"] => cases.iter().for_each(|case| println!("{}", case.name)),
         ["once", name, side] => {
             let case = cases.iter().find(|case| case.name == name).expect("a case of the list");
-            once(case, side);
+            once(&(case.make)(), side);
         }
         [] => {
             println!("{:<26} {:>11} {:>14} {:>6} {:>13}", "case", "ours, ns", "reference, ns", "ratio", "one pass, ns");
             for case in &cases {
-                compare(case);
-                let (ours, theirs) = (time_ours(&case.work), time_reference(&case.work));
-                let limit = best(&mut (), |_| (), |_| passes(&case.work));
+                let work = (case.make)();
+                compare(&case.name, &work);
+                let (ours, theirs) = (time_ours(&work), time_reference(&work));
+                let limit = best(&mut (), |_| (), |_| passes(&work));
                 println!("{:<26} {ours:>11.0} {theirs:>14.0} {:>6.2} {limit:>13.0}", case.name, ours / theirs);
             }
         }

@@ -45,6 +45,7 @@ impl Lent {
             Call::Turn { slot } => sarthule::turn(pack, store, slots, slot as usize),
             Call::Crash { slot } => sarthule::crash(pack, store, slots, slot as usize),
             Call::Restart => sarthule::restart(slots),
+            Call::PutInOrder => sarthule::order(store),
         }
     }
 }

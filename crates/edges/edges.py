@@ -1,13 +1,15 @@
 #!/usr/bin/env python3
 """Writes `stdin` and `stdout` of the program edges.
 
-Each edge below is its words, a case, and the answer that documents 01 and 02 give to it, written by hand from the documents and not from
-any program. The sections follow the questions.
+Each edge below is its words, a case, the answer that documents 01 and 02 give to it, and the store that it leaves where this isn't the
+store that was given; written by hand from the documents and not from any program. The sections follow the questions. Behind the answer of
+a call that is given a store, or of a list of calls, its bytes are printed.
 """
 import os
 import struct
 
 CHECK, OPEN, CREATE, ARRIVAL, RETRY, TURN, CRASH, RESTART = range(8)
+ORDER = 9
 RETURN = (0xB0, 0)
 SET = (0x00, 0)
 BEGIN = (0x60, 0)
@@ -22,13 +24,17 @@ def pack(*workflows, sizes=None, more=b""):
     return head + bytes(b for b, _ in code) + b"".join(struct.pack("<I", w) for _, w in code) + more
 
 
-def store(P=1, C=5, rows=(), book=(), used=None, more=b""):
-    """The bytes of a store: rows are (partition, stored key, value), book has (id, workflow, arguments)."""
+def store(P=1, C=5, rows=(), book=(), used=None, more=b"", as_written=False):
+    """The bytes of a store: rows are (partition, stored key, value), book has (id, workflow, arguments). The rows of a partition stand by
+    rising key, or as they are written."""
     parts = [[] for _ in range(P + 1)]
     for p, k, v in rows:
         parts[p].append((k, v))
     for id, workflow, arguments in book:
         parts[P] += [(8 * id + j, v) for j, v in enumerate([workflow, *arguments])]
+    if not as_written:
+        for p in parts:
+            p.sort(key=lambda row: row[0])
     counts = [len(p) for p in parts]
     for p, n in (used or {}).items():
         counts[p] = n
@@ -38,29 +44,48 @@ def store(P=1, C=5, rows=(), book=(), used=None, more=b""):
     return struct.pack("<BH", P, C) + b"".join(struct.pack("<H", n) for n in counts) + keys + values + more
 
 
+def written(P=1, C=5, rows=(), book=(), used=None, more=b""):
+    """The same with the rows as they are written here."""
+    return store(P, C, rows, book, used, more, True)
+
+
 def agent(id, position=0, step=0, registers=(), in_use=1):
     return [in_use, id, position, step, *registers] + [0] * (8 - len(registers))
 
 
+class Case:
+    """The bytes of a case, and the store whose bytes are printed behind its answer, if there is one."""
+
+    def __init__(self, bytes, store=None):
+        self.bytes, self.store = bytes, store
+
+
+def records(slots):
+    """The bytes of the eight records; slots are {number: record}, every other slot is empty."""
+    return b"".join(struct.pack("<12I", *(slots or {}).get(i, [0] * 12)) for i in range(8))
+
+
+def one_call(code, words):
+    return bytes([code]) + struct.pack("<7I", *words, *[0] * (7 - len(words)))
+
+
 def call(code, words=(), pack=b"", store=b"", slots=None):
-    """A call; slots are {number: record}, every other slot is empty."""
-    records = [(slots or {}).get(i, [0] * 12) for i in range(8)]
-    words = list(words) + [0] * (7 - len(words))
+    """A call."""
     head = struct.pack("<BII", 1, len(pack), len(store)) + pack + store
-    return head + b"".join(struct.pack("<12I", *r) for r in records) + bytes([code]) + struct.pack("<7I", *words)
+    return Case(head + records(slots) + one_call(code, words), store if code > OPEN else None)
 
 
-def calls(pack, store, orders):
-    """A list of calls on a store without agents, each given what the one before left; an order is a call and its words."""
-    head = struct.pack("<BII", 2, len(pack), len(store)) + pack + store + bytes(384) + bytes([len(orders)])
-    return head + b"".join(bytes([code]) + struct.pack("<7I", *words, *[0] * (7 - len(words))) for code, words in orders)
+def calls(pack, store, made, slots=None):
+    """A list of calls, each given what the one before left; each one is a call and its words."""
+    head = struct.pack("<BII", 2, len(pack), len(store)) + pack + store + records(slots) + bytes([len(made)])
+    return Case(head + b"".join(one_call(code, words) for code, words in made), store)
 
 
 def schedule(pack, P, C, requests, kinds, indexes=None, more=b""):
     events = bytes(kinds)
     which = bytes(indexes if indexes is not None else [0] * len(kinds))
     s = struct.pack("<BHBH", P, C, len(requests), len(events)) + b"".join(struct.pack("<6I", *r) for r in requests) + events + which + more
-    return struct.pack("<BII", 0, len(pack), len(s)) + pack + s
+    return Case(struct.pack("<BII", 0, len(pack), len(s)) + pack + s)
 
 
 def check(p):
@@ -85,6 +110,38 @@ ZERO = [(0, 0, [100, 200, 30, 0])]
 # two PUTs to one key, register 1's
 TWICE = pack([BEGIN, PUT, PUT, END, RETURN])
 AT_TWICE = {0: agent(7, registers=[100, 200, 30, 0])}
+# another request for the book, and the rows of request 7 with j = 4 ahead of j = 3
+NEXT = (8, 0, [1, 2, 3, 4])
+FALLING = [(1, 56, 0), (1, 57, 100), (1, 58, 200), (1, 60, 0), (1, 59, 30)]
+# PUTs of register 4 at the keys in registers 0, 3, 1 and 2; the result is register 1's
+FOUR = pack([BEGIN, (0x90, 4), (0x93, 4), (0x91, 4), (0x92, 4), (0x71, 0), RETURN])
+AT_FOUR = {0: agent(7, registers=[10, 20, 30, 40, 7])}
+# what MOVE leaves behind the reply to request 7, with 5 rows
+MOVED_SEVEN = store(2, 5, [(0, log(7, 0), 2**32 - 30), (0, data(100), 2**32 - 30), (1, log(7, 1), 30), (1, data(200), 30)], BOOKED)
+# a PUT of argument 1 at the key in argument 0, and what requests 7 and 8 of it leave
+KEPT = pack([BEGIN, (0x90, 1), END, RETURN])
+BOTH = store(1, 10, [(0, log(7, 0), 100), (0, log(8, 0), 50), (0, data(50), 2), (0, data(100), 1)],
+             [(7, 0, [100, 1, 0, 0]), (8, 0, [50, 2, 0, 0])])
+
+
+def asked(s):
+    """The calls that put 11: an arrival and a retry of request 7, a turn and a crash of its agent in slot 0."""
+    made = [(ARRIVAL, [1, *SEVEN]), (RETRY, [2, 7]), (TURN, [0]), (CRASH, [0])]
+    return calls(ONE, s, made, {0: agent(7, registers=[42])})
+
+
+def order(s):
+    return call(ORDER, store=s)
+
+
+def like(id):
+    """A request with the arguments of request 7."""
+    return (id, 0, [100, 200, 30, 0])
+
+
+def arrives(id, *booked):
+    """A new id, where others are booked and five rows are free."""
+    return call(ARRIVAL, [0, id, 0, 100, 200, 30, 0], ONE, store(1, 5 * len(booked) + 5, book=map(like, booked)))
 
 
 def turn(p=ONE, s=None, slots=None, slot=0):
@@ -100,6 +157,11 @@ def reading(*block, s=None, end=5):
 
 def replies(value):
     return DONE + MOVED * 2 + "answer reply 7 %d\n" % value
+
+
+def logged(value, *rows, P=1, C=5, book=None):
+    """The store of `reading` behind the reply: the block's result in its log row, and other rows."""
+    return store(P, C, [(0, log(7, 0), value), *rows], book or BOOKED)
 
 
 def refused(n, workflow=0, instruction=0):
@@ -135,8 +197,11 @@ log 1 7 1 30
     ("id 7 again, the same", schedule(MOVE, 2, 5, [SEVEN], [0x00, 0x01], [0, 0]), "events 2\n0 done\n1 done\n"),
     ("id 7 again with amount 31", schedule(MOVE, 2, 5, [SEVEN, [7, 0, 100, 200, 31, 0]], [0x00, 0x01], [0, 1]), "events 2\n0 done\n1 refused 18\n"),
     ("two PUTs to one new key, one row free", turn(TWICE, store(1, 5, [(0, data(k), 1) for k in range(4)], BOOKED), AT_TWICE), refused(21)),
-    ("two PUTs to one new key, two rows free", turn(TWICE, store(1, 5, [(0, data(k), 1) for k in range(3)], BOOKED), AT_TWICE), MOVED),
-    ("two PUTs to a key that is there, one row free", turn(TWICE, store(1, 5, [(0, data(200 + k), 1) for k in range(4)], BOOKED), AT_TWICE), MOVED),
+    ("two PUTs to one new key, two rows free", turn(TWICE, store(1, 5, [(0, data(k), 1) for k in range(3)], BOOKED), AT_TWICE), MOVED,
+     store(1, 5, [(0, log(7, 0), 100), (0, data(0), 1), (0, data(1), 1), (0, data(2), 1), (0, data(200), 30)], BOOKED)),
+    ("two PUTs to a key that is there, one row free",
+     turn(TWICE, store(1, 5, [(0, data(200 + k), 1) for k in range(4)], BOOKED), AT_TWICE), MOVED,
+     store(1, 5, [(0, log(7, 0), 100), (0, data(200), 30), (0, data(201), 1), (0, data(202), 1), (0, data(203), 1)], BOOKED)),
     ("the block is logged, no row free", turn(TWICE, store(1, 5, [(0, data(k), 1) for k in range(4)] + [(0, log(7, 0), 1)], BOOKED), AT_TWICE), MOVED),
     # 1
     ("no bytes", check(b""), refused(1)),
@@ -180,7 +245,7 @@ log 1 7 1 30
     ("the third of two workflows is opened", call(OPEN, [2], pack([RETURN], [SET, RETURN])), refused(17)),
     ("a workflow of a wrong pack is opened", call(OPEN, [0], pack([SET])), refused(8)),
     # 9 and 10
-    ("create", call(CREATE, [1, 5], store=bytes(127)), DONE),
+    ("create", call(CREATE, [1, 5], store=b"\xff" * 127), DONE, bytes([1, 5, 0] + [0] * 124)),
     ("create with no partition", call(CREATE, [0, 5], store=bytes(127)), refused(9)),
     ("create with 9 partitions", call(CREATE, [9, 5], store=bytes(127)), refused(9)),
     ("create with 4 rows", call(CREATE, [1, 4], store=bytes(127)), refused(9)),
@@ -202,6 +267,22 @@ log 1 7 1 30
     ("a book key with j = 5", turn(s=store(rows=[(1, 8 * 7 + 5, 1)])), refused(11)),
     ("a log key of 49 bits", turn(s=store(rows=[(0, 2**48, 1)])), refused(11)),
     ("a data key of 33 bits", turn(s=store(rows=[(0, data(2**32), 1)])), refused(11)),
+    # 11, the rising keys
+    ("data rows by falling key: arrival, retry, turn and crash", asked(written(1, 5, [(0, data(2), 1), (0, data(1), 2)], BOOKED)),
+     refused(11) * 4),
+    ("a log row behind a data row: arrival, retry, turn and crash", asked(written(1, 5, [(0, data(1), 1), (0, log(7, 0), 2)], BOOKED)),
+     refused(11) * 4),
+    ("id 8 ahead of id 7 in the book: arrival, retry, turn and crash", asked(written(1, 10, book=[NEXT] + BOOKED)), refused(11) * 4),
+    ("j = 4 ahead of j = 3 in the book: arrival, retry, turn and crash", asked(written(1, 5, FALLING)), refused(11) * 4),
+    ("the same rows in order: arrival, retry, turn and crash", asked(store(1, 5, FALLING)),
+     DONE * 2 + "answer reply 7 42\n" + refused(16)),
+    ("the last two rows of a full partition exchanged", turn(s=written(1, 5, [(0, data(k), 1) for k in [0, 1, 2, 4, 3]])), refused(11)),
+    ("the last partition in another order", turn(s=written(2, 5, [(1, data(1), 1), (1, data(0), 1)])), refused(11)),
+    ("the greatest log key and the least data key", turn(s=written(1, 5, [(0, log(2**32 - 1, 65535), 2), (0, data(0), 1)])), refused(16)),
+    ("the least data key and the greatest log key", turn(s=written(1, 5, [(0, data(0), 1), (0, log(2**32 - 1, 65535), 2)])), refused(11)),
+    ("one key twice with one value, the others rising", turn(s=store(1, 5, [(0, data(k), 1) for k in [0, 1, 1, 2]])), refused(11)),
+    ("one key twice in the book, the others rising", turn(s=written(1, 5, [(1, k, 0) for k in [56, 57, 58, 59, 59]])), refused(11)),
+    ("a restart on rows in another order", call(RESTART, (), ONE, written(1, 5, [(0, data(2), 1), (0, data(1), 2)], BOOKED)), DONE),
     # 12
     ("a booked id with four rows", turn(s=store(rows=[(1, 8 * 7 + j, 0) for j in range(4)])), refused(12)),
     # 13
@@ -223,7 +304,7 @@ log 1 7 1 30
     ("a retry where an agent is", call(RETRY, [0, 7], ONE, store(book=BOOKED), {0: agent(7)}), refused(16)),
     # 24, between 16 and 17
     ("an arrival with id 0", call(ARRIVAL, [0, 0, 0], ONE, store()), refused(24)),
-    ("an arrival with id 1", call(ARRIVAL, [0, 1, 0], ONE, store()), DONE),
+    ("an arrival with id 1", call(ARRIVAL, [0, 1, 0], ONE, store()), DONE, store(book=[(1, 0, [0] * 4)])),
     ("id 0 with workflow 9 of one", call(ARRIVAL, [0, 0, 9], ONE, store()), refused(24)),
     ("a booked id 0, the same request", call(ARRIVAL, [0, 0, 0, 100, 200, 30, 0], ONE, store(book=ZERO)), refused(24)),
     ("a booked id 0, another argument", call(ARRIVAL, [0, 0, 0, 100, 200, 31, 0], ONE, store(book=ZERO)), refused(24)),
@@ -236,7 +317,8 @@ log 1 7 1 30
     ("id 0 in an older book, retried up to its reply, and again", calls(MOVE, store(2, 5, book=ZERO), [
         (RETRY, [0, 0]), (TURN, [0]), (TURN, [0]), (CRASH, [0]), (ARRIVAL, [1, 0, 0, 100, 200, 30, 0]), (RETRY, [1, 0]),
         (TURN, [1]), (TURN, [1]), (TURN, [1]), (TURN, [1]), (RETRY, [2, 0]), (TURN, [2]), (TURN, [2]), (TURN, [2]), (TURN, [2]),
-    ]), DONE + MOVED + MOVED + DONE + refused(24) + DONE + MOVED * 3 + "answer reply 0 30\n" + DONE + MOVED * 3 + "answer reply 0 30\n"),
+    ]), DONE + MOVED + MOVED + DONE + refused(24) + (DONE + MOVED * 3 + "answer reply 0 30\n") * 2,
+     store(2, 5, [(0, log(0, 0), 2**32 - 30), (0, data(100), 2**32 - 30), (1, log(0, 1), 30), (1, data(200), 30)], ZERO)),
     ("a schedule with id 0", schedule(MOVE, 2, 5, [[0, 0, 100, 200, 30, 0], SEVEN], [0x00, 0x30, 0x10, 0x00, 0x01], [0, 0, 0, 1, 0]),
      "events 5\n0 refused 24\n1 refused 20\n2 refused 16\n3 done\n4 refused 24\n"),
     # 17
@@ -246,29 +328,33 @@ log 1 7 1 30
     ("a known id, another argument", call(ARRIVAL, [0, 7, 0, 100, 200, 31, 0], ONE, store(book=BOOKED)), refused(18)),
     ("a known id, another workflow", call(ARRIVAL, [0, 7, 1, 100, 200, 30, 0], pack([RETURN], [RETURN]), store(book=BOOKED)), refused(18)),
     # 19
-    ("a new id, five book rows free", call(ARRIVAL, [0, 8, 0], ONE, store(1, 10, book=BOOKED)), DONE),
+    ("a new id, five book rows free", call(ARRIVAL, [0, 8, 0], ONE, store(1, 10, book=BOOKED)), DONE,
+     store(1, 10, book=BOOKED + [(8, 0, [0] * 4)])),
     ("a new id, four book rows free", call(ARRIVAL, [0, 8, 0], ONE, store(1, 9, book=BOOKED)), refused(19)),
     # 20
     ("a retry of a booked id", call(RETRY, [0, 7], ONE, store(book=BOOKED)), DONE),
     ("a retry of an id that is not booked", call(RETRY, [0, 8], ONE, store(book=BOOKED)), refused(20)),
     # GET of an absent key
-    ("an absent key, d holds 9", reading(GET), replies(9)),
-    ("an absent key behind a PUT of it", reading((0x90, 2), GET), replies(30)),
-    ("an absent key behind a PUT of 0 at it", reading((0x90, 3), GET), replies(0)),
-    ("an absent key behind a PUT of another key", reading((0x91, 2), GET), replies(9)),
-    ("an absent key ahead of a PUT of it", reading(GET, (0x90, 2)), replies(9)),
-    ("an absent key, the block has SET d to 4", reading((0x05, 4), GET), replies(4)),
+    ("an absent key, d holds 9", reading(GET), replies(9), logged(9)),
+    ("an absent key behind a PUT of it", reading((0x90, 2), GET), replies(30), logged(30, (0, data(100), 30))),
+    ("an absent key behind a PUT of 0 at it", reading((0x90, 3), GET), replies(0), logged(0, (0, data(100), 0))),
+    ("an absent key behind a PUT of another key", reading((0x91, 2), GET), replies(9), logged(9, (0, data(200), 30))),
+    ("an absent key ahead of a PUT of it", reading(GET, (0x90, 2)), replies(9), logged(9, (0, data(100), 30))),
+    ("an absent key, the block has SET d to 4", reading((0x05, 4), GET), replies(4), logged(4)),
     ("an absent key, an earlier block has SET d to 4", calls(
         pack([NINE, BEGIN, (0x05, 4), (0x75, 0), BEGIN, (0x85, 1), (0x75, 0), RETURN]), store(1, 5, book=BOOKED),
-        [(RETRY, [0, 7])] + [(TURN, [0])] * 4), DONE + MOVED * 3 + "answer reply 7 9\n"),
-    ("an absent key, d is s", reading((0x80, 0), end=0), replies(100)),
-    ("a key that holds 0, d holds 9", reading(GET, s=store(1, 5, [(0, data(100), 0)], BOOKED)), replies(0)),
-    ("a key that holds 5, d holds 9", reading(GET, s=store(1, 5, [(0, data(100), 5)], BOOKED)), replies(5)),
-    ("a key that another partition has", reading(GET, s=store(2, 5, [(1, data(100), 5)], BOOKED)), replies(9)),
-    ("a log row with the key's number", reading(GET, s=store(1, 5, [(0, log(0, 100), 5)], BOOKED)), replies(9)),
-    ("a book row with the key's number", reading(GET, s=store(1, 10, book=BOOKED + [(12, 0, [1, 2, 3, 5])])), replies(9)),
-    ("HAS of an absent key, d holds 9", reading((0xA5, 0)), replies(0)),
-    ("HAS of an absent key behind a PUT of 0 at it", reading((0x90, 3), (0xA5, 0)), replies(1)),
+        [(RETRY, [0, 7])] + [(TURN, [0])] * 4), DONE + MOVED * 3 + "answer reply 7 9\n", logged(4, (0, log(7, 1), 9))),
+    ("an absent key, d is s", reading((0x80, 0), end=0), replies(100), logged(100)),
+    ("a key that holds 0, d holds 9", reading(GET, s=store(1, 5, [(0, data(100), 0)], BOOKED)), replies(0), logged(0, (0, data(100), 0))),
+    ("a key that holds 5, d holds 9", reading(GET, s=store(1, 5, [(0, data(100), 5)], BOOKED)), replies(5), logged(5, (0, data(100), 5))),
+    ("a key that another partition has", reading(GET, s=store(2, 5, [(1, data(100), 5)], BOOKED)), replies(9),
+     logged(9, (1, data(100), 5), P=2)),
+    ("a log row with the key's number", reading(GET, s=store(1, 5, [(0, log(0, 100), 5)], BOOKED)), replies(9),
+     logged(9, (0, log(0, 100), 5))),
+    ("a book row with the key's number", reading(GET, s=store(1, 10, book=BOOKED + [(12, 0, [1, 2, 3, 5])])), replies(9),
+     logged(9, C=10, book=BOOKED + [(12, 0, [1, 2, 3, 5])])),
+    ("HAS of an absent key, d holds 9", reading((0xA5, 0)), replies(0), logged(0)),
+    ("HAS of an absent key behind a PUT of 0 at it", reading((0x90, 3), (0xA5, 0)), replies(1), logged(1, (0, data(100), 0))),
     ("an absent key's register PUT at another key", schedule(pack([NINE, BEGIN, GET, (0x91, 5), (0x75, 0), RETURN]), 1, 5, [SEVEN],
      [0x00, 0x10, 0x10, 0x10]), "events 4\n0 done\n1 moved\n2 moved\n3 reply 7 9\nrow 0 200 9\nlog 0 7 0 9\n"),
     ("an absent key, written by another request before the retry", schedule(
@@ -292,9 +378,88 @@ log 0 8 0 100
     # turns and restart
     ("a turn at RETURN", turn(s=store(book=BOOKED), slots={0: agent(7, registers=[42])}), "answer reply 7 42\n"),
     ("a restart asks nothing", call(RESTART, store=b"\xff"), DONE),
+    # putting an earlier store in order
+    ("order: log rows behind data rows",
+     order(written(1, 5, [(0, data(9), 1), (0, log(7, 1), 2), (0, data(0), 3), (0, log(7, 0), 4)], BOOKED)), DONE,
+     written(1, 5, [(0, log(7, 0), 4), (0, log(7, 1), 2), (0, data(0), 3), (0, data(9), 1)], BOOKED)),
+    ("order: the greatest log key behind the least data key", order(written(1, 5, [(0, data(0), 1), (0, log(2**32 - 1, 65535), 2)])), DONE,
+     written(1, 5, [(0, log(2**32 - 1, 65535), 2), (0, data(0), 1)])),
+    ("order: id 8 ahead of id 7 in the book", order(written(1, 10, book=[NEXT] + BOOKED)), DONE, written(1, 10, book=BOOKED + [NEXT])),
+    ("order: j = 4 ahead of j = 3 in the book", order(written(1, 5, FALLING)), DONE, written(1, 5, book=BOOKED)),
+    ("order: two partitions and the book", order(written(2, 10, [
+        (0, data(5), 1), (0, data(4), 2), (0, log(8, 0), 3), (1, data(1), 4), (1, log(7, 1), 5), (1, data(0), 6)], [NEXT] + BOOKED)), DONE,
+     written(2, 10, [(0, log(8, 0), 3), (0, data(4), 2), (0, data(5), 1), (1, log(7, 1), 5), (1, data(0), 6), (1, data(1), 4)],
+             BOOKED + [NEXT])),
+    ("order: full partition and full book by falling key", order(written(1, 5, [(0, data(k), k) for k in [4, 3, 2, 1, 0]] + [
+        (1, 60, 0), (1, 59, 30), (1, 58, 200), (1, 57, 100), (1, 56, 0)])), DONE,
+     written(1, 5, [(0, data(k), k) for k in [0, 1, 2, 3, 4]], BOOKED)),
+    ("order twice", calls(b"", written(1, 5, [(0, data(2), 1), (0, data(1), 2)]), [(ORDER, [])] * 2), DONE * 2,
+     written(1, 5, [(0, data(1), 2), (0, data(2), 1)])),
+    ("order: a store in order", order(store(2, 5, [(0, log(7, 0), 1), (0, data(1), 2), (1, data(0), 3)], BOOKED)), DONE),
+    ("order: a fresh store", order(store()), DONE),
+    ("order asks for no pack and no slot",
+     call(ORDER, (), pack([SET]), written(1, 5, [(0, data(2), 1), (0, data(1), 2)]), {3: agent(9, 9, 9, in_use=0)}), DONE,
+     written(1, 5, [(0, data(1), 2), (0, data(2), 1)])),
+    ("order: two bytes", order(b"\x01\x05"), refused(9)),
+    ("order: 4 rows, in another order", order(written(1, 4, [(0, data(2), 1), (0, data(1), 1)])), refused(9)),
+    ("order: a byte too many", order(store(more=b"\0")), refused(10)),
+    ("order: a byte too many, in another order", order(written(1, 5, [(0, data(2), 1), (0, data(1), 1)], more=b"\0")), refused(10)),
+    ("order: a used count of 6 with 5 rows", order(store(1, 5, [(0, data(k), 1) for k in range(5)], used={0: 6})), refused(11)),
+    ("order: a used count of 6 with 5 rows, in another order",
+     order(written(1, 5, [(0, data(k), 1) for k in [1, 0, 2, 3, 4]], used={0: 6})), refused(11)),
+    ("order: a log key of 49 bits", order(store(1, 5, [(0, log(1, 0), 1), (0, 2**48, 1)])), refused(11)),
+    ("order: a log key of 49 bits, in another order", order(written(1, 5, [(0, 2**48, 1), (0, log(1, 0), 1)])), refused(11)),
+    ("order: a book key with j = 5", order(store(1, 5, [(1, 8 * 7, 0), (1, 8 * 7 + 5, 1)])), refused(11)),
+    ("order: a book key with j = 5, in another order", order(written(1, 5, [(1, 8 * 7 + 5, 1), (1, 8 * 7, 0)])), refused(11)),
+    ("order: one key twice, side by side", order(store(1, 5, [(0, data(k), 1) for k in [0, 1, 1, 2]])), refused(11)),
+    ("order: one key twice, side by side, in another order", order(written(1, 5, [(0, data(k), 1) for k in [2, 1, 1, 0]])), refused(11)),
+    ("order: one key twice, apart", order(written(1, 5, [(0, data(k), k) for k in [1, 0, 2, 1]])), refused(11)),
+    ("order: one key twice in the book, apart", order(written(1, 5, [(1, k, 0) for k in [57, 56, 58, 59, 57]])), refused(11)),
+    ("order: an unused row that is not zero", order(store(1, 5, [(0, data(1), 1), (0, data(2), 1)], used={0: 1})), refused(11)),
+    ("order: an unused row that is not zero, in another order",
+     order(written(1, 5, [(0, data(2), 1), (0, data(1), 1), (0, data(0), 1)], used={0: 2})), refused(11)),
+    ("order: a booked id with four rows", order(store(1, 5, [(1, 8 * 7 + j, 0) for j in [0, 1, 2, 3]])), refused(12)),
+    ("order: a booked id with four rows, in another order", order(written(1, 5, [(1, 8 * 7 + j, 0) for j in [3, 1, 4, 0]])), refused(12)),
+    ("order: 11 of the book is said before 12", order(written(1, 5, [(1, 8 * 7 + j, 0) for j in [3, 1, 5, 0]])), refused(11)),
+    ("order between calls, with an agent in a slot", calls(MOVE, store(2, 5), [
+        (ORDER, []), (ARRIVAL, [0, *SEVEN]), (ORDER, []), (TURN, [0]), (TURN, [0]), (ORDER, []), (TURN, [0]), (ORDER, []), (TURN, [0]),
+        (ORDER, [])]),
+     DONE * 3 + MOVED * 2 + DONE + MOVED + DONE + "answer reply 7 30\n" + DONE, MOVED_SEVEN),
+    ("rows in another order: 11, put in order, retried up to the reply", calls(
+        MOVE, written(2, 5, [(0, data(100), 2**32 - 30), (0, log(7, 0), 2**32 - 30)], BOOKED),
+        [(RETRY, [0, 7]), (RESTART, []), (RETRY, [0, 7]), (ORDER, []), (RETRY, [0, 7])] + [(TURN, [0])] * 4),
+     refused(11) + DONE + refused(11) + DONE * 2 + MOVED * 3 + "answer reply 7 30\n", MOVED_SEVEN),
+    # where new rows go
+    ("a block writes below, between and behind the rows of its partition, and over one", turn(FOUR, store(1, 10, [
+        (0, log(6, 3), 1), (0, log(7, 1), 2), (0, log(9, 0), 3), (0, data(15), 4), (0, data(20), 5), (0, data(35), 6)], BOOKED), AT_FOUR),
+     MOVED, written(1, 10, [(0, log(6, 3), 1), (0, log(7, 0), 20), (0, log(7, 1), 2), (0, log(9, 0), 3), (0, data(10), 7), (0, data(15), 4),
+                            (0, data(20), 7), (0, data(30), 7), (0, data(35), 6), (0, data(40), 7)], BOOKED)),
+    ("a log row below all rows", turn(FOUR, store(1, 10, [(0, log(7, 1), 1), (0, log(8, 0), 2)], BOOKED), AT_FOUR), MOVED,
+     written(1, 10, [(0, log(7, 0), 20), (0, log(7, 1), 1), (0, log(8, 0), 2), (0, data(10), 7), (0, data(20), 7), (0, data(30), 7),
+                     (0, data(40), 7)], BOOKED)),
+    ("a log row behind the log rows and ahead of the data rows",
+     turn(TWICE, store(1, 5, [(0, log(6, 9), 1), (0, data(0), 2)], BOOKED), AT_TWICE), MOVED,
+     written(1, 5, [(0, log(6, 9), 1), (0, log(7, 0), 100), (0, data(0), 2), (0, data(200), 30)], BOOKED)),
+    ("every row but the log row written over, and the partition full",
+     turn(FOUR, store(1, 5, [(0, data(k), k) for k in [10, 20, 30, 40]], BOOKED), AT_FOUR), MOVED,
+     written(1, 5, [(0, log(7, 0), 20), (0, data(10), 7), (0, data(20), 7), (0, data(30), 7), (0, data(40), 7)], BOOKED)),
+    ("the same with no row for the log",
+     turn(FOUR, store(1, 5, [(0, data(k), k) for k in [10, 20, 30, 40, 50]], BOOKED), AT_FOUR), refused(21)),
+    ("the least and the greatest data key",
+     turn(FOUR, store(1, 10, [(0, data(1), 1)], BOOKED), {0: agent(7, registers=[2**32 - 1, 0, 1, 2, 9])}), MOVED,
+     written(1, 10, [(0, log(7, 0), 0), (0, data(0), 9), (0, data(1), 9), (0, data(2), 9), (0, data(2**32 - 1), 9)], BOOKED)),
+    ("an arrival with an id below those booked", arrives(3, 7), DONE, written(1, 10, book=[like(3), like(7)])),
+    ("an arrival with an id between those booked", arrives(8, 7, 9), DONE, written(1, 15, book=[like(7), like(8), like(9)])),
+    ("an arrival with an id above those booked", arrives(2**32 - 1, 7), DONE, written(1, 10, book=[like(7), like(2**32 - 1)])),
+    ("a book of 5 rows with one request", calls(ONE, store(1, 5), [(ARRIVAL, [0, *SEVEN]), (ARRIVAL, [1, 3, 0]), (ORDER, []), (TURN, [0])]),
+     DONE + refused(19) + DONE + "answer reply 7 100\n", written(1, 5, book=BOOKED)),
+    ("requests 7 and 8 one after the other", calls(KEPT, store(1, 10), [
+        (ARRIVAL, [0, 7, 0, 100, 1, 0, 0]), (TURN, [0]), (ARRIVAL, [1, 8, 0, 50, 2, 0, 0]), (TURN, [1])]), (DONE + MOVED) * 2, BOTH),
+    ("requests 8 and 7 one after the other", calls(KEPT, store(1, 10), [
+        (ARRIVAL, [0, 8, 0, 50, 2, 0, 0]), (ARRIVAL, [1, 7, 0, 100, 1, 0, 0]), (TURN, [0]), (TURN, [1])]), DONE * 2 + MOVED * 2, BOTH),
     # 22, 23 and 9 of a schedule
-    ("a schedule with no bytes", struct.pack("<BII", 0, len(ONE), 0) + ONE, "refused 22\n"),
-    ("no pack and no schedule", struct.pack("<BII", 0, 0, 0), "refused 1\n"),
+    ("a schedule with no bytes", Case(struct.pack("<BII", 0, len(ONE), 0) + ONE), "refused 22\n"),
+    ("no pack and no schedule", Case(struct.pack("<BII", 0, 0, 0)), "refused 1\n"),
     ("a schedule a byte too long", schedule(ONE, 1, 5, [], [], more=b"\0"), "refused 22\n"),
     ("64 requests", schedule(ONE, 1, 5, [SEVEN] * 64, []), "events 0\n"),
     ("65 requests", schedule(ONE, 1, 5, [SEVEN] * 65, []), "refused 22\n"),
@@ -308,11 +473,19 @@ log 0 8 0 100
     ("slot 15, and a restart with slot 15", schedule(ONE, 1, 5, [SEVEN], [0x0F, 0x4F]), "events 2\n0 refused 15\n1 done\n"),
 ]
 
+def left(case, answer, after=None):
+    """The line of the store's bytes: `after`, or as given where that is not said."""
+    if case.store is None:
+        return answer
+    return answer + "bytes %s\n" % ((case.store if after is None else after).hex() or "-")
+
+
 here = os.path.dirname(os.path.abspath(__file__))
+titles = [(words + "\n").encode() for words, *_ in EDGES]
+stdin = b"".join(bytes([len(title)]) + title + edge[1].bytes for title, edge in zip(titles, EDGES))
+assert len(stdin) <= 262144, len(stdin)  # what the program reads
 with open(os.path.join(here, "stdin"), "wb") as f:
-    for words, case, _ in EDGES:
-        title = (words + "\n").encode()
-        f.write(bytes([len(title)]) + title + case)
+    f.write(stdin)
 with open(os.path.join(here, "stdout"), "w") as f:
-    for words, _, answer in EDGES:
-        f.write(words + "\n" + answer)
+    for words, *edge in EDGES:
+        f.write(words + "\n" + left(*edge))

@@ -1,4 +1,5 @@
-//! The five calls. Each puts all its questions before it changes anything.
+//! The five calls of document 01, and the one of W-203 that puts an earlier store in order.
+//! Each puts all its questions before it changes anything.
 
 use crate::agents::{pack_fits, slots_are_right, Agent, Slots, ALL_EMPTY, SLOTS};
 use crate::operations::{do_one, run_block};
@@ -18,11 +19,23 @@ pub type Outcome = Result<Answer, Refusal>;
 
 #[derive(Clone, Copy, Debug, PartialEq, Eq)]
 pub enum Call {
-    Arrival { slot: u32, request: Request },
-    Retry { slot: u32, id: u32 },
-    Turn { slot: u32 },
-    Crash { slot: u32 },
+    Arrival {
+        slot: u32,
+        request: Request,
+    },
+    Retry {
+        slot: u32,
+        id: u32,
+    },
+    Turn {
+        slot: u32,
+    },
+    Crash {
+        slot: u32,
+    },
     Restart,
+    /// It is given the store only, neither pack nor slots.
+    PutInOrder,
 }
 
 impl Call {
@@ -33,6 +46,7 @@ impl Call {
             Self::Turn { slot } => turn(pack, store, slots, slot),
             Self::Crash { slot } => crash(pack, store, slots, slot),
             Self::Restart => Ok(restart(slots)),
+            Self::PutInOrder => put_in_order(store),
         }
     }
 }
@@ -127,6 +141,12 @@ pub fn crash(pack: &[u8], store: &mut [u8], slots: &mut Slots, slot: u32) -> Out
 pub fn restart(slots: &mut Slots) -> Answer {
     *slots = ALL_EMPTY;
     Answer::Done
+}
+
+/// Puts an earlier store in order: exactly the same rows, by rising key.
+pub fn put_in_order(store: &mut [u8]) -> Outcome {
+    Store::read_earlier(store)?.put_in_order();
+    Ok(Answer::Done)
 }
 
 /// The workflow of an agent that question 14 found sound.

@@ -71,6 +71,7 @@ impl Order {
             5 => Self::Call(Call::Turn { slot: first }),
             6 => Self::Call(Call::Crash { slot: first }),
             7 => Self::Call(Call::Restart),
+            9 => Self::Call(Call::PutInOrder),
             _ => return None,
         })
     }
@@ -89,6 +90,7 @@ impl Order {
             Self::Call(Call::Turn { slot }) => (5, [slot, 0, 0, 0, 0, 0, 0]),
             Self::Call(Call::Crash { slot }) => (6, [slot, 0, 0, 0, 0, 0, 0]),
             Self::Call(Call::Restart) => (7, [0; 7]),
+            Self::Call(Call::PutInOrder) => (9, [0; 7]),
         }
     }
 }
@@ -98,7 +100,7 @@ fn read_order(reader: &mut Reader) -> Option<Order> {
     Order::read(code, reader.words()?)
 }
 
-/// One of the five calls.
+/// A call that may stand in a list: one that is given what the one before left.
 fn read_call(reader: &mut Reader) -> Option<Call> {
     match read_order(reader)? {
         Order::Call(call) => Some(call),
@@ -230,12 +232,20 @@ pub struct Listed {
 impl ListCase {
     /// Does the calls; the case itself stays as it is.
     pub fn perform(&self) -> Listed {
+        self.perform_each(|_, _, _| {})
+    }
+
+    /// Does the calls and shows each with the store that it was given and its outcome.
+    pub fn perform_each(&self, mut show: impl FnMut(&Call, &[u8], &Outcome)) -> Listed {
         let mut store = self.store.clone();
         let mut slots = self.slots;
-        let calls = self.calls.iter();
-        let outcomes = calls
-            .map(|call| call.perform(&self.pack, &mut store, &mut slots))
-            .collect();
+        let mut outcomes = Vec::with_capacity(self.calls.len());
+        for call in &self.calls {
+            let given = store.clone();
+            let outcome = call.perform(&self.pack, &mut store, &mut slots);
+            show(call, &given, &outcome);
+            outcomes.push(outcome);
+        }
         Listed {
             outcomes,
             store,
@@ -322,11 +332,19 @@ fn print_parts(opened: Option<Workflow>, text: &mut String) {
     let _ = writeln!(text, "operands {}", hex(operands));
 }
 
+/// Its rows by rising key, or its bytes where it is not laid out; then its bytes as they are,
+/// so that the order of the rows shows too.
 fn print_store(bytes: &[u8], text: &mut String) {
-    let Ok(store) = Store::lay_out(bytes) else {
-        let _ = writeln!(text, "store {}", hex(bytes));
-        return;
-    };
+    match Store::lay_out(bytes) {
+        Ok(store) => print_rows(&store, text),
+        Err(_) => {
+            let _ = writeln!(text, "store {}", hex(bytes));
+        }
+    }
+    let _ = writeln!(text, "bytes {}", hex(bytes));
+}
+
+fn print_rows(store: &Store<&[u8]>, text: &mut String) {
     let partitions = 0..=store.shape().book();
     for partition in partitions.clone() {
         let _ = writeln!(text, "used {partition} {}", store.used(partition));

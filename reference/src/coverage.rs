@@ -6,10 +6,11 @@ use crate::calls::{Answer, Call, Outcome};
 use crate::cases::{read_all, CallCase, Case, ListCase, Order};
 use crate::refusal::QUESTIONS;
 use crate::schedule;
+use crate::store::Store;
 
 /// The things that can be called, in the order of their call bytes.
-pub const ORDERS: [&str; 8] = [
-    "check", "open", "create", "arrival", "retry", "turn", "crash", "restart",
+pub const ORDERS: [&str; 9] = [
+    "check", "open", "create", "arrival", "retry", "turn", "crash", "restart", "order",
 ];
 
 #[derive(Clone, Debug, Default, PartialEq, Eq)]
@@ -28,6 +29,10 @@ pub struct Coverage {
     pub replied: usize,
     /// Single and listed calls by what was called: accepted and refused.
     pub orders: [(usize, usize); ORDERS.len()],
+    /// Calls that 11 refuses for the order of the rows alone, and stores put in order that
+    /// were not.
+    pub not_rising: usize,
+    pub put_in_order: usize,
 }
 
 impl Coverage {
@@ -66,17 +71,23 @@ impl Coverage {
 
     fn count_call(&mut self, case: &CallCase) {
         self.calls += 1;
-        self.count_order(&case.order, &case.perform().outcome);
+        self.count_order(&case.order, &case.store, &case.perform().outcome);
     }
 
     fn count_list(&mut self, list: &ListCase) {
         self.lists += 1;
-        for (call, outcome) in list.calls.iter().zip(list.perform().outcomes) {
-            self.count_order(&Order::Call(*call), &outcome);
-        }
+        list.perform_each(|call, given, outcome| {
+            self.count_order(&Order::Call(*call), given, outcome);
+        });
     }
 
-    fn count_order(&mut self, order: &Order, outcome: &Outcome) {
+    fn count_order(&mut self, order: &Order, given: &[u8], outcome: &Outcome) {
+        if is_only_unordered(given) {
+            let is_11 = outcome.is_err_and(|refusal| refusal.question == 11);
+            self.not_rising += usize::from(is_11);
+            let orders = *order == Order::Call(Call::PutInOrder);
+            self.put_in_order += usize::from(orders);
+        }
         let (accepted, refused) = &mut self.orders[order_index(order)];
         match outcome {
             Ok(_) => *accepted += 1,
@@ -127,8 +138,15 @@ impl Coverage {
         for (name, (accepted, refused)) in ORDERS.iter().zip(self.orders) {
             let _ = writeln!(text, "call {name} accepted {accepted} refused {refused}");
         }
+        let _ = writeln!(text, "rows not rising, refused 11 {}", self.not_rising);
+        let _ = writeln!(text, "rows not rising, put in order {}", self.put_in_order);
         text
     }
+}
+
+/// Right as earlier stores were, but not by rising key.
+fn is_only_unordered(store: &[u8]) -> bool {
+    Store::read_earlier(store).is_ok_and(|store| !store.is_in_order())
 }
 
 fn order_index(order: &Order) -> usize {
@@ -141,5 +159,6 @@ fn order_index(order: &Order) -> usize {
         Order::Call(Call::Turn { .. }) => 5,
         Order::Call(Call::Crash { .. }) => 6,
         Order::Call(Call::Restart) => 7,
+        Order::Call(Call::PutInOrder) => 8,
     }
 }

@@ -5,7 +5,8 @@
 //! * [`store`]: the store in bytes (questions 9 to 12)
 //! * [`agents`]: the eight slots (questions 13 and 14)
 //! * [`operations`]: what each operation does
-//! * [`calls`]: arrival, retry, turn, crash and restart (questions 15 to 21 and 24)
+//! * [`calls`]: arrival, retry, turn, crash and restart (questions 15 to 21 and 24), and what
+//!   puts an earlier store in order
 //! * [`schedule`]: the schedule program (questions 22 and 23)
 //! * [`plain`]: the plain machine and the check of demand 3 on what was run
 //! * [`cases`]: the file `cases.bin` and what is printed for each of its cases

@@ -7,7 +7,7 @@ use std::path::Path;
 use std::process::ExitCode;
 
 use reference::coverage::Coverage;
-use reference::plain::{check_run, Tally};
+use reference::plain::{check_list, Tally};
 use reference::random::Random;
 use reference::{cases, generate, schedule};
 
@@ -15,7 +15,7 @@ const USAGE: &str = "usage:
   reference run FOLDER                the schedule program on pack.bin and schedule.bin
   reference cases FILE                what each case of a file comes to
   reference generate SEED COUNT FILE  writes a file of cases
-  reference demand3 SEED COUNT        demand 3 on generated schedules
+  reference demand3 SEED COUNT        demand 3 on generated lists of calls
   reference coverage FILE             how often each question and answer occurs in a file
 ";
 
@@ -89,8 +89,8 @@ fn demand3(seed: &str, count: &str) -> Done {
     let mut total = Tally::default();
     for list in 0..count {
         let mut random = Random::of_item(seed, list);
-        let (pack, schedule) = generate::any_schedule(&mut random);
-        match check_run(&pack, &schedule) {
+        let (pack, store, calls) = generate::any_list(&mut random);
+        match check_list(&pack, store, &calls) {
             Ok(tally) => total.add(&tally),
             Err(violation) => {
                 print(&format!("violation seed {seed} list {list}: {violation}\n"))?;
@@ -114,6 +114,7 @@ fn tally_text(tally: &Tally) -> String {
         format!("moves of the plain machine {}", tally.moves),
         format!("accepted crashes {}", tally.crashes),
         format!("restarts {}", tally.restarts),
+        format!("accepted orders {}", tally.orders),
         format!("first replies {}", tally.first_replies),
         format!("later replies {}", tally.later_replies),
         format!(

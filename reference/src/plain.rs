@@ -2,12 +2,13 @@
 
 use std::collections::BTreeMap;
 
-use crate::agents::{Agent, SLOTS};
+use crate::agents::{Agent, Slots, ALL_EMPTY, SLOTS};
 use crate::calls::{Answer, Call, Outcome};
 use crate::operations::{do_one, run_block, Registers};
 use crate::pack::{Operation, Pack};
 use crate::refusal::QUESTIONS;
-use crate::store::{Key, Request, Store, MOST_PARTITIONS};
+use crate::schedule;
+use crate::store::{self, Key, Request, Store, MOST_PARTITIONS};
 
 /// A booked request's agent in the plain machine.
 #[derive(Clone, Debug)]
@@ -103,6 +104,7 @@ pub struct Tally {
     pub moves: usize,
     pub crashes: usize,
     pub restarts: usize,
+    pub orders: usize,
     pub first_replies: usize,
     pub later_replies: usize,
     pub full_lives: usize,
@@ -121,6 +123,7 @@ impl Tally {
         self.moves += other.moves;
         self.crashes += other.crashes;
         self.restarts += other.restarts;
+        self.orders += other.orders;
         self.first_replies += other.first_replies;
         self.later_replies += other.later_replies;
         self.full_lives += other.full_lives;
@@ -180,6 +183,28 @@ impl<'a> Witness<'a> {
             Call::Turn { slot } => self.see_turn(slot, answer),
             Call::Crash { .. } => self.tally.crashes += 1,
             Call::Restart => self.tally.restarts += 1,
+            Call::PutInOrder => self.tally.orders += 1,
+        }
+    }
+
+    /// What the call was given and what it left. The store it leaves is right and its rows
+    /// alone say its bytes; a store that is in order already has nothing to be put in order.
+    pub fn see_left(&mut self, call: &Call, given: &State, left: &State) {
+        if *call == Call::PutInOrder && given != left {
+            self.blame("a store in order or a slot was changed".to_string());
+        }
+        if given.store != left.store {
+            self.see_store(&left.store);
+        }
+    }
+
+    fn see_store(&mut self, bytes: &[u8]) {
+        match Store::read(bytes) {
+            Ok(store) if bytes != store::encode(store.shape(), &contents(&store)) => {
+                self.blame("equal contents have other bytes".to_string());
+            }
+            Ok(_) => {}
+            Err(refusal) => self.blame(format!("the store is refused: {}", refusal.question)),
         }
     }
 
@@ -279,6 +304,12 @@ impl<'a> Witness<'a> {
     }
 }
 
+/// What is in each partition and in the book, whatever the order of the rows.
+fn contents(store: &Store<&[u8]>) -> Vec<BTreeMap<u64, u32>> {
+    let partitions = 0..=store.shape().book();
+    partitions.map(|p| store.rows(p).collect()).collect()
+}
+
 /// The data rows of a partition by rising key; a key that stands twice is there twice.
 fn data_rows(store: &Store<&[u8]>, partition: usize) -> Vec<(u32, u32)> {
     let rows = store.sorted_rows(partition).into_iter();
@@ -289,15 +320,39 @@ fn data_rows(store: &Store<&[u8]>, partition: usize) -> Vec<(u32, u32)> {
     .collect()
 }
 
+/// Store and slots, as one call leaves them to the next.
+#[derive(Clone, Debug, PartialEq, Eq)]
+pub struct State {
+    pub store: Vec<u8>,
+    pub slots: Slots,
+}
+
+impl State {
+    /// All slots empty, as a list of calls starts.
+    pub fn new(store: Vec<u8>) -> Self {
+        let slots = ALL_EMPTY;
+        Self { store, slots }
+    }
+}
+
+/// Demand 3 of a list of calls on a fresh store.
+pub fn check_list(pack: &[u8], store: Vec<u8>, calls: &[Call]) -> Result<Tally, String> {
+    let read = Pack::read(pack).map_err(|_| "a refused pack ran".to_string())?;
+    let mut witness = Witness::new(read);
+    let mut state = State::new(store);
+    for call in calls {
+        let given = state.clone();
+        let outcome = call.perform(pack, &mut state.store, &mut state.slots);
+        witness.see(call, &outcome);
+        witness.see_left(call, &given, &state);
+    }
+    witness.close(&state.store)
+}
+
 /// Demand 3 of a schedule's run. A schedule that is refused has no list to speak of.
 pub fn check_run(pack: &[u8], schedule: &[u8]) -> Result<Tally, String> {
-    let Ok(run) = crate::schedule::run(pack, schedule) else {
-        return Ok(Tally::default());
-    };
-    let pack = Pack::read(pack).map_err(|_| "a refused pack ran".to_string())?;
-    let mut witness = Witness::new(pack);
-    for (call, outcome) in &run.calls {
-        witness.see(call, outcome);
+    match schedule::begin(pack, schedule) {
+        Ok((schedule, store)) => check_list(pack, store, &schedule.calls()),
+        Err(_) => Ok(Tally::default()),
     }
-    witness.close(&run.store)
 }

@@ -21,7 +21,8 @@ pub const QUESTIONS: [&str; 24] = [
     "Is the last instruction RETURN?",
     "Are there three bytes, P 1 to 8, C 5 to 256?",
     "Is the store's length right?",
-    "Is each used count at most C, each used key of a form of its partition and unlike the others there, each unused row zero?",
+    "Is each used count at most C, each used key of a form of its partition and unlike the others there, \
+     each unused row zero, and are the used keys rising?",
     "Has each booked id all five rows?",
     "Is each booked workflow below m, each BEGIN's partition below P?",
     "Is each slot empty or sound?",

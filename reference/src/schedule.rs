@@ -122,6 +122,11 @@ impl Schedule {
         bytes
     }
 
+    /// The calls of all its events, in order.
+    pub fn calls(&self) -> Vec<Call> {
+        self.events.iter().map(|event| self.call(event)).collect()
+    }
+
     /// The call that an event of this schedule makes.
     pub fn call(&self, event: &Event) -> Call {
         let slot = u32::from(event.slot);

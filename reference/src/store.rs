@@ -1,6 +1,9 @@
-//! The store: its layout in bytes, create, questions 9 to 12, search and put.
+//! The store: its layout in bytes, create, questions 9 to 12, search, put, and what puts an
+//! earlier store in order.
 //!
-//! Used rows come first in their partition; a new row goes behind them.
+//! Used rows come first in their partition, by rising stored key (W-203).
+
+use std::collections::BTreeMap;
 
 use crate::bytes::{u16_at, u32_at, u64_at, write_at};
 use crate::refusal::{ask, Refusal};
@@ -123,6 +126,25 @@ pub fn fresh(partitions: u32, rows: u32) -> Result<Vec<u8>, Refusal> {
     Ok(buffer)
 }
 
+/// The only bytes that a store with these contents has: for each partition, the book last,
+/// its stored keys with their values, at most C of them.
+pub fn encode(shape: Shape, contents: &[BTreeMap<u64, u32>]) -> Vec<u8> {
+    let mut bytes = vec![shape.partitions as u8];
+    bytes.extend((shape.rows as u16).to_le_bytes());
+    for rows in contents {
+        bytes.extend((rows.len() as u16).to_le_bytes());
+    }
+    for rows in contents {
+        bytes.extend(rows.keys().flat_map(|key| key.to_le_bytes()));
+        bytes.resize(bytes.len() + 8 * (shape.rows - rows.len()), 0);
+    }
+    for rows in contents {
+        bytes.extend(rows.values().flat_map(|value| value.to_le_bytes()));
+        bytes.resize(bytes.len() + 4 * (shape.rows - rows.len()), 0);
+    }
+    bytes
+}
+
 /// A store over lent (or owned) bytes whose layout is right.
 #[derive(Clone, Debug)]
 pub struct Store<B> {
@@ -143,7 +165,15 @@ impl<B: AsRef<[u8]>> Store<B> {
     /// Questions 9 to 12.
     pub fn read(bytes: B) -> Result<Self, Refusal> {
         let store = Self::lay_out(bytes)?;
-        ask(11, (0..=store.shape.book()).all(|p| store.is_right(p)))?;
+        ask(11, store.rows_are_right() && store.is_in_order())?;
+        ask(12, store.book_is_whole())?;
+        Ok(store)
+    }
+
+    /// Questions 9 to 12, of 11 all but the rising keys: what an earlier store passes.
+    pub fn read_earlier(bytes: B) -> Result<Self, Refusal> {
+        let store = Self::lay_out(bytes)?;
+        ask(11, store.rows_are_right())?;
         ask(12, store.book_is_whole())?;
         Ok(store)
     }
@@ -193,7 +223,22 @@ impl<B: AsRef<[u8]>> Store<B> {
         keys
     }
 
-    /// Question 11 for one partition.
+    /// Question 11 but for the rising keys.
+    fn rows_are_right(&self) -> bool {
+        (0..=self.shape.book()).all(|partition| self.is_right(partition))
+    }
+
+    /// The rest of question 11: each used key is greater than the one before it.
+    pub fn is_in_order(&self) -> bool {
+        (0..=self.shape.book()).all(|partition| self.rises(partition))
+    }
+
+    pub fn rises(&self, partition: usize) -> bool {
+        let keys: Vec<u64> = self.rows(partition).map(|(key, _)| key).collect();
+        keys.windows(2).all(|pair| pair[0] < pair[1])
+    }
+
+    /// Question 11 but for the rising keys, for one partition.
     fn is_right(&self, partition: usize) -> bool {
         let used = self.used(partition);
         if used > self.shape.rows {
@@ -256,24 +301,42 @@ impl<B: AsRef<[u8]>> Store<B> {
 }
 
 impl<B: AsRef<[u8]> + AsMut<[u8]>> Store<B> {
-    /// Writes a row: over the one with this key, or behind the used rows.
-    /// `false` if there is neither, and then nothing is changed.
+    /// Writes a row: over the one with this key, or ahead of the first greater key.
+    /// `false` if there is no room for it, and then nothing is changed.
     pub fn put(&mut self, partition: usize, key: u64, value: u32) -> bool {
-        let used = self.used(partition);
-        let row = match self.row_of(partition, key) {
-            Some(row) => row,
-            None if used < self.shape.rows => used,
-            None => return false,
-        };
+        if let Some(row) = self.row_of(partition, key) {
+            let place = self.shape.value_at(partition, row);
+            write_at(self.bytes.as_mut(), place, &value.to_le_bytes());
+            return true;
+        }
+        if self.free(partition) == 0 {
+            return false;
+        }
+        let mut rows: Vec<_> = self.rows(partition).collect();
+        let greater = rows.iter().position(|(other, _)| *other > key);
+        rows.insert(greater.unwrap_or(rows.len()), (key, value));
+        self.write_rows(partition, &rows);
+        true
+    }
+
+    /// Writes the used rows of a partition, and how many they are.
+    fn write_rows(&mut self, partition: usize, rows: &[(u64, u32)]) {
         let shape = self.shape;
         let bytes = self.bytes.as_mut();
-        write_at(bytes, shape.key_at(partition, row), &key.to_le_bytes());
-        write_at(bytes, shape.value_at(partition, row), &value.to_le_bytes());
-        if row == used {
-            let more = (used as u16 + 1).to_le_bytes();
-            write_at(bytes, shape.used_at(partition), &more);
+        let used = (rows.len() as u16).to_le_bytes();
+        write_at(bytes, shape.used_at(partition), &used);
+        for (row, (key, value)) in rows.iter().enumerate() {
+            write_at(bytes, shape.key_at(partition, row), &key.to_le_bytes());
+            write_at(bytes, shape.value_at(partition, row), &value.to_le_bytes());
         }
-        true
+    }
+
+    /// The same rows of every partition and of the book, by rising key.
+    pub fn put_in_order(&mut self) {
+        for partition in 0..=self.shape.book() {
+            let rows = self.sorted_rows(partition);
+            self.write_rows(partition, &rows);
+        }
     }
 
     /// Books a request; the caller asked for five free rows.

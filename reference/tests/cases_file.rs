@@ -4,6 +4,7 @@ mod common;
 
 use common::*;
 use reference::agents::ALL_EMPTY;
+use reference::bytes::hex;
 use reference::cases::{print_all, read_all, write_all, CallCase, Case, ListCase, Order};
 use reference::coverage::Coverage;
 use reference::generate;
@@ -17,6 +18,11 @@ fn on_state(state: &State, order: Order) -> Case {
         slots: state.slots,
         order,
     }))
+}
+
+/// The line that shows a store's bytes.
+fn bytes_line(store: &[u8]) -> String {
+    format!("bytes {}\n", hex(store))
 }
 
 fn print(case: Case) -> String {
@@ -76,9 +82,47 @@ row 2 57 100
 row 2 58 200
 row 2 59 30
 row 2 60 0
-agent 0 1 7 6 1 4294967266 200 30 0 100 0 0 0
 ";
-    assert_eq!(text, expected);
+    let value = 4_294_967_266;
+    let rows = [(log(7, 0), value), (data(100), value)];
+    let bytes = bytes_line(&laid(10, &[&rows, &[], &booked(7)]));
+    let agent = "agent 0 1 7 6 1 4294967266 200 30 0 100 0 0 0\n";
+    assert_eq!(text, format!("{expected}{bytes}{agent}"));
+}
+
+#[test]
+fn putting_in_order_prints_the_state_afterwards() {
+    let mut state = State::with_move();
+    let [one, two, three, four, five] = booked(7);
+    let book = [five, two, three, one, four];
+    state.store = laid(5, &[&[(data(1), 2), (log(9, 0), 3)], &[], &book]);
+    let order = on_state(&state, Order::Call(Call::PutInOrder));
+    let rows = "\
+used 0 2
+used 1 0
+used 2 5
+row 0 589824 3
+row 0 9223372036854775809 2
+row 2 56 0
+row 2 57 100
+row 2 58 200
+row 2 59 30
+row 2 60 0
+";
+    let agent = "agent 0 1 7 0 0 100 200 30 0 0 0 0 0\n";
+    let left = laid(5, &[&[(log(9, 0), 3), (data(1), 2)], &[], &booked(7)]);
+    let bytes = bytes_line(&left);
+    assert_eq!(
+        print(order),
+        format!("case 0\nanswer done\n{rows}{bytes}{agent}")
+    );
+    // A call that 11 refuses prints the rows the same; the bytes show where they stand.
+    let turn = on_state(&state, Order::Call(Call::Turn { slot: 0 }));
+    let bytes = bytes_line(&state.store);
+    assert_eq!(
+        print(turn),
+        format!("case 0\nanswer refused 11 0 0\n{rows}{bytes}{agent}")
+    );
 }
 
 #[test]
@@ -90,16 +134,16 @@ fn a_store_that_is_not_laid_out_is_printed_in_hexadecimal() {
     let text = print(on_state(&state, turn));
     assert_eq!(
         text,
-        format!("case 0\nanswer refused 10 0 0\nstore 010500ab\n{agent}")
+        format!("case 0\nanswer refused 10 0 0\nstore 010500ab\nbytes 010500ab\n{agent}")
     );
     state.store.clear();
     let text = print(on_state(&state, turn));
     assert_eq!(
         text,
-        format!("case 0\nanswer refused 9 0 0\nstore -\n{agent}")
+        format!("case 0\nanswer refused 9 0 0\nstore -\nbytes -\n{agent}")
     );
     let text = print(on_state(&state, Order::Call(Call::Restart)));
-    assert_eq!(text, "case 0\nanswer done\nstore -\n");
+    assert_eq!(text, "case 0\nanswer done\nstore -\nbytes -\n");
 }
 
 #[test]
@@ -108,9 +152,10 @@ fn used_counts_are_printed_as_they_stand() {
     state.store[3] = 6;
     let text = print(on_state(&state, Order::Call(Call::Crash { slot: 0 })));
     let rows = "row 0 0 0\n".repeat(5);
+    let bytes = format!("bytes 0105000600{}\n", "00".repeat(122));
     assert_eq!(
         text,
-        format!("case 0\nanswer refused 11 0 0\nused 0 6\nused 1 0\n{rows}")
+        format!("case 0\nanswer refused 11 0 0\nused 0 6\nused 1 0\n{rows}{bytes}")
     );
 }
 
@@ -124,9 +169,10 @@ fn create_prints_the_store_and_the_slots() {
     state.store = vec![9; 127];
     let agent = "agent 0 1 7 0 0 100 200 30 0 0 0 0 0\n";
     let text = print(on_state(&state, create));
+    let bytes = bytes_line(&laid(5, &[&[], &[]]));
     assert_eq!(
         text,
-        format!("case 0\nanswer done\nused 0 0\nused 1 0\n{agent}")
+        format!("case 0\nanswer done\nused 0 0\nused 1 0\n{bytes}{agent}")
     );
 }
 
@@ -150,6 +196,7 @@ fn all_orders() -> Vec<Case> {
         Order::Call(Call::Turn { slot: 6 }),
         Order::Call(Call::Crash { slot: 7 }),
         Order::Call(Call::Restart),
+        Order::Call(Call::PutInOrder),
     ];
     orders.map(|order| on_state(&state, order)).to_vec()
 }
@@ -204,11 +251,15 @@ row 2 2 200
 row 2 3 30
 row 2 4 0
 ";
-    assert_eq!(text, expected);
+    let value = 4_294_967_266;
+    let debit = [(log(0, 0), value), (data(100), value)];
+    let credit = [(log(0, 1), 30), (data(200), 30)];
+    let bytes = bytes_line(&laid(5, &[&debit, &credit, &booked(0)]));
+    assert_eq!(text, format!("{expected}{bytes}"));
 }
 
 #[test]
-fn the_bytes_of_a_list_come_back_and_hold_the_five_calls_only() {
+fn the_bytes_of_a_list_come_back_and_hold_calls_on_store_and_slots_only() {
     let list = older_list();
     let mut file = write_all(&[Case::List(Box::new(list.clone()))]);
     let records = 9 + list.pack.len() + list.store.len();
@@ -218,10 +269,13 @@ fn the_bytes_of_a_list_come_back_and_hold_the_five_calls_only() {
     let coverage = Coverage::of_file(&file);
     assert_eq!((coverage.lists, coverage.calls), (1, 0));
     assert_eq!((coverage.replied, coverage.question(24)), (1, 1));
-    for code in [0, 1, 2, 8] {
+    for code in [0, 1, 2, 8, 10, 255] {
         file[records + 385 + 29] = code;
         assert_eq!(print_all(&file), "malformed case 0\n", "call {code}");
     }
+    file[records + 385 + 29] = 9;
+    let expected = "case 0\nanswer done\nanswer done\nanswer moved\n";
+    assert!(print_all(&file).starts_with(expected));
 }
 
 #[test]
@@ -276,11 +330,13 @@ fn numbers_out_of_range_are_malformed() {
     let records = file.len() - 1 - 28 - 384;
     assert_eq!(with(0, 3), "malformed case 0\n", "no such kind");
     assert_eq!(with(records, 2), "malformed case 0\n", "in use is 0 or 1");
-    assert_eq!(
-        with(file.len() - 29, 8),
-        "malformed case 0\n",
-        "no such call"
-    );
+    for code in [8, 10, 255] {
+        assert_eq!(
+            with(file.len() - 29, code),
+            "malformed case 0\n",
+            "no such call"
+        );
+    }
     assert_eq!(
         with(4, 0xFF),
         "malformed case 0\n",
@@ -297,9 +353,9 @@ fn coverage_counts_answers_and_questions() {
     let coverage = Coverage::of_file(&file);
     assert_eq!(
         (coverage.schedules, coverage.calls, coverage.events),
-        (1, 8, 10)
+        (1, 9, 10)
     );
-    assert_eq!((coverage.done, coverage.moved, coverage.replied), (5, 5, 1));
+    assert_eq!((coverage.done, coverage.moved, coverage.replied), (6, 5, 1));
     assert_eq!(
         [9, 16, 17, 19].map(|number| coverage.question(number)),
         [1, 2, 2, 1]
@@ -307,6 +363,9 @@ fn coverage_counts_answers_and_questions() {
     assert!(coverage
         .print()
         .contains("question 19 1 schedules 1 calls 0\n"));
+    assert!(coverage
+        .print()
+        .contains("call order accepted 1 refused 0\nrows not rising, refused 11 0\n"));
 }
 
 #[test]

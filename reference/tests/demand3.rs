@@ -3,11 +3,10 @@
 mod common;
 
 use common::*;
-use reference::agents::ALL_EMPTY;
-use reference::generate::any_schedule;
-use reference::plain::{check_run, Tally, Witness};
+use reference::generate::any_list;
+use reference::plain::{self, check_list, check_run, Tally, Witness};
 use reference::random::Random;
-use reference::schedule::{begin, Schedule};
+use reference::schedule::begin;
 use reference::store::{fresh, Key, Store};
 use reference::{Answer, Call, Outcome, Pack, Slots};
 
@@ -15,8 +14,8 @@ use reference::{Answer, Call, Outcome, Pack, Slots};
 fn demand_3_holds_of_generated_lists() {
     let mut total = Tally::default();
     for list in 0..4_000 {
-        let (pack, schedule) = any_schedule(&mut Random::of_item(77, list));
-        match check_run(&pack, &schedule) {
+        let (pack, store, calls) = any_list(&mut Random::of_item(77, list));
+        match check_list(&pack, store, &calls) {
             Ok(tally) => total.add(&tally),
             Err(violation) => panic!("list {list}: {violation}"),
         }
@@ -27,6 +26,7 @@ fn demand_3_holds_of_generated_lists() {
         total.moves,
         total.crashes,
         total.restarts,
+        total.orders,
         total.first_replies,
         total.later_replies,
         total.full_lives,
@@ -57,22 +57,29 @@ fn the_empty_list_and_the_whole_case() {
 trait Spoiled {
     fn before(&mut self, _call: &Call, _store: &mut Vec<u8>, _slots: &mut Slots) {}
     fn after(&mut self, _outcome: &mut Outcome, _slots: &mut Slots) {}
+    fn leave(&mut self, _call: &Call, _given: &[u8], _left: &mut plain::State) {}
     fn at_end(&mut self, _store: &mut Vec<u8>) {}
 }
 
-fn watch(pack: &[u8], schedule: &[u8], spoiled: &mut impl Spoiled) -> Result<Tally, String> {
-    let (schedule, mut store): (Schedule, Vec<u8>) = begin(pack, schedule).expect("it runs");
-    let mut slots = ALL_EMPTY;
+fn watch(
+    pack: &[u8],
+    store: Vec<u8>,
+    calls: &[Call],
+    spoiled: &mut impl Spoiled,
+) -> Result<Tally, String> {
+    let mut state = plain::State::new(store);
     let mut witness = Witness::new(Pack::read(pack).expect("a right pack"));
-    for event in &schedule.events {
-        let call = schedule.call(event);
-        spoiled.before(&call, &mut store, &mut slots);
-        let mut outcome = call.perform(pack, &mut store, &mut slots);
-        spoiled.after(&mut outcome, &mut slots);
-        witness.see(&call, &outcome);
+    for call in calls {
+        let given = state.clone();
+        spoiled.before(call, &mut state.store, &mut state.slots);
+        let mut outcome = call.perform(pack, &mut state.store, &mut state.slots);
+        spoiled.after(&mut outcome, &mut state.slots);
+        spoiled.leave(call, &given.store, &mut state);
+        witness.see(call, &outcome);
+        witness.see_left(call, &given, &state);
     }
-    spoiled.at_end(&mut store);
-    witness.close(&store)
+    spoiled.at_end(&mut state.store);
+    witness.close(&state.store)
 }
 
 fn violations(mut make: impl FnMut() -> Box<dyn Spoiled>) -> usize {
@@ -84,13 +91,16 @@ fn violations(mut make: impl FnMut() -> Box<dyn Spoiled>) -> usize {
         fn after(&mut self, outcome: &mut Outcome, slots: &mut Slots) {
             self.0.after(outcome, slots);
         }
+        fn leave(&mut self, call: &Call, given: &[u8], left: &mut plain::State) {
+            self.0.leave(call, given, left);
+        }
         fn at_end(&mut self, store: &mut Vec<u8>) {
             self.0.at_end(store);
         }
     }
     let caught = |list: &u64| {
-        let (pack, schedule) = any_schedule(&mut Random::of_item(5, *list));
-        watch(&pack, &schedule, &mut Boxed(make())).is_err()
+        let (pack, store, calls) = any_list(&mut Random::of_item(5, *list));
+        watch(&pack, store, &calls, &mut Boxed(make())).is_err()
     };
     (0..300).filter(caught).count()
 }
@@ -168,6 +178,46 @@ impl Spoiled for NoReply {
     }
 }
 
+/// Writes new rows behind the used ones, as was right before W-203.
+struct Behind;
+impl Spoiled for Behind {
+    fn leave(&mut self, _: &Call, given: &[u8], left: &mut plain::State) {
+        left.store = appended(given, &left.store);
+    }
+}
+
+/// Leaves something in a row that it does not use.
+struct DirtyRow;
+impl Spoiled for DirtyRow {
+    fn leave(&mut self, call: &Call, _: &[u8], left: &mut plain::State) {
+        let store = Store::lay_out(left.store.as_slice()).expect("laid out");
+        let (shape, free) = (store.shape(), store.free(0));
+        if free > 0 && matches!(call, Call::Turn { .. }) {
+            left.store[shape.value_at(0, shape.rows - 1)] = 1;
+        }
+    }
+}
+
+/// Empties the slots when it puts the store in order.
+struct OrderRestarts;
+impl Spoiled for OrderRestarts {
+    fn leave(&mut self, call: &Call, _: &[u8], left: &mut plain::State) {
+        if *call == Call::PutInOrder {
+            left.slots = reference::agents::ALL_EMPTY;
+        }
+    }
+}
+
+/// Loses a row when it puts the store in order.
+struct OrderLoses;
+impl Spoiled for OrderLoses {
+    fn leave(&mut self, call: &Call, _: &[u8], left: &mut plain::State) {
+        if *call == Call::PutInOrder {
+            keep_rows(&mut left.store, |partition, _| partition != 0);
+        }
+    }
+}
+
 #[test]
 fn the_witness_sees_spoiled_runtimes() {
     assert_eq!(violations(|| Box::new(Honest)), 0);
@@ -176,6 +226,31 @@ fn the_witness_sees_spoiled_runtimes() {
     assert!(violations(|| Box::<LaterReply>::default()) > 20);
     assert!(violations(|| Box::new(NoRows)) > 20);
     assert!(violations(|| Box::new(NoReply)) > 20);
+    assert!(violations(|| Box::new(Behind)) > 100);
+    assert!(violations(|| Box::new(DirtyRow)) > 100);
+    assert!(violations(|| Box::new(OrderRestarts)) > 100);
+    assert!(violations(|| Box::new(OrderLoses)) > 50);
+}
+
+/// Putting in order between any two calls feeds the machine nothing and changes nothing.
+#[test]
+fn putting_in_order_may_stand_anywhere_in_a_list() {
+    let (schedule, store) = begin(&move_pack(), &whole_schedule().encode()).expect("it runs");
+    let calls = schedule.calls();
+    let order = Call::PutInOrder;
+    let more: Vec<Call> = calls
+        .iter()
+        .flat_map(|call| [order, *call, order])
+        .collect();
+    let tally = check_list(&move_pack(), store.clone(), &more).expect("demand 3");
+    assert_eq!((tally.calls, tally.orders), (30, 20));
+    let plain = check_list(&move_pack(), store, &calls).expect("demand 3");
+    let without = Tally {
+        calls: 10,
+        orders: 0,
+        ..tally
+    };
+    assert_eq!(without, plain);
 }
 
 #[test]
@@ -193,6 +268,7 @@ fn the_witness_sees_an_accepted_arrival_with_id_0() {
 
 #[test]
 fn the_whole_case_shuts_out_a_runtime_without_log() {
-    let result = watch(&move_pack(), &whole_schedule().encode(), &mut NoLog);
+    let (schedule, store) = begin(&move_pack(), &whole_schedule().encode()).expect("it runs");
+    let result = watch(&move_pack(), store, &schedule.calls(), &mut NoLog);
     assert!(result.is_err_and(|violation| violation.contains("partition 0")));
 }

@@ -1,5 +1,8 @@
 //! The generator: the same seed the same bytes, small files, and nothing left out.
 
+mod common;
+
+use common::appended;
 use reference::cases::{CallCase, Case, Order};
 use reference::coverage::Coverage;
 use reference::generate::{self, encoded_pack, near_miss, Bounds};
@@ -7,7 +10,7 @@ use reference::operations::{run_block, Registers};
 use reference::pack::{check, encode, open, MOST_INSTRUCTIONS};
 use reference::random::Random;
 use reference::refusal::QUESTIONS;
-use reference::store::{Key, Store};
+use reference::store::{book_key, of_book_key, Key, Store};
 use reference::{Answer, Call, Operation, Outcome, Pack};
 
 #[test]
@@ -147,6 +150,235 @@ fn a_wrong_reading_of_an_absent_key_shows() {
         }
     }
     assert!(shown.iter().all(|times| *times > 5), "{shown:?}");
+}
+
+/// A single call of the stored cases (seed 11): what it was given, and what is printed of it.
+struct Seen {
+    case: CallCase,
+    call: Call,
+    question: u8,
+    left: Vec<u8>,
+}
+
+fn seen() -> Vec<Seen> {
+    let mut all = Vec::new();
+    for case in generate::cases(11, 1_000) {
+        let Case::Call(case) = case else { continue };
+        let Order::Call(call) = case.order else {
+            continue;
+        };
+        let result = case.perform();
+        let question = result
+            .outcome
+            .map_or_else(|refusal| refusal.question, |_| 0);
+        let left = result.store;
+        all.push(Seen {
+            case: *case,
+            call,
+            question,
+            left,
+        });
+    }
+    all
+}
+
+impl Seen {
+    fn given(&self) -> &[u8] {
+        &self.case.store
+    }
+
+    /// An earlier store was put in order.
+    fn is_ordered(&self) -> bool {
+        self.call == Call::PutInOrder && self.question == 0
+    }
+
+    /// 11 said no, and without the rising keys it would have said yes.
+    fn is_not_rising(&self) -> bool {
+        let yes = Store::read_earlier(self.given()).map_or_else(|no| no.question != 11, |_| true);
+        self.call != Call::PutInOrder && self.question == 11 && yes
+    }
+
+    /// 11 said no, and would have said yes if the next key might be an equal one.
+    fn is_equal_only(&self) -> bool {
+        self.call != Call::PutInOrder && self.question == 11 && rises_or_stays(self.given())
+    }
+
+    /// Whether another hand at putting in order shows: `change` gives the rows of a partition
+    /// (or of the book) that it would have left, from those given and those left.
+    fn shows(&self, change: impl Fn(bool, &Rows, &Rows) -> Rows) -> bool {
+        if !self.is_ordered() {
+            return false;
+        }
+        let given = Store::lay_out(self.given()).expect("put in order");
+        let left = Store::lay_out(self.left.as_slice()).expect("put in order");
+        let book = left.shape().book();
+        (0..=book).any(|partition| {
+            let rows = |store: &Store<&[u8]>| store.rows(partition).collect::<Rows>();
+            change(partition == book, &rows(&given), &rows(&left)) != rows(&left)
+        })
+    }
+}
+
+type Rows = Vec<(u64, u32)>;
+
+/// All that 11 asks, but equal keys pass.
+fn rises_or_stays(bytes: &[u8]) -> bool {
+    let Ok(store) = Store::lay_out(bytes) else {
+        return false;
+    };
+    let shape = store.shape();
+    (0..=shape.book()).all(|partition| {
+        let used = store.used(partition);
+        let keys: Vec<u64> = store.rows(partition).map(|(key, _)| key).collect();
+        let has_form = |key: &u64| match partition == shape.book() {
+            true => of_book_key(*key).is_some(),
+            false => Key::of_stored(*key).is_some(),
+        };
+        let is_zero = |row| (store.key(partition, row), store.value(partition, row)) == (0, 0);
+        used <= shape.rows
+            && keys.iter().all(has_form)
+            && keys.windows(2).all(|pair| pair[0] <= pair[1])
+            && (used..shape.rows).all(is_zero)
+    })
+}
+
+/// Each wrong reading of W-203 gives another answer or other bytes in some stored cases.
+#[test]
+fn a_wrong_reading_of_rising_keys_shows() {
+    let loses_last = |_: bool, _: &Rows, left: &Rows| {
+        let mut rows = left.clone();
+        // Its place is zero then, or is not counted: both differ from the row.
+        rows.pop();
+        rows
+    };
+    let keys_only = |_: bool, given: &Rows, left: &Rows| {
+        let values = given.iter().map(|(_, value)| *value);
+        left.iter().map(|(key, _)| *key).zip(values).collect()
+    };
+    let data_first = |_: bool, _: &Rows, left: &Rows| {
+        let mut rows = left.clone();
+        // As signed numbers data keys are the lower ones.
+        rows.sort_by_key(|(key, _)| *key as i64);
+        rows
+    };
+    let either = |as_given: bool, given: &Rows, left: &Rows| match as_given {
+        true => given.clone(),
+        false => left.clone(),
+    };
+    type Shows<'a> = &'a dyn Fn(&Seen) -> bool;
+    let wrong: [(&str, Shows); 12] = [
+        ("new rows stand behind the used ones", &|seen| {
+            seen.question == 0 && seen.call != Call::PutInOrder && {
+                appended(seen.given(), &seen.left) != seen.left
+            }
+        }),
+        ("11 does not ask for rising keys", &Seen::is_not_rising),
+        ("equal keys are rising", &Seen::is_equal_only),
+        ("the book stays as it is", &|seen| {
+            seen.shows(|is_book, given, left| either(is_book, given, left))
+        }),
+        ("only the book is put in order", &|seen| {
+            seen.shows(|is_book, given, left| either(!is_book, given, left))
+        }),
+        ("the call asks for rising keys itself", &|seen| {
+            seen.is_ordered() && seen.given() != seen.left
+        }),
+        ("it loses the last row", &|seen| seen.shows(loses_last)),
+        ("it moves keys without their values", &|seen| {
+            seen.shows(keys_only)
+        }),
+        ("data rows come before log rows", &|seen| {
+            seen.shows(data_first)
+        }),
+        ("it asks for the pack", &|seen| {
+            seen.is_ordered() && check(&seen.case.pack).is_err()
+        }),
+        ("it restarts", &|seen| {
+            seen.is_ordered() && seen.case.slots.iter().any(|agent| !agent.is_empty())
+        }),
+        ("it takes equal keys", &|seen| {
+            let mut sorted = seen.given().to_vec();
+            if let Ok(mut store) = Store::lay_out(sorted.as_mut_slice()) {
+                store.put_in_order();
+            }
+            let equal_only = rises_or_stays(&sorted);
+            seen.call == Call::PutInOrder && seen.question == 11 && equal_only
+        }),
+    ];
+    let all = seen();
+    for (reading, shows) in wrong {
+        let times = all.iter().filter(|seen| shows(seen)).count();
+        assert!(times >= 5, "{reading}: {times}");
+    }
+}
+
+/// Rows that do not rise, in a partition alone and in the book alone, for each call that is
+/// asked 11.
+#[test]
+fn each_call_meets_rows_that_do_not_rise() {
+    let name = |call: &Call| match call {
+        Call::Arrival { .. } => 0,
+        Call::Retry { .. } => 1,
+        Call::Turn { .. } => 2,
+        _ => 3,
+    };
+    let mut times = [[0; 2]; 4];
+    for seen in seen().iter().filter(|seen| seen.is_not_rising()) {
+        let store = Store::lay_out(seen.given()).expect("laid out");
+        let book_rises = store.rises(store.shape().book());
+        let data_rises = (0..store.shape().partitions).all(|p| store.rises(p));
+        times[name(&seen.call)][0] += usize::from(book_rises);
+        times[name(&seen.call)][1] += usize::from(data_rises);
+    }
+    assert!(times.iter().flatten().all(|times| *times > 0), "{times:?}");
+}
+
+/// New book rows below, between and above those that are there, and so log and data rows.
+#[test]
+fn new_rows_belong_everywhere() {
+    let mut book = [0; 3];
+    let mut logs = [0; 3];
+    let mut data = [0; 3];
+    for seen in seen().iter().filter(|seen| seen.question == 0) {
+        let (Ok(given), Ok(left)) = (Store::read(seen.given()), Store::read(seen.left.as_slice()))
+        else {
+            continue;
+        };
+        if given.shape() != left.shape() || seen.call == Call::PutInOrder {
+            continue;
+        }
+        let place = |partition: usize, key: u64, is_kin: &dyn Fn(u64) -> bool| {
+            let keys = given.rows(partition).map(|(key, _)| key);
+            let kin: Vec<u64> = keys.filter(|other| is_kin(*other)).collect();
+            match (kin.first(), kin.last()) {
+                (Some(first), _) if key < *first => Some(0),
+                (_, Some(last)) if key > *last => Some(2),
+                (Some(_), Some(_)) => Some(1),
+                _ => None,
+            }
+        };
+        for partition in 0..=left.shape().book() {
+            for (key, _) in left.rows(partition) {
+                if given.find(partition, key).is_some() {
+                    continue;
+                }
+                let is_data = |key: u64| matches!(Key::of_stored(key), Some(Key::Data(_)));
+                let (times, place) = if partition == left.shape().book() {
+                    let first = of_book_key(key).map_or(key, |(id, _)| book_key(id, 0));
+                    (&mut book, place(partition, first, &|_| true))
+                } else if is_data(key) {
+                    (&mut data, place(partition, key, &is_data))
+                } else {
+                    (&mut logs, place(partition, key, &|key| !is_data(key)))
+                };
+                if let Some(place) = place {
+                    times[place] += 1;
+                }
+            }
+        }
+    }
+    let all = [book, logs, data];
+    assert!(all.iter().flatten().all(|times| *times >= 5), "{all:?}");
 }
 
 #[test]

@@ -107,6 +107,60 @@ fn get_and_copy_into_their_own_register() {
     assert_eq!(result_of(&[(0x07, 3), (0x37, 7)]), 0);
 }
 
+/// The block of request 7 in a partition that has rows: what the turn leaves there.
+#[test]
+fn new_rows_go_to_their_places() {
+    // Keys 100 and 30 get 200, key 200 gets 30; the result is 0.
+    let block = vec![BEGIN, (0x90, 1), (0x91, 2), (0x92, 1), (0x73, 0), RETURN];
+    let mut state = State::new(encode(&[block]), 1, 10);
+    state.arrival(0, request(7)).expect("an arrival");
+    let rows = [
+        (log(6, 9), 1),
+        (log(7, 1), 2),
+        (data(29), 3),
+        (data(100), 4),
+        (data(150), 5),
+    ];
+    state.store = laid(10, &[&rows, &booked(7)]);
+    assert_eq!(state.turn(0), Ok(Answer::Moved));
+    let [before, behind, first, _, between] = rows;
+    let left = [
+        before,
+        (log(7, 0), 0),
+        behind,
+        first,
+        (data(30), 200),
+        (data(100), 200),
+        between,
+        (data(200), 30),
+    ];
+    assert_eq!(state.store, laid(10, &[&left, &booked(7)]));
+}
+
+#[test]
+fn a_booking_goes_to_its_place() {
+    let mut state = State::new(move_pack(), 2, 20);
+    for (slot, id) in [(0, 7), (1, 3), (2, 9), (3, 5)] {
+        assert_eq!(state.arrival(slot, request(id)), Ok(Answer::Done));
+    }
+    let book = [3, 5, 7, 9].map(booked).concat();
+    assert_eq!(state.store, laid(20, &[&[], &[], &book]));
+}
+
+#[test]
+fn equal_contents_are_equal_bytes() {
+    let left = |ids: [u32; 3]| {
+        let mut state = State::new(encode(&[vec![BEGIN, (0x90, 1), END, RETURN]]), 1, 20);
+        for id in ids {
+            state.arrival(0, request(id)).expect("an arrival");
+            state.turn(0).expect("the block");
+            state.crash(0).expect("a crash");
+        }
+        state.store
+    };
+    assert_eq!(left([1, 2, 3]), left([3, 1, 2]));
+}
+
 #[test]
 fn steps_count_by_request_and_not_by_partition() {
     let mut state = State::with_move();

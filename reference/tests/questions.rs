@@ -7,7 +7,7 @@ use reference::bytes::write_at;
 use reference::pack::{check, encode, open};
 use reference::schedule::{program, Schedule};
 use reference::store::{book_key, create, Key, Shape, Store};
-use reference::{Agent, Answer, Refusal};
+use reference::{Agent, Answer, Call, Refusal};
 
 fn checked(workflow: &[(u8, u32)]) -> Result<(), Refusal> {
     check(&encode(&[workflow.to_vec()]))
@@ -236,9 +236,129 @@ fn question_11_forms_of_keys() {
     let book = |row, key| turn_after(|store, shape| set_key(store, shape, 2, row, key));
     assert_eq!(book(0, 56), 0);
     assert_eq!(book(0, 57), 11, "it is there already");
-    assert_eq!(book(0, 61), 11);
-    assert_eq!(book(0, 1 << 35), 11);
-    assert_eq!(book(0, (1 << 35) - 8), 12);
+    assert_eq!(book(4, 61), 11);
+    assert_eq!(book(4, 1 << 35), 11);
+    assert_eq!(book(4, (1 << 35) - 8), 12);
+}
+
+/// The answers of arrival, retry, turn and crash on this store, each of which would be
+/// accepted on the same rows in order, and of putting it in order.
+fn answers_on(store: &[u8]) -> [u8; 5] {
+    let mut state = State::with_move();
+    let calls = [
+        Call::Arrival {
+            slot: 1,
+            request: request(7),
+        },
+        Call::Retry { slot: 2, id: 7 },
+        Call::Turn { slot: 0 },
+        Call::Crash { slot: 0 },
+        Call::PutInOrder,
+    ];
+    calls.map(|call| {
+        state.store = store.to_vec();
+        let answer = question(state.call(call));
+        if answer != 0 {
+            assert_eq!(state.store, store);
+        }
+        state = State::with_move();
+        answer
+    })
+}
+
+#[test]
+fn question_11_rising_keys() {
+    let rows = [(log(7, 5), 9), (log(8, 0), 8), (data(1), 7), (data(2), 6)];
+    let book = booked(7);
+    assert_eq!(answers_on(&laid(5, &[&rows, &[], &book])), [0; 5]);
+    let not_rising = [11, 11, 11, 11, 0];
+    for row in 0..3 {
+        let mut swapped = rows;
+        swapped.swap(row, row + 1);
+        let store = laid(5, &[&swapped, &[], &book]);
+        assert_eq!(answers_on(&store), not_rising, "rows from {row} on");
+        let store = laid(5, &[&[], &swapped, &book]);
+        assert_eq!(answers_on(&store), not_rising, "in partition 1");
+    }
+    for row in 0..4 {
+        let mut swapped = book;
+        swapped.swap(row, row + 1);
+        let store = laid(5, &[&rows, &[], &swapped]);
+        assert_eq!(answers_on(&store), not_rising, "in the book");
+    }
+    let equal = [(data(1), 7), (data(1), 7), (data(2), 6)];
+    assert_eq!(answers_on(&laid(5, &[&equal, &[], &book])), [11; 5]);
+}
+
+/// The answer of putting this store in order, and what it leaves.
+fn put_in_order(store: &[u8]) -> (u8, Vec<u8>) {
+    let mut left = store.to_vec();
+    let answer = question(reference::calls::put_in_order(&mut left));
+    (answer, left)
+}
+
+#[test]
+fn a_store_is_put_in_order_with_the_same_rows() {
+    let rows = [(log(8, 0), 1), (log(8, 1), 2), (data(0), 3), (data(9), 4)];
+    let book = [booked(3), booked(7)].concat();
+    let ordered = laid(10, &[&rows, &rows[1..], &book]);
+    let mut backwards = book.clone();
+    backwards.reverse();
+    let [a, b, c, d] = rows;
+    let earlier = laid(10, &[&[c, a, d, b], &[d, c, b], &backwards]);
+    assert_eq!(put_in_order(&earlier), (0, ordered.clone()));
+    assert_eq!(put_in_order(&ordered), (0, ordered.clone()), "again");
+    let one_left = laid(10, &[&rows, &rows[1..], &backwards]);
+    assert_eq!(put_in_order(&one_left), (0, ordered), "the book only");
+    let fresh = laid(5, &[&[], &[]]);
+    assert_eq!(put_in_order(&fresh), (0, fresh));
+}
+
+#[test]
+fn putting_in_order_reads_neither_pack_nor_slots_and_leaves_them() {
+    let mut state = State::with_move();
+    state.store = laid(5, &[&[(data(1), 1), (log(7, 0), 1)], &[], &booked(7)]);
+    state.pack.clear();
+    state.slots[3].step = 77;
+    let slots = state.slots;
+    assert_eq!(state.call(Call::PutInOrder), Ok(Answer::Done));
+    assert_eq!(state.slots, slots);
+    let ordered = laid(5, &[&[(log(7, 0), 1), (data(1), 1)], &[], &booked(7)]);
+    assert_eq!(state.store, ordered);
+}
+
+#[test]
+fn putting_in_order_puts_9_to_12() {
+    let refused = |store: &[u8]| {
+        let (answer, left) = put_in_order(store);
+        assert_eq!(left, store, "nothing is changed");
+        answer
+    };
+    let [one, two, three, four, five] = booked(7);
+    let book = [one, two, three, four, five];
+    let shuffled = [five, two, one, three, four];
+    assert_eq!(refused(&[1, 5]), 9);
+    assert_eq!(refused(&laid(4, &[&[], &[]])), 9);
+    let short = laid(5, &[&[], &book]);
+    assert_eq!(refused(&short[..short.len() - 1]), 10);
+    // In order but for what is asked, and not.
+    for book in [book, shuffled] {
+        let on = |rows: &[(u64, u32)]| refused(&laid(5, &[rows, &book]));
+        assert_eq!(on(&[(log(1, 0), 1), (1 << 48, 2)]), 11, "a form");
+        assert_eq!(on(&[(data(1), 1), (data(1 << 32), 2)]), 11, "a form");
+        assert_eq!(on(&[(data(1), 1), (data(1), 2)]), 11, "side by side");
+        assert_eq!(on(&[(data(1), 1), (data(2), 2), (data(1), 3)]), 11, "apart");
+        let mut store = laid(5, &[&[], &book]);
+        store[3] = 6;
+        assert_eq!(refused(&store), 11, "a count");
+        let mut store = laid(5, &[&[(data(1), 1), (data(2), 2)], &book]);
+        store[3] = 1;
+        assert_eq!(refused(&store), 11, "an unused row");
+    }
+    assert_eq!(refused(&laid(5, &[&[], &[one, two, three, four]])), 12);
+    assert_eq!(refused(&laid(5, &[&[], &[four, two, three, one]])), 12);
+    let twice = [one, two, three, four, one];
+    assert_eq!(refused(&laid(5, &[&[], &twice])), 11, "before 12");
 }
 
 #[test]
@@ -482,8 +602,12 @@ fn restart_asks_nothing() {
     state.pack.clear();
     state.store.clear();
     state.slots[1].step = 77;
-    assert_eq!(state.call(reference::Call::Restart), Ok(Answer::Done));
+    assert_eq!(state.call(Call::Restart), Ok(Answer::Done));
     assert_eq!(state.slots, reference::agents::ALL_EMPTY);
+    state.store = laid(5, &[&[(data(1), 1), (data(0), 1)], &[]]);
+    let rows = state.store.clone();
+    assert_eq!(state.call(Call::Restart), Ok(Answer::Done));
+    assert_eq!(state.store, rows, "whatever the order of the rows");
 }
 
 fn run(change: impl Fn(&mut Vec<u8>)) -> String {

@@ -8,7 +8,7 @@ use reference::coverage::Coverage;
 use reference::generate;
 use reference::random::Random;
 use reference::schedule::program;
-use reference::Call;
+use reference::{Call, Store};
 
 #[test]
 fn random_bytes_never_panic() {
@@ -79,8 +79,13 @@ fn calls_on_spoiled_states_change_nothing_when_refused() {
 fn an_accepted_call_leaves_a_state_that_passes_again() {
     for case in generate::cases(26, 6_000) {
         let Case::Call(mut call) = case else { continue };
-        let asked = matches!(call.order, Order::Call(order) if order != Call::Restart);
+        let asks_little = [Call::Restart, Call::PutInOrder];
+        let asked = matches!(call.order, Order::Call(order) if !asks_little.contains(&order));
         let result = call.perform();
+        if call.order == Order::Call(Call::PutInOrder) && result.outcome.is_ok() {
+            assert!(Store::read(result.store.as_slice()).is_ok());
+            assert_eq!(result.slots, call.slots);
+        }
         if asked && result.outcome.is_ok() {
             (call.store, call.slots) = (result.store.clone(), result.slots);
             // A slot that is not there: everything up to 14 is a yes.

@@ -15,7 +15,7 @@ use crate::log::logged;
 use crate::run::Ran;
 use crate::run::run;
 use instruction::pending::Pending;
-use instruction::pending::with_row;
+use instruction::pending::insert_row;
 use store::rows::Got;
 
 // What a block comes to: its result, or a no to question 21.
@@ -24,14 +24,14 @@ pub enum BlockOutcome {
     NoRoom,
 }
 
-// The PUTs of a block and behind them its log row, written together: there is room for all, and the log row is new.
+// The log row of a block and behind it its PUTs, by rising key, written together: there is room for all, and the log row is new.
 fn commit(store: &mut [u8], partition: usize, ran: Ran, id: u32, step: u16)
     requires { ⌜ Sound (now store) × (partition < partsOf (now store)) × Kept (ran .pending) × (logIn (rowsOf (now store) partition) id step ≡ none) × (length (rowsOf (now store) partition) + (1 + newIn (ran .pending) (rowsOf (now store) partition)) ≤ capOf (now store)) ⌝ }
     ensures { λ _. ⌜ Committed (now (store .entry)) (now (store .exit)) partition id step (blockOf (rowsOf (now (store .entry)) partition) ran) ⌝ }
 {
     let log = log_key(id, step);
     let pending = ran.pending;
-    let rows = with_row(pending, log, ran.result);
+    let rows = insert_row(pending, 0, log, ran.result);
     let n = rows.count;
     let keys = rows.keys;
     let values = rows.values;

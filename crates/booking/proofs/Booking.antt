@@ -26,7 +26,7 @@ use Rattle.rules.proofs.Tests.{and-left, and-right}
 use Rattle.rules.proofs.Questions.{ask-none}
 use Rattle.store.specs.Rows.{Row, lookup, pairs, putAll, newRows, countNew, rowsOf, storeOf, keysIn}
 use Rattle.store.specs.Layout.{partsOf, capOf}
-use Rattle.store.specs.Questions.{member, unlike, five, allIn, bookOk, isForm, storeRefusal, keysOk}
+use Rattle.store.specs.Questions.{member, unlike, ahead, rising, five, allIn, bookOk, isForm, storeRefusal, keysOk}
 use Rattle.store.specs.Sound as Sounds
 use Rattle.store.specs.Sound.{Sound, Stored}
 use Rattle.store.specs.Questions as StoreQuestions
@@ -43,6 +43,8 @@ use Rattle.meaning.specs.State.{contentsOf, stateOf, valueIn, argumentsOf, requ
 use Rattle.meaning.specs.Questions.{bookRows, lentFor}
 use Rattle.meaning.specs.Carried.{Wrote, Carried}
 use Rattle.meaning.proofs.Contents.{contents-book}
+use Rattle.store.proofs.Order.{rising-unlike}
+use Rattle.meaning.proofs.Equal.{only-bytes}
 use Rattle.meaning.proofs.Carry.{wrote-nothing, carried-refused, refused-by}
 use Rattle.booking.specs.Booking.{bookKeys, bookValues, withRequest, bookRefusal, ensured, Booked}
 
@@ -57,22 +59,19 @@ member-is k (r ∷ rows) = go (eqb (r .0) k) (member-is k rows)
     go true e = refl
     go false e = e
 
-keys-unlike : (id : ℕ) → unlike (bookKeys id) ≡ true
-unfolding unlike member
-keys-unlike id =
+keys-rise : (id : ℕ) → rising (bookKeys id) ≡ true
+unfolding rising ahead
+keys-rise id =
     rw (
-      ne-eqb (bookKey id 1) (bookKey id 0) (λ e. omega arith),
-      ne-eqb (bookKey id 2) (bookKey id 0) (λ e. omega arith),
-      ne-eqb (bookKey id 3) (bookKey id 0) (λ e. omega arith),
-      ne-eqb (bookKey id 4) (bookKey id 0) (λ e. omega arith),
-      ne-eqb (bookKey id 2) (bookKey id 1) (λ e. omega arith),
-      ne-eqb (bookKey id 3) (bookKey id 1) (λ e. omega arith),
-      ne-eqb (bookKey id 4) (bookKey id 1) (λ e. omega arith),
-      ne-eqb (bookKey id 3) (bookKey id 2) (λ e. omega arith),
-      ne-eqb (bookKey id 4) (bookKey id 2) (λ e. omega arith),
-      ne-eqb (bookKey id 4) (bookKey id 3) (λ e. omega arith),
+      lt-ltb (bookKey id 0) (bookKey id 1) (omega arith),
+      lt-ltb (bookKey id 1) (bookKey id 2) (omega arith),
+      lt-ltb (bookKey id 2) (bookKey id 3) (omega arith),
+      lt-ltb (bookKey id 3) (bookKey id 4) (omega arith),
     )
     refl
+
+keys-unlike : (id : ℕ) → unlike (bookKeys id) ≡ true
+keys-unlike id = rising-unlike (bookKeys id) (keys-rise id)
 
 keys-formed : (id : ℕ) → id < 2 ^ 32 → allIn (isForm true) (bookKeys id) ≡ true
 unfolding allIn
@@ -204,6 +203,9 @@ codeKeys id = id * 8 ∷ bookKey id 1 ∷ bookKey id 2 ∷ bookKey id 3 ∷ book
 keys-as : (id : ℕ) → codeKeys id ≡ bookKeys id
 keys-as id = ap (λ (k : ℕ). k ∷ bookKey id 1 ∷ bookKey id 2 ∷ bookKey id 3 ∷ bookKey id 4 ∷ []) (sym (add-zero (id * 8)))
 
+pub code-rising : (id : ℕ) → rising (codeKeys id) ≡ true
+code-rising id = subst (λ (ks : List ℕ). rising ks ≡ true) (sym (keys-as id)) (keys-rise id)
+
 module _ (xs : List ℕ) (p id w a0 a1 a2 a3 : ℕ) (e : p ≡ partsOf xs) where
   pub code-formed : id < 2 ^ 32 → allIn (isForm (eqb p (partsOf xs))) (codeKeys id) ≡ true
   code-formed h =
@@ -269,7 +271,8 @@ module _ (store store′ : List ℕ) (id w a0 a1 a2 a3 : ℕ) where
           cap = changed-cap store store′ (partsOf store) g (st .is);
           sound = λ _. passes;
           holds = contents;
-          bytes = λ p. absurd (let z : length (bookRows store) ≡ length (bookRows store) + 5 = ap (λ (x : Store). x .bookUsed) p in omega arith);
+          only = only-bytes store store′ (booked s id asks) (changed-parts store store′ (partsOf store) g (st .is)) contents;
+          bytes = λ e p. absurd (let z : length (bookRows store) ≡ length (bookRows store) + 5 = ap (λ (x : Store). x .bookUsed) p in omega arith);
         }
 
 -- ── question 18 ──

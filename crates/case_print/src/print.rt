@@ -144,7 +144,14 @@ fn print_rows(s: &[u8])
     }
 }
 
-// A store: its used counts and rows if it passes questions 9 and 10, otherwise its bytes.
+// bytes HEX: the whole store as it is
+pub fn print_bytes(s: &[u8]) {
+    io::write_all(STDOUT_FILENO, b"bytes ");
+    print_hex(s);
+    io::write_all(STDOUT_FILENO, b"\n");
+}
+
+// A store: its used counts and rows if it passes questions 9 and 10, otherwise its bytes; and behind them all its bytes.
 pub fn print_store(s: &[u8]) {
     if rows::is_laid(s) {
         print_counts(s);
@@ -154,6 +161,7 @@ pub fn print_store(s: &[u8]) {
         print_hex(s);
         io::write_all(STDOUT_FILENO, b"\n");
     }
+    print_bytes(s);
 }
 
 // Is every byte zero?

@@ -22,7 +22,7 @@ fn answer_of(v: Verdict) -> Answer {
     }
 }
 
-// A call of the runtime: 3 arrival, 4 retry, 5 turn, 6 crash, otherwise restart.
+// A call of the runtime that gets records: 3 arrival, 4 retry, 5 turn, 6 crash, otherwise restart.
 fn runtime_call(
     pack: &[u8],
     store: &mut [u8],
@@ -73,7 +73,7 @@ fn keep_records(records: &mut [u8], agents: [Agent; 8], answer: Answer)
     }
 }
 
-// The call by its byte: 0 check, 1 open, 2 create, and those of the runtime.
+// The call by its byte: 0 check, 1 open, 2 create, 9 order, and those of the runtime that get records.
 pub fn make_call(pack: &[u8], store: &mut [u8], records: &mut [u8], call: u8, w: [u32; 7]) -> Answer
     requires { ⌜ length (now records) ≡ 384 ⌝ }
 {
@@ -85,6 +85,9 @@ pub fn make_call(pack: &[u8], store: &mut [u8], records: &mut [u8], call: u8, w:
     }
     if call == 2 {
         return answer_of(store_write::create::create(store, w[0] as usize, w[1] as usize));
+    }
+    if call == 9 {
+        return runtime::order(store);
     }
     let o = runtime_call(pack, store, slots::read_slots(records), call, w);
     let agents = o.agents;

@@ -51,6 +51,14 @@ fn records_right(records: &[u8]) -> bool
     true
 }
 
+// Is a byte that of a call, 0 to 7 or 9?
+fn is_call(b: u8) -> bool {
+    if b < 8 {
+        return true;
+    }
+    b == 9
+}
+
 // Is the rest of a call there and in range?
 pub fn has_call(c: &[u8]) -> bool
     requires { ⌜ HasParts (now c) ⌝ }
@@ -60,7 +68,7 @@ pub fn has_call(c: &[u8]) -> bool
     if c.len() - at < 413 {
         return false;
     }
-    if 7 < c[at + 384] {
+    if !is_call(c[at + 384]) {
         return false;
     }
     records_right(&c[at..at + 384])
@@ -88,14 +96,14 @@ fn wide(b: u8) -> usize
     b as usize
 }
 
-// Is each call byte, the first of 29, that of one of the five calls, 3 to 7?
+// Is each call byte, the first of 29, that of one of the six calls on a store, 3 to 7 and 9?
 fn calls_right(calls: &[u8]) -> bool {
     let mut at = 0;
     while at < calls.len() {
         if calls[at] < 3 {
             return false;
         }
-        if 7 < calls[at] {
+        if !is_call(calls[at]) {
             return false;
         }
         if calls.len() - at < 29 {

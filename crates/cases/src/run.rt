@@ -8,8 +8,34 @@ ghost use Prim.Native.Nat.{_≤_};
 ghost use lib.ListN.{length};
 ghost use Rattle.cases.specs.Parts.{HasParts, HasCall};
 
-// The answer of a call, and with its state what goes with it: of an opening the parts, of a call that may change them store and
-// records.
+// What goes with the answer of a call, behind it: with its state, of an opening the parts, of a call that may change them store and
+// records; without, of these the store's bytes alone.
+fn print_left(pack: &[u8], store: &[u8], records: &[u8], call: u8, w: [u32; 7], with_state: bool)
+    requires { ⌜ 384 ≤ length (now records) ⌝ }
+{
+    if call == 1 {
+        if with_state {
+            print::print_opened(pack, w[0]);
+        }
+    }
+    if 1 < call {
+        print_after(store, records, with_state);
+    }
+}
+
+// The store and the records that a call left, or the store's bytes alone.
+fn print_after(store: &[u8], records: &[u8], with_state: bool)
+    requires { ⌜ 384 ≤ length (now records) ⌝ }
+{
+    if with_state {
+        print::print_store(store);
+        print::print_slots(records);
+        return;
+    }
+    print::print_bytes(store);
+}
+
+// The answer of a call, and what goes with it.
 fn print_outcome(
     pack: &[u8],
     store: &mut [u8],
@@ -21,15 +47,7 @@ fn print_outcome(
     requires { ⌜ length (now records) ≡ 384 ⌝ }
 {
     print::print_answer(call::make_call(pack, store, records, call, w));
-    if with_state {
-        if call == 1 {
-            print::print_opened(pack, w[0]);
-        }
-        if 1 < call {
-            print::print_store(store);
-            print::print_slots(records);
-        }
-    }
+    print_left(pack, store, records, call, w, with_state);
 }
 
 // A call, on a copy of its store in `buffer` and a copy of its records.
@@ -71,10 +89,7 @@ fn print_list(pack: &[u8], store: &[u8], list: &[u8], with_state: bool, buffer: 
     let mut records = [0u8; 384];
     text::append_bytes(&mut records, 0, &list[0..384]);
     print_answers(pack, &mut buffer[0..n], &mut records, &list[385..]);
-    if with_state {
-        print::print_store(&buffer[0..n]);
-        print::print_slots(&records);
-    }
+    print_after(&buffer[0..n], &records, with_state);
 }
 
 // The longest store, 3 + 2 × 9 + 12 × 256 × 9.

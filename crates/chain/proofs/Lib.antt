@@ -4,3 +4,4 @@ pub mod Theorem
 pub mod RequestZero
 pub mod AsBefore
 pub mod Never
+pub mod InOrder

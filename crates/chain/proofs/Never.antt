@@ -1,7 +1,7 @@
 -- In a list of calls questions 9 to 12 and 14 never say no. Assumes nothing.
 use mathlib.Core.Bool.{Bool, true, false}
 use mathlib.Core.List.{List}
-use mathlib.Core.Logic.{_⊎_, inl, inr}
+use mathlib.Core.Logic.{_⊎_, inl, inr, ⊎-elim}
 use mathlib.Core.Option.{Option, none, some}
 use mathlib.Core.Path.{_≡_, refl, sym, _∙_, ap}
 use Prim.Native.Nat.{ℕ, _<_}
@@ -43,7 +43,9 @@ module _ (pack : List ℕ) (P C : ℕ) where
       kept k = record { slots = s .slots; are = k .slots ∙ s .are }
 
       go : (o : Option No) → refusalFor pack store records c ≡ o → Shaped records′
-      go none e = record { slots = ruled pack store records c .state .slots; are = h .carried e .1 .records }
+      go none e =
+          ⊎-elim (λ w. record { slots = ruled pack store records c .state .slots; are = w }) (λ w. record { slots = s .slots; are = w ∙ s .are })
+          (h .carried e .1 .whole)
       go (some n) e = kept (h .refused n e .1)
 
   pub shaped : (events : List Event) (store : List ℕ) (records : List Agent) → Chain pack P C events store records → Shaped records

@@ -62,7 +62,7 @@ sized-start buffer store P C h =
 sized-kept : {P C : ℕ} {store store′ : List ℕ} {records records′ : List Agent} → Kept store records store′ records′ → Sized P C store → Sized P C store′
 sized-kept {P} {C} k s = subst (Sized P C) (sym (k .bytes)) s
 
-sized-left : {P C : ℕ} {store store′ : List ℕ} {records′ : List Agent} {s : State} → Left store store′ records′ s → Sized P C store → Sized P C store′
+sized-left : {P C : ℕ} {store store′ : List ℕ} {records records′ : List Agent} {s : State} → Left store records store′ records′ s → Sized P C store → Sized P C store′
 sized-left l s =
     let w = l .written in
     record { parts = w .parts ∙ s .parts; cap = w .cap ∙ s .cap; passes = w .sound (s .passes) }

@@ -34,12 +34,12 @@ pub record Demand1 (pack store : List ℕ) (records : List Agent) (c : Call) (an
       (answerOf answer ≡ Calls.refused n) × Kept store records store′ records′
   pub says-why : (n : No) → answerOf answer ≡ Calls.refused n → refusalFor pack store records c ≡ some n
 
--- Demand 2: an accepted call gives exactly the rule's answer, and leaves its rows by key and its agents.
+-- Demand 2: an accepted call gives exactly the rule's answer, and leaves its rows, byte for byte, and its agents.
 pub record Demand2 (pack store : List ℕ) (records : List Agent) (c : Call) (answer : Answer) (records′ : List Agent) (store′ : List ℕ) : Type 0 where
   pub accepts : refusalFor pack store records c ≡ none → accepted (answerOf answer) ≡ true
   pub rules : accepted (answerOf answer) ≡ true →
       (answerOf answer ≡ rule (packOf pack) (stateOf store records) c .answer)
-      × Left store store′ records′ (rule (packOf pack) (stateOf store records) c .state)
+      × Left store records store′ records′ (rule (packOf pack) (stateOf store records) c .state)
 
 -- ── Demand 3: of lists of calls ──
 

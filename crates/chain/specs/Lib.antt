@@ -1,3 +1,4 @@
 pub mod Chain
 pub mod Demands
+pub mod InOrder
 pub mod RequestZero

@@ -1,4 +1,4 @@
-// Reads edges from standard input, at most 128 KiB, and prints each one's words and its answer. An edge is the length of its words
+// Reads edges from standard input, at most 256 KiB, and prints each one's words and its answer. An edge is the length of its words
 // (1 byte), the words, and a case in the form that `cases` has. `edges.py` has them in readable form, each with its answer.
 ghost use mathlib.Core.Path.{_≡_};
 ghost use Prim.Native.Nat.{_≤_, _<_};
@@ -45,10 +45,10 @@ fn print_edges(s: &[u8], buffer: &mut [u8])
 }
 
 // Room for all edges, and for the store of one.
-fn large_buffer() -> [u8; 131_072]
-    ensures { λ r. ⌜ 131072 ≡ length r ⌝ }
+fn large_buffer() -> [u8; 262_144]
+    ensures { λ r. ⌜ 262144 ≡ length r ⌝ }
 {
-    [0; 131_072]
+    [0; 262_144]
 }
 
 fn main() {

@@ -7,7 +7,7 @@ use Prim.Native.Nat.{ℕ, _≤_, _<_}
 use borrow.Author.Tests.{le-leb, lt-leb, eq-eqb, ne-eqb}
 use lib.ListN.{length}
 use Rattle.rules.specs.Questions.{No}
-use Rattle.rules.specs.Calls.{Call}
+use Rattle.rules.specs.Calls.{Call, order}
 use Rattle.rules.specs.Calls as Rules
 use Rattle.rules.specs.Plain.{accepted}
 use Rattle.rules.proofs.Calls.{rule-accepted}
@@ -22,7 +22,9 @@ use Rattle.meaning.specs.Carried.{Carried}
 use Rattle.slots.specs.Records.{slotsIn}
 use Rattle.answers.specs.Answers.{numberOf, valuesOf, withWords, slotsAfter}
 use Rattle.answers.specs.Answers as Answers
-use Rattle.host.specs.Exports.{buffersWrong, Exported}
+use Rattle.agents.specs.declared.Answer.{Answer}
+use Rattle.host.specs.Told.{answerShort}
+use Rattle.host.specs.Exports.{buffersWrong, Exported, PutInOrder}
 use Rattle.host.proofs.Told.{same, missing}
 
 module _ (pack store slots answer : List ℕ) (c : Call) where
@@ -80,3 +82,19 @@ module _ (pack store slots answer : List ℕ) (c : Call) where
         carried =
             subst (λ (l : List Agent). Carried pack store (slotsIn slots) c (o .answer) l store′) (sym back)
             (subst (λ (l : List Agent). Carried pack store l c (o .answer) (o .agents) store′) r p)
+
+-- ---- order
+
+pub in-order-short : (store answer : List ℕ) → length answer < 12 → PutInOrder store answer 100 store answer
+unfolding answerShort
+in-order-short store answer h =
+    let e : answerShort 12 answer ≡ some 100 = rw (lt-leb 12 (length answer) h) refl in
+    record { short = λ n q. (same (sym e ∙ q), refl, refl); served = λ q. absurd (missing (sym q ∙ e)) }
+
+pub in-order : (store answer : List ℕ) (number : ℕ) (store′ answer′ : List ℕ) (said : Answer) → 12 ≤ length answer →
+    ((pack : List ℕ) (records : List Agent) → Carried pack store records order said records store′) →
+    (number ≡ numberOf (answerOf said)) × (answer′ ≡ withWords answer (valuesOf (answerOf said))) → PutInOrder store answer number store′ answer′
+unfolding answerShort
+in-order store answer number store′ answer′ said h c w =
+    let e : answerShort 12 answer ≡ none = rw (le-leb 12 (length answer) h) refl in
+    record { short = λ n s. absurd (missing (sym e ∙ s)); served = λ q. (said, c, w .0, w .1) }

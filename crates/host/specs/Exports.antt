@@ -6,12 +6,14 @@ use Prim.Native.Nat.{ℕ}
 use lib.Dec.{eqb, leb}
 use lib.ListN.{length}
 use Rattle.rules.specs.Basics.{if_then_else_}
-use Rattle.rules.specs.Calls.{Call}
+use Rattle.rules.specs.Calls.{Call, order}
+use Rattle.agents.specs.declared.Agent.{Agent}
 use Rattle.agents.specs.declared.Answer.{Answer}
 use Rattle.agents.specs.Answers.{answerOf}
 use Rattle.meaning.specs.Carried.{Carried}
 use Rattle.slots.specs.Records.{slotsIn}
 use Rattle.answers.specs.Answers.{numberOf, valuesOf, withWords, slotsAfter}
+use Rattle.host.specs.Told.{answerShort}
 
 -- 101: slots that are not 384 bytes, asked behind 100
 unfoldable pub buffersWrong : (answer slots : List ℕ) → Option ℕ
@@ -30,3 +32,12 @@ pub record Served (pack store slots answer : List ℕ) (c : Call) (number : ℕ)
 pub record Exported (pack store slots answer : List ℕ) (c : Call) (number : ℕ) (store′ slots′ answer′ : List ℕ) : Type 0 where
   pub wrong : (n : ℕ) → buffersWrong answer slots ≡ some n → (number ≡ n) × (store′ ≡ store) × (slots′ ≡ slots) × (answer′ ≡ answer)
   pub served : buffersWrong answer slots ≡ none → Served pack store slots answer c number store′ slots′ answer′
+
+-- Order, which gets the store only: an answer buffer that is too short gives 100, and nothing is changed; otherwise the call is carried
+-- out, with any pack and any records, and the number and the words are those of its answer.
+pub record PutInOrder (store answer : List ℕ) (number : ℕ) (store′ answer′ : List ℕ) : Type 0 where
+  pub short : (n : ℕ) → answerShort 12 answer ≡ some n → (number ≡ n) × (store′ ≡ store) × (answer′ ≡ answer)
+  pub served : answerShort 12 answer ≡ none → (said : Answer)
+      × ((pack : List ℕ) (records : List Agent) → Carried pack store records order said records store′)
+      × (number ≡ numberOf (answerOf said))
+      × (answer′ ≡ withWords answer (valuesOf (answerOf said)))

@@ -5,7 +5,7 @@ ghost use Rattle.rules.specs.Calls.{Call};
 ghost use Rattle.pack.specs.Refusal.{packRefusal, openRefusal};
 ghost use Rattle.answers.specs.Answers.{valuesOf, judged};
 ghost use Rattle.host.specs.Told.{openedWords, Told, Made};
-ghost use Rattle.host.specs.Exports.{Exported};
+ghost use Rattle.host.specs.Exports.{Exported, PutInOrder};
 use rules::Verdict;
 
 // The check of a pack.
@@ -68,6 +68,18 @@ pub extern "C" fn sarthule_create(
     }
     let v = store_write::create::create(store, partitions, rows);
     answers::write_answer(answer, answers::judge(v))
+}
+
+// Puts the rows of an earlier store in order.
+#[no_mangle]
+pub extern "C" fn sarthule_order(store: &mut [u8], answer: &mut [u8]) -> u32
+    ensures { λ r. ⌜ PutInOrder (now (store .entry)) (now (answer .entry)) r (now (store .exit)) (now (answer .exit)) ⌝ }
+{
+    if answer.len() < 12 {
+        return 100;
+    }
+    let a = runtime::order(store);
+    answers::write_answer(answer, a)
 }
 
 // Arrival books a new id, then starts an agent; a known id only starts one.

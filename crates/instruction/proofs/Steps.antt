@@ -81,7 +81,8 @@ module _ (rs : List Row) (x : Running) (y : Spot) (kept : Kept (x .pending)) whe
     unfolding Instructions.act
     step-has = step-reads (register (placeOf (x .place)) s) h o e (λ found. becomes (placeOf (x .place)) d (if_then_else_ (isSome found) 1 0))
 
-module _ (rs : List Row) (x : Running) (k v : ℕ) (h : k < 2 ^ 32) (q : Pending) (e : rowsIn q ≡ putRow (dataKey k) v (rowsIn (x .pending))) where
+module _ (rs : List Row) (x : Running) (was : Kept (x .pending)) (k v : ℕ) (h : k < 2 ^ 32) (q : Pending)
+    (e : rowsIn q ≡ putRow (dataKey k) v (rowsIn (x .pending))) where
   table-put : update (tableOf (seen (rowsIn (x .pending)) rs)) k (some v) ≡ tableOf (seen (rowsIn q) rs)
   table-put =
       sym
@@ -95,7 +96,7 @@ module _ (rs : List Row) (x : Running) (k v : ℕ) (h : k < 2 ^ 32) (q : Pending
       let n = countNew (keysIn (rowsIn (x .pending))) rs in
       ap (λ (o : Option ℕ). if_then_else_ (isSome o) n (suc n)) (table-at (seen (rowsIn (x .pending)) rs) k h)
       ∙ sym (count-new (dataKey k) v rs (seen (rowsIn (x .pending)) rs (dataKey k)) n)
-      ∙ sym (ap (λ (ps : List Row). countNew (keysIn ps) rs) e ∙ count-put (dataKey k) v rs (rowsIn (x .pending)))
+      ∙ sym (ap (λ (ps : List Row). countNew (keysIn ps) rs) e ∙ count-put (dataKey k) v rs (rowsIn (x .pending)) (was .in-order))
 
   step-puts : (y : Spot) → placeOf y ≡ next (placeOf (x .place)) → Kept q → q .count ≤ x .pending .count + 1 → Stepped (puts k v) rs x (record { place = y; pending = q }) 1
   unfolding Blocks.within
@@ -106,11 +107,11 @@ module _ (rs : List Row) (x : Running) (k v : ℕ) (h : k < 2 ^ 32) (q : Pending
         few = few;
       }
 
-module _ (rs : List Row) (x : Running) (d s : ℕ) (h : register (placeOf (x .place)) d < 2 ^ 32) where
+module _ (rs : List Row) (x : Running) (was : Kept (x .pending)) (d s : ℕ) (h : register (placeOf (x .place)) d < 2 ^ 32) where
   pub step-put : (q : Pending) → rowsIn q ≡ putRow (dataKey (register (placeOf (x .place)) d)) (register (placeOf (x .place)) s) (rowsIn (x .pending)) →
       (y : Spot) → placeOf y ≡ next (placeOf (x .place)) → Kept q → q .count ≤ x .pending .count + 1 → Stepped (act (PUT d s) (placeOf (x .place))) rs x (record { place = y; pending = q }) 1
   unfolding Instructions.act
-  step-put q e = step-puts rs x (register (placeOf (x .place)) d) (register (placeOf (x .place)) s) h q e
+  step-put q e = step-puts rs x was (register (placeOf (x .place)) d) (register (placeOf (x .place)) s) h q e
 
 -- ---- by the operation that the byte has
 

@@ -7,7 +7,7 @@ use Prim.Native.Nat.{ℕ, _≤_}
 use lib.ListN.{length, take}
 use Rattle.rules.specs.Keys.{isDataKey}
 use Rattle.store.specs.Rows.{Row, pairs, lookup, keysIn, countNew}
-use Rattle.store.specs.Questions.{allIn, unlike}
+use Rattle.store.specs.Questions.{allIn, rising}
 use Rattle.instruction.specs.declared.pending.Pending.{Pending}
 
 -- the rows that are pending
@@ -33,9 +33,9 @@ pub record Sized (p : Pending) : Type 0 where
   pub values-long : length (p .values) ≡ 17
   pub fit : p .count ≤ 17
 
--- what holds of the pending rows all along: at most 16, data keys only, none twice
+-- what holds of the pending rows all along: at most 16, data keys only, by rising key
 pub record Kept (p : Pending) : Type 0 where
   pub sized : Sized p
   pub few : p .count ≤ 16
   pub data-keys : allIn isDataKey (keysIn (rowsIn p)) ≡ true
-  pub different : unlike (keysIn (rowsIn p)) ≡ true
+  pub in-order : rising (keysIn (rowsIn p)) ≡ true

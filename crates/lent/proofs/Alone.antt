@@ -1,6 +1,7 @@
 -- A turn of slot 0 leaves the other slots as they were, so a record that was alone is alone again. Assumes nothing.
 use mathlib.Core.List.{List}
 use mathlib.Core.Option.{Option, none, some}
+use mathlib.Core.Logic.{⊎-elim}
 use mathlib.Core.Path.{_≡_, refl, sym, _∙_, ap, subst}
 use Prim.Native.Nat.{ℕ}
 use native.Mathlib.Omega.{arith}
@@ -65,7 +66,8 @@ module _ (pack store : List ℕ) (a : Agent) (answer : Answer) (records′ : Lis
       go : (o : Option No) → refusalFor pack store (alone a) (turn 0) ≡ o → records′ ≡ alone (agentAt records′ 0)
       go (some n) e = let k = c .refused n e .1 .slots in k ∙ ap (λ rs. alone (agentAt rs 0)) (sym k)
       go none e =
-          let k = c .carried e .1 .records in
+          ⊎-elim
+          (λ k.
           let l =
           k
           ∙ alone-records f
@@ -77,7 +79,9 @@ module _ (pack store : List ℕ) (a : Agent) (answer : Answer) (records′ : Lis
           (empty-at 6 (λ z. omega arith) refl)
           (empty-at 7 (λ z. omega arith) refl)
           in
-          l ∙ ap (λ rs. alone (agentAt rs 0)) (sym l)
+          l ∙ ap (λ rs. alone (agentAt rs 0)) (sym l))
+          (λ k. k ∙ ap (λ rs. alone (agentAt rs 0)) (sym k))
+          (c .carried e .1 .whole)
 
   turned-alone : Carried pack store (alone a) (turn 0) answer (alone (agentAt records′ 0)) store′
   turned-alone = subst (λ rs. Carried pack store (alone a) (turn 0) answer rs store′) kept-alone c

@@ -23,7 +23,13 @@ use Rattle.rules.proofs.Updates.{none-some, update-other}
 use Rattle.rules.proofs.Tests.{and-left, and-right}
 use Rattle.rules.proofs.Each.{each-at}
 use Rattle.pack.specs.Meaning.{packOf}
+use Rattle.rules.specs.declared.Verdict.{Verdict}
+use Rattle.rules.specs.declared.Verdict.the-variants as Verdicts
 use Rattle.store.specs.Rows.{storeOf}
+use Rattle.store.specs.Questions.{orderRefusal}
+use Rattle.store.specs.Ordered.{Ordered}
+use Rattle.agents.proofs.Answers.{accepted-none, refused-some}
+use Rattle.meaning.proofs.Equal.{only-bytes, ordered-contents}
 use Rattle.agents.specs.declared.Agent.{Agent}
 use Rattle.agents.specs.declared.Answer.{Answer}
 use Rattle.agents.specs.declared.Answer.the-variants.{Done, Refused}
@@ -51,7 +57,7 @@ module _ (pack store : List ℕ) (records : List Agent) (c : Call) where
 
   -- carried out
   pub carried-out : (answer : Answer) (records′ : List Agent) (store′ : List ℕ) → refusalFor pack store records c ≡ none →
-      answerOf answer ≡ ruled pack store records c .answer → Left store store′ records′ (ruled pack store records c .state) →
+      answerOf answer ≡ ruled pack store records c .answer → Left store records store′ records′ (ruled pack store records c .state) →
       Carried pack store records c answer records′ store′
   carried-out answer records′ store′ e a l = record { refused = λ n e′. none-some n e e′; carried = λ e′. (a, l) }
 
@@ -109,12 +115,20 @@ module _ (records : List Agent) (t : Tidy records) (slot : ℕ) (h : slot < 8) (
 
   -- what a call leaves that puts another thing into one slot
   pub left-with : (store store′ : List ℕ) (st : Rules.Store) → Wrote store store′ st →
-      Left store store′ (set records slot (recordOf o)) (withSlot (record { store = st; slots = slotsOf records }) slot o)
-  left-with store store′ st w = record { written = w; slots = set-slots; records = set-records }
+      Left store records store′ (set records slot (recordOf o)) (withSlot (record { store = st; slots = slotsOf records }) slot o)
+  left-with store store′ st w = record { written = w; slots = set-slots; whole = inl set-records }
 
 -- nothing written
 pub wrote-nothing : (store : List ℕ) → Wrote store store (contentsOf (storeOf store))
-wrote-nothing store = record { parts = refl; cap = refl; sound = λ e. e; holds = refl; bytes = λ e. refl }
+wrote-nothing store =
+    record {
+      parts = refl;
+      cap = refl;
+      sound = λ e. e;
+      holds = refl;
+      only = only-bytes store store (contentsOf (storeOf store)) refl refl;
+      bytes = λ r e. refl;
+    }
 
 -- records as a call is lent them
 pub tidy-typed : (pack store : List ℕ) (records : List Agent) (vs : List Val) → Is (Array T.the-row 8) records vs → question14 pack store records ≡ true → Tidy records
@@ -147,8 +161,8 @@ pub is-done : (pack store store′ : List ℕ) (records : List Agent) (c : Call)
 is-done pack store store′ records c r slot o st a t h e p q w u v =
     carried-out pack store records c (r .answer) (r .agents) store′ (refused-by pack store records c none e p)
     (u ∙ ap (λ (x : Outcome). x .answer) (sym q))
-    (subst (Left store store′ (r .agents)) (ap (λ (x : Outcome). x .state) (sym q))
-    (subst (λ (l : List Agent). Left store store′ l (withSlot (record { store = st; slots = slotsOf records }) slot o)) (sym v)
+    (subst (Left store records store′ (r .agents)) (ap (λ (x : Outcome). x .state) (sym q))
+    (subst (λ (l : List Agent). Left store records store′ l (withSlot (record { store = st; slots = slotsOf records }) slot o)) (sym v)
     (left-with records t slot h o store store′ st w)))
 
 -- restart
@@ -158,4 +172,36 @@ unfolding answerOf lentFor Calls.refusal Calls.rule stateOf
 is-restart pack store records r a =
     subst (λ (x : Outcomes.Outcome). Carried pack store records Calls.restart (x .answer) (x .agents) store) (sym a)
     (carried-out pack store records Calls.restart Done (replicate 8 noAgent) store (refused-by pack store records Calls.restart none refl refl) refl
-    (record { written = wrote-nothing store; slots = slots-none; records = sym records-none }))
+    (record { written = wrote-nothing store; slots = slots-none; whole = inl (sym records-none) }))
+
+-- order
+module _ (pack store store′ : List ℕ) (records : List Agent) (r : Verdict) (o : Ordered store store′ r) where
+  pub order-refused : (q w i : ℕ) → r ≡ Verdicts.Refused q w i → Carried pack store records Calls.order (Refused q w i) records store′
+  unfolding answerOf lentFor
+  order-refused q w i e =
+      subst (Carried pack store records Calls.order (Refused q w i) records) (sym (o .kept (λ a. never a)))
+      (carried-refused pack store records Calls.order (no q w i) (Refused q w i)
+      (stopped-by pack store records Calls.order (no q w i) (refused-some r (orderRefusal store) q w i (o .answer) e)) refl)
+    where
+      never : r ≡ Verdicts.Accepted → ⊥
+      never a = let z : _≡_ {A = ℕ} 0 1 = cc in omega arith
+
+  pub order-done : r ≡ Verdicts.Accepted → Carried pack store records Calls.order Done records store′
+  unfolding answerOf lentFor Calls.refusal Calls.rule stateOf
+  order-done e =
+      let m = o .made e in
+      carried-out pack store records Calls.order Done records store′
+      (refused-by pack store records Calls.order none (accepted-none r (orderRefusal store) (o .answer) e) refl) refl
+      (record {
+        written =
+            record {
+              parts = m .parts;
+              cap = m .cap;
+              sound = λ s. m .passes;
+              holds = ordered-contents store store′ m;
+              only = only-bytes store store′ (contentsOf (storeOf store)) (m .parts) (ordered-contents store store′ m);
+              bytes = λ s h. o .unchanged s;
+            };
+        slots = refl;
+        whole = inr refl;
+      })

@@ -1,4 +1,5 @@
 pub mod Asked
+pub mod Equal
 pub mod Book
 pub mod Steps
 pub mod Carry

@@ -1,5 +1,6 @@
 -- What a call promises, one relation for all calls. Assumes nothing: these are definitions.
 use mathlib.Core.List.{List}
+use mathlib.Core.Logic.{_⊎_}
 use mathlib.Core.Option.{none, some}
 use mathlib.Core.Path.{_≡_}
 use Prim.Native.Nat.{ℕ}
@@ -8,7 +9,7 @@ use Rattle.rules.specs.Calls.{Call, Outcome, State, rule}
 use Rattle.rules.specs.Calls as Calls
 use Rattle.rules.specs.Store as Rules
 use Rattle.pack.specs.Meaning.{packOf}
-use Rattle.store.specs.Layout.{partsOf, capOf}
+use Rattle.store.specs.Layout.{AllBytes, partsOf, capOf}
 use Rattle.store.specs.Rows.{storeOf}
 use Rattle.store.specs.Questions.{storeRefusal}
 use Rattle.agents.specs.declared.Agent.{Agent}
@@ -23,7 +24,7 @@ pub record Kept (store : List ℕ) (records : List Agent) (store′ : List ℕ) 
   pub bytes : store′ ≡ store
   pub slots : records′ ≡ records
 
--- What was written: the bytes hold the store s of the rules. Only the order of used rows is free.
+-- What was written: the bytes hold the store s of the rules. Nothing of them is left free.
 pub record Wrote (store : List ℕ) (store′ : List ℕ) (s : Rules.Store) : Type 0 where
   -- P and C are as they were
   pub parts : partsOf store′ ≡ partsOf store
@@ -32,14 +33,18 @@ pub record Wrote (store : List ℕ) (store′ : List ℕ) (s : Rules.Store) : Ty
   pub sound : storeRefusal store ≡ none → storeRefusal store′ ≡ none
   -- the rows are exactly those of s, by key
   pub holds : contentsOf (storeOf store′) ≡ s
-  -- where no row changes, no byte is changed
-  pub bytes : contentsOf (storeOf store) ≡ s → store′ ≡ store
+  -- and so each byte is known: no other bytes with this P pass 9 to 12 and hold s
+  pub only : AllBytes store′ → storeRefusal store′ ≡ none → (other : List ℕ) → AllBytes other → storeRefusal other ≡ none →
+      partsOf other ≡ partsOf store → contentsOf (storeOf other) ≡ s → other ≡ store′
+  -- where no row of a store that passes 9 to 12 changes, no byte is changed
+  pub bytes : storeRefusal store ≡ none → contentsOf (storeOf store) ≡ s → store′ ≡ store
 
--- What is left is state s of the rules: its store, and exactly its agents.
-pub record Left (store : List ℕ) (store′ : List ℕ) (records′ : List Agent) (s : State) : Type 0 where
+-- What is left is state s of the rules: its store, and exactly its agents. The records are written from these, or are those that were
+-- lent, unchanged (order, which does not get them).
+pub record Left (store : List ℕ) (records : List Agent) (store′ : List ℕ) (records′ : List Agent) (s : State) : Type 0 where
   pub written : Wrote store store′ (s .store)
   pub slots : slotsOf records′ ≡ s .slots
-  pub records : records′ ≡ recordsOf (s .slots)
+  pub whole : (records′ ≡ recordsOf (s .slots)) ⊎ (records′ ≡ records)
 
 -- what the rule for a call does, on what the bytes and records mean
 abbrev pub ruled : (pack store : List ℕ) → (records : List Agent) → Call → Outcome
@@ -51,4 +56,4 @@ pub record Carried (pack store : List ℕ) (records : List Agent) (c : Call) (an
   pub refused : (n : No) → refusalFor pack store records c ≡ some n → (answerOf answer ≡ Calls.refused n) × Kept store records store′ records′
   -- otherwise answer, store and slots are those of the rule
   pub carried : refusalFor pack store records c ≡ none →
-      (answerOf answer ≡ ruled pack store records c .answer) × Left store store′ records′ (ruled pack store records c .state)
+      (answerOf answer ≡ ruled pack store records c .answer) × Left store records store′ records′ (ruled pack store records c .state)

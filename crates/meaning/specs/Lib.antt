@@ -1,3 +1,4 @@
 pub mod State
 pub mod Questions
+pub mod Equal
 pub mod Carried

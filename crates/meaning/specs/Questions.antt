@@ -9,14 +9,14 @@ use Rattle.words.specs.Words.{le}
 use Rattle.rules.specs.Basics.{if_then_else_, each}
 use Rattle.rules.specs.Questions.{No, number, ask, orElse}
 use Rattle.rules.specs.Store.{Request}
-use Rattle.rules.specs.Calls.{Call, arrival, retry, turn, crash, restart, stopped, refusal}
+use Rattle.rules.specs.Calls.{Call, arrival, retry, turn, crash, restart, order, stopped, refusal}
 use Rattle.code.specs.Questions.{insideAt}
 use Rattle.pack.specs.Layout.{count, sizeOf, total, operationsOf}
 use Rattle.pack.specs.Refusal.{packRefusal}
 use Rattle.pack.specs.Meaning.{packOf}
 use Rattle.store.specs.Rows.{Row, rowsOf}
 use Rattle.store.specs.Layout.{partsOf}
-use Rattle.store.specs.Questions.{storeRefusal}
+use Rattle.store.specs.Questions.{storeRefusal, orderRefusal}
 use Rattle.agents.specs.declared.Agent.{Agent}
 use Rattle.agents.specs.Slots.{agentAt}
 use Rattle.meaning.specs.State.{valueIn, bookOf, stateOf}
@@ -86,13 +86,14 @@ lentRefusal pack store records =
     (ask (number 14) (question14 pack store records)
     none)))
 
--- Restart puts none of them. Every other call puts all.
+-- Restart puts none of them. Order, which gets the store only, puts 9 to 12, of 11 all but the rising keys. Every other call puts all.
 unfoldable pub lentFor : Call → (pack store : List ℕ) → (records : List Agent) → Option No
 lentFor (arrival slot id w args) pack store records = lentRefusal pack store records
 lentFor (retry slot id) pack store records = lentRefusal pack store records
 lentFor (turn slot) pack store records = lentRefusal pack store records
 lentFor (crash slot) pack store records = lentRefusal pack store records
 lentFor restart pack store records = none
+lentFor order pack store records = orderRefusal store
 lentFor (stopped n) pack store records = lentRefusal pack store records
 
 -- All questions that a call puts, 1 to 21 and 24, in the order in which they are put: the first no.

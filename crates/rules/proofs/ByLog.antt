@@ -12,7 +12,7 @@ use Rattle.rules.specs.Blocks.{Result, Block, runBlock}
 use Rattle.rules.specs.Courses.{Course, Next, goes, does, says, nextOf}
 use Rattle.rules.specs.Store.{Request, Store, sought, found, booked, written}
 use Rattle.rules.specs.Logged.{codeOf, start, Stage, at, finished, behind, byNext, follow, replyLogged}
-use Rattle.rules.specs.Calls.{Agent, State, Outcome, Call, arrival, retry, turn, crash, restart, stopped}
+use Rattle.rules.specs.Calls.{Agent, State, Outcome, Call, arrival, retry, turn, crash, restart, order, stopped}
 use Rattle.rules.specs.Calls.{withSlot, started, arrive, again, throughBlock, turnOn, turnIn, refusal, rule}
 use Rattle.rules.specs.Plain.{Reply, withAnswer, Tally, Tallies, tallied}
 use Rattle.rules.proofs.Updates.{none-some, false-true, update-same, update-other, update-each}
@@ -234,6 +234,7 @@ module _ (pack : Pack) (first : Store) where
         replies = inv .replies;
       }
   rule-by-log s t rs inv restart allow = record { stays = inv .stays; slots = λ slot a e. none-some a refl e; replies = inv .replies }
+  rule-by-log s t rs inv order allow = inv
   rule-by-log s t rs inv (stopped n) allow = none-some n allow refl
 
   -- A store without agents.

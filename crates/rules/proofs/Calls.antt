@@ -15,7 +15,7 @@ use Rattle.rules.specs.Courses.{Course, Next, goes, does, says, nextOf}
 use Rattle.rules.specs.Store.{Request, booked, found}
 use Rattle.rules.specs.Logged.{start, at, follow}
 use Rattle.rules.specs.Calls.{codeBy, Agent, State, started, arrive, again, throughBlock, turnOn, turnIn, refusal, rule, Call}
-use Rattle.rules.specs.Calls.{arrival, retry, turn, crash, restart, stopped, call}
+use Rattle.rules.specs.Calls.{arrival, retry, turn, crash, restart, order, stopped, call}
 use Rattle.rules.specs.Plain.{Reply, Run, Machine, Tallies, booking, accepted, fed, fedArrival, tallied}
 use Rattle.rules.proofs.Updates.{none-some, false-true, true-T, update-same, update-other, update-cases, update-each}
 use Rattle.rules.proofs.Follow.{same-here}
@@ -149,6 +149,7 @@ module _ (pack : Pack) (s : State) (m : Machine) (t : Tallies) (rs : List Reply)
             record { core = inv .core; slots = slots-clear pack (s .store .log) (s .store .book) (m .runs) t (s .slots) (inv .slots) slot };
       }
   rule-keeps restart allow = record { kept = record { core = inv .core; slots = λ slot a e. none-some a refl e } }
+  rule-keeps order allow = record { kept = inv }
   rule-keeps (stopped n) allow = none-some n allow refl
 
   -- Each call keeps the invariant.
@@ -186,4 +187,5 @@ rule-accepted pack s (turn slot) = go (s .slots slot)
     go (some a) = on a (codeBy pack (s .store .book (a .id))) (nextOf (codeBy pack (s .store .book (a .id))) (a .course))
 rule-accepted pack s (crash slot) = refl
 rule-accepted pack s restart = refl
+rule-accepted pack s order = refl
 rule-accepted pack s (stopped n) = refl

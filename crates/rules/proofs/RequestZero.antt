@@ -12,7 +12,7 @@ use Rattle.rules.specs.Instructions.{Code, Pack, Place}
 use Rattle.rules.specs.Blocks.{Result}
 use Rattle.rules.specs.Courses.{Course, Next, goes, does, says, nextOf}
 use Rattle.rules.specs.Store.{Request, sought, found}
-use Rattle.rules.specs.Calls.{Agent, State, Call, arrival, retry, turn, crash, restart, stopped, codeBy}
+use Rattle.rules.specs.Calls.{Agent, State, Call, arrival, retry, turn, crash, restart, order, stopped, codeBy}
 use Rattle.rules.specs.Calls.{refusal, rule, arrive, again, throughBlock, turnOn, turnIn, unless, call, History, stateAfter}
 use Rattle.rules.specs.Plain.{machineAfter}
 use Rattle.rules.specs.RequestZero.{zeroNo, RequestZero, NoZero}
@@ -68,6 +68,7 @@ module _ (pack : Pack) (s : State) where
   nobody-else (turn slot) e = none-some (number 24) refl (behind 21 _ _ refl (behind 16 _ _ refl (behind 15 _ _ refl e)))
   nobody-else (crash slot) e = none-some (number 24) refl (behind 16 _ _ refl (behind 15 _ _ refl e))
   nobody-else restart e = none-some (number 24) refl e
+  nobody-else order e = none-some (number 24) refl e
   nobody-else (stopped n) e = inr (ap stopped (Option·some-injective n (number 24) e))
 
   -- ── the book ──
@@ -108,6 +109,7 @@ module _ (pack : Pack) (s : State) where
       go (some a) = on a (codeBy pack (s .store .book (a .id))) (nextOf (codeBy pack (s .store .book (a .id))) (a .course))
   rule-books-no-new (crash slot) allow free = free
   rule-books-no-new restart allow free = free
+  rule-books-no-new order allow free = free
   rule-books-no-new (stopped n) allow free = free
 
   books-no-new : (c : Call) → s .store .book 0 ≡ none → call pack s c .state .store .book 0 ≡ none

@@ -1,4 +1,4 @@
--- Agents and slots, and the five calls: the questions 15 to 21 and 24 of each, then what it does. Assumes nothing: these are definitions.
+-- Agents and slots, and the six calls: the questions 15 to 21 and 24 of each, then what it does. Assumes nothing: these are definitions.
 use mathlib.Core.Bool.{Bool, true, not}
 use mathlib.Core.List.{List, [], _∷_}
 use mathlib.Core.Option.{Option, none, some}
@@ -31,6 +31,8 @@ pub data Call : Type 0 where
   turn : (slot : ℕ) → Call
   crash : (slot : ℕ) → Call
   restart : Call
+  -- W-203: puts the rows of an earlier store in order
+  order : Call
   -- a call of any kind to which a question before 15 says no
   stopped : No → Call
 
@@ -96,6 +98,7 @@ refusal pack s (crash slot) =
     ask (number 15) (ltb slot 8)
     (ask (number 16) (isSome (s .slots slot)) none)
 refusal pack s restart = none
+refusal pack s order = none
 refusal pack s (stopped n) = some n
 
 -- ── What the calls do ──
@@ -156,6 +159,7 @@ rule pack s (retry slot id) = again s slot id (s .store .book id)
 rule pack s (turn slot) = turnIn pack s slot (s .slots slot)
 rule pack s (crash slot) = gives done (withSlot s slot none)
 rule pack s restart = gives done (record { store = s .store; slots = λ slot. none })
+rule pack s order = gives done s
 rule pack s (stopped n) = gives done s
 
 -- The first no is the answer, and nothing is changed.

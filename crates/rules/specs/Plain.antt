@@ -10,7 +10,7 @@ use Rattle.rules.specs.Blocks.{Table, Result, runBlock}
 use Rattle.rules.specs.Courses.{Course, Next, goes, does, says, nextOf}
 use Rattle.rules.specs.Store.{Request}
 use Rattle.rules.specs.Logged.{codeOf, start}
-use Rattle.rules.specs.Calls.{Call, arrival, retry, turn, crash, restart, stopped, History, answerTo}
+use Rattle.rules.specs.Calls.{Call, arrival, retry, turn, crash, restart, order, stopped, History, answerTo}
 use Rattle.rules.specs.Calls.{Answer, done, moved, reply, refused}
 
 -- a reply: id and value
@@ -100,6 +100,7 @@ tallied t (retry slot id) = update t slot (some (record { id = id; turns = 0 }))
 tallied t (turn slot) = update t slot (oneMore (t slot))
 tallied t (crash slot) = t
 tallied t restart = t
+tallied t order = t
 tallied t (stopped n) = t
 
 -- Accepted arrival of an id that the machine hasn't booked: one booking.
@@ -124,6 +125,7 @@ fed pack m t (turn slot) = fedTurn pack m (t slot)
 fed pack m t (retry slot id) = m
 fed pack m t (crash slot) = m
 fed pack m t restart = m
+fed pack m t order = m
 fed pack m t (stopped n) = m
 
 -- The tallies after the calls: a refused call counts nothing.

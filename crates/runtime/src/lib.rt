@@ -6,6 +6,7 @@ ghost use Rattle.rules.specs.Calls.{Call};
 ghost use Rattle.agents.specs.declared.Agent.{Agent};
 ghost use Rattle.meaning.specs.Carried.{Carried};
 use agents::Agent;
+use agents::Answer;
 use agents::Outcome;
 use rules::Verdict;
 use store::rows::Got;
@@ -39,6 +40,25 @@ pub fn restart() -> Outcome
     ensures { λ r. ⌜ ((pack store : List ℕ) (records : List Agent) → Carried pack store records Call.restart (r .answer) (r .agents) store) ⌝ }
 {
     agents::done(agents::no_agents())
+}
+
+// Order puts the rows of an earlier store in order. It gets the store only: no pack is asked and no slot is looked at.
+pub fn order(store: &mut [u8]) -> Answer
+    ensures { λ r. ⌜ ((pack : List ℕ) (records : List Agent) → Carried pack (now (store .entry)) records Call.order r records (now (store .exit))) ⌝ }
+{
+    let v = ordering::order(store);
+    match v {
+        Verdict::Accepted => Answer::Done,
+        Verdict::Refused {
+            question,
+            workflow,
+            instruction,
+        } => Answer::Refused {
+            question,
+            workflow,
+            instruction,
+        },
+    }
 }
 
 // Retry starts an agent from the book.

@@ -1,5 +1,10 @@
 pub mod Lists
-pub mod Arrays
 pub mod Bytes
+pub mod Parts
+pub mod Held
+pub mod Buffer
+pub mod Merge
 pub mod Search
+pub mod Equal
 pub mod Sound
+pub mod Order

@@ -1,26 +1,21 @@
 -- Laws of rows and of parts of arrays, with no word of bytes. Assumes nothing.
 use mathlib.Core.Bool.{Bool, true, false}
-use mathlib.Core.List.{List, [], _∷_, _++_}
+use mathlib.Core.List.{List, [], _∷_}
 use mathlib.Core.Logic.{_≢_}
 use mathlib.Core.Option.{Option, none, some}
 use mathlib.Core.Path.{_≡_, refl, sym, ap, subst, _∙_, fun-ext}
-use Prim.Native.Nat.{ℕ, zero, suc, _+_, _-_, _*_, _≤_, _<_}
+use Prim.Native.Nat.{ℕ, zero, suc, _+_, _*_, _≤_, _<_}
 use native.Mathlib.Nat.{le-of-suc-le-suc, suc-mul, mul-le-mul-right, not-suc-le-zero}
-use native.Mathlib.Numerals.{add-one}
 use native.Mathlib.Omega.{arith}
-use native.Mathlib.Decide.{decLt, ℕ-discrete}
-use borrow.Author.Tests.{eq-eqb, ne-eqb, eqb-true}
-use lib.Dec.{eqb}
-use lib.ListN.{length, getD, set, take, drop, length-take, length-drop}
-use lib.Seq.{take-suc-set, take-set-lt, take-set-le, drop-set-add, drop-set-lt, getD-take, getD-drop}
+use native.Mathlib.Decide.{ℕ-discrete}
+use borrow.Author.Tests.{eq-eqb, ne-eqb, eqb-true, eqb-false, lt-ltb, le-ltb, ltb-true, ltb-false}
+use lib.Dec.{eqb, ltb}
+use lib.ListN.{length, getD, set, drop}
 use Rattle.words.specs.Words.{le, fields}
 use Rattle.rules.specs.Basics.{if_then_else_}
-use Rattle.store.specs.Questions.{keysOk}
-use Rattle.store.specs.Rows.{Row, keysIn, pairs, lookup, placeOf, indexOf, setValue, addRow, putRow, newRows, Store, alter}
-
--- of an array over all partitions, the first n entries of partition p
-unfoldable pub part : (C p n : ℕ) → List ℕ → List ℕ
-part C p n l = take n (drop (p * C) l)
+use Rattle.rules.proofs.Tests.{and-left, and-right, and-both}
+use Rattle.store.specs.Questions.{keysApart, ahead, rising, keysOk}
+use Rattle.store.specs.Rows.{Row, keysIn, pairs, lookup, placeOf, indexOf, rankOf, rankIn, setValue, insertAt, putRow, newRows, Store, alter}
 
 -- ---- row numbers: row i of partition p of C rows each is p * C + i
 
@@ -31,45 +26,6 @@ before C {p} {q} l = omega (arith, suc-mul p C, mul-le-mul-right C l)
 -- a row is within the array
 pub within : (C P p i : ℕ) → p ≤ P → i < C → p * C + i < (P + 1) * C
 within C P p i l h = omega (arith, before C {p = p} {q = P + 1} (omega arith))
-
--- a row of another partition is another
-pub rows-apart : (C p q i j : ℕ) → p ≢ q → i < C → j < C → p * C + i ≢ q * C + j
-rows-apart C p q i j n hi hj e = go (decLt p q) (decLt q p)
-  where
-    go : Dec (p < q) → Dec (q < p) → ⊥
-    go (yes l) d = omega (arith, before C l)
-    go (no _) (yes l) = omega (arith, before C l)
-    go (no a) (no b) = n (omega arith)
-
--- ---- parts of an array
-
-pub part-grow : (C p n : ℕ) (l : List ℕ) (x : ℕ) → p * C + n < length l → part C p (n + 1) (set l (p * C + n) x) ≡ part C p n l ++ (x ∷ [])
-unfolding part
-part-grow C p n l x h =
-    rw (drop-set-add (p * C) l n x, add-one n) (take-suc-set (drop (p * C) l) n x (omega (arith, length-drop (p * C) l)))
-
-pub part-set : (C p n i : ℕ) (l : List ℕ) (x : ℕ) → i < n → part C p n (set l (p * C + i) x) ≡ set (part C p n l) i x
-unfolding part
-part-set C p n i l x h = rw (drop-set-add (p * C) l i x) (take-set-lt n (drop (p * C) l) i x h)
-
-pub part-other : (C p q n i : ℕ) (l : List ℕ) (x : ℕ) → p ≢ q → i < C → n ≤ C → part C q n (set l (p * C + i) x) ≡ part C q n l
-unfolding part
-part-other C p q n i l x ne hi hn = go (decLt p q) (decLt q p)
-  where
-    go : Dec (p < q) → Dec (q < p) → take n (drop (q * C) (set l (p * C + i) x)) ≡ take n (drop (q * C) l)
-    go (yes lt) d = ap (take n) (drop-set-lt (q * C) l (p * C + i) x (omega (arith, before C lt)))
-    go (no _) (yes lt) =
-        let e : p * C + i ≡ q * C + (p * C + i - q * C) = omega (arith, before C lt) in
-        rw (e, drop-set-add (q * C) l (p * C + i - q * C) x) (take-set-le n (drop (q * C) l) (p * C + i - q * C) x (omega (arith, before C lt)))
-    go (no a) (no b) = absurd (ne (omega arith))
-
-pub length-part : (C p n : ℕ) (l : List ℕ) → p * C + n ≤ length l → length (part C p n l) ≡ n
-unfolding part
-length-part C p n l h = simp (length-take, length-drop) (omega arith)
-
-pub getD-part : (C p n i : ℕ) (l : List ℕ) → i < n → getD (part C p n l) i 0 ≡ getD l (p * C + i) 0
-unfolding part
-getD-part C p n i l h = getD-take n (drop (p * C) l) i 0 h ∙ getD-drop (p * C) l i 0
 
 -- ---- rows
 
@@ -85,19 +41,21 @@ keys-pairs [] vs e = refl
 keys-pairs (k ∷ ks) [] e = absurd (omega arith)
 keys-pairs (k ∷ ks) (v ∷ vs) e = ap (_∷_ k) (keys-pairs ks vs (omega arith))
 
-pub pairs-add : (ks vs : List ℕ) (k v : ℕ) → length ks ≡ length vs → pairs (ks ++ (k ∷ [])) (vs ++ (v ∷ [])) ≡ addRow k v (pairs ks vs)
-unfolding pairs addRow
-pairs-add [] [] k v e = refl
-pairs-add [] (w ∷ vs) k v e = absurd (omega arith)
-pairs-add (x ∷ ks) [] k v e = absurd (omega arith)
-pairs-add (x ∷ ks) (w ∷ vs) k v e = ap (_∷_ (x, w)) (pairs-add ks vs k v (omega arith))
-
 pub pairs-set : (ks vs : List ℕ) (i v : ℕ) → pairs ks (set vs i v) ≡ setValue (pairs ks vs) i v
 unfolding pairs setValue
 pairs-set [] vs i v = refl
 pairs-set (k ∷ ks) [] i v = refl
 pairs-set (k ∷ ks) (w ∷ vs) zero v = refl
 pairs-set (k ∷ ks) (w ∷ vs) (suc i) v = ap (_∷_ (k, w)) (pairs-set ks vs i v)
+
+pub rank-within : (k : ℕ) (rs : List Row) → rankOf k rs ≤ length rs
+unfolding rankOf
+rank-within k [] = omega arith
+rank-within k (r ∷ rs) = go (ltb (r .0) k) (rank-within k rs)
+  where
+    go : (b : Bool) → rankOf k rs ≤ length rs → if_then_else_ b (suc (rankOf k rs)) 0 ≤ suc (length rs)
+    go true h = omega arith
+    go false h = omega arith
 
 -- ---- a store with one partition changed
 
@@ -134,6 +92,33 @@ pub index-none : (k : ℕ) (w : ℕ) (xs : List ℕ) (o m : ℕ) → m ≡ 0 →
 unfolding indexOf fields
 index-none k w xs o m e = rw e refl
 
+-- the same of the place where k belongs: the first key that isn't smaller ends the search
+pub rank-more : (k : ℕ) (w : ℕ) (xs : List ℕ) (o m n : ℕ) → m ≡ suc n → le w xs o < k → rankIn k (fields w xs o m) ≡ suc (rankIn k (fields w xs (o + w) n))
+unfolding rankIn fields
+rank-more k w xs o m n e h = rw (e, lt-ltb (le w xs o) k h) refl
+
+pub rank-ends : (k : ℕ) (w : ℕ) (xs : List ℕ) (o m n : ℕ) → m ≡ suc n → k ≤ le w xs o → rankIn k (fields w xs o m) ≡ 0
+unfolding rankIn fields
+rank-ends k w xs o m n e h = rw (e, le-ltb (le w xs o) k h) refl
+
+pub rank-none : (k : ℕ) (w : ℕ) (xs : List ℕ) (o m : ℕ) → m ≡ 0 → rankIn k (fields w xs o m) ≡ 0
+unfolding rankIn fields
+rank-none k w xs o m e = rw e refl
+
+pub rank-keys : (k : ℕ) (rs : List Row) → rankOf k rs ≡ rankIn k (keysIn rs)
+unfolding rankOf rankIn keysIn
+rank-keys k [] = refl
+rank-keys k (r ∷ rs) = ap (λ (n : ℕ). if_then_else_ (ltb (r .0) k) (suc n) 0) (rank-keys k rs)
+
+pub rank-pairs : (k : ℕ) (ks vs : List ℕ) → length ks ≡ length vs → rankOf k (pairs ks vs) ≡ rankIn k ks
+rank-pairs k ks vs e = rank-keys k (pairs ks vs) ∙ ap (rankIn k) (keys-pairs ks vs e)
+
+pub keys-drop : (i : ℕ) (rs : List Row) → keysIn (drop i rs) ≡ drop i (keysIn rs)
+unfolding keysIn
+keys-drop zero rs = refl
+keys-drop (suc i) [] = refl
+keys-drop (suc i) (r ∷ rs) = keys-drop i rs
+
 -- the place of a key's row is its place among the keys
 pub place-pairs : (k : ℕ) (ks vs : List ℕ) → length ks ≡ length vs → placeOf k (pairs ks vs) ≡ indexOf k ks
 unfolding pairs placeOf indexOf
@@ -168,65 +153,93 @@ missed-lookup k (r ∷ rs) h = go (missed-lookup k rs) (eqb (r .0) k) refl
     go ih true e = absurd (not-suc-le-zero (rw e at h))
     go ih false e = rw e (ih (le-of-suc-le-suc (rw e at h)))
 
--- a value put at a key: in its row, or in one more
-pub put-found : (k v : ℕ) (rs : List Row) → placeOf k rs < length rs → putRow k v rs ≡ setValue rs (placeOf k rs) v
-unfolding placeOf putRow setValue
-put-found k v [] h = absurd (omega arith)
-put-found k v (r ∷ rs) h = go (put-found k v rs) (eqb (r .0) k) refl
+-- the keys behind a key are greater
+pub rises-below : (k x : ℕ) (rs : List Row) → rising (x ∷ keysIn rs) ≡ true → placeOf k rs < length rs → x < k
+unfolding rising ahead keysIn placeOf
+rises-below k x [] u h = absurd (omega arith)
+rises-below k x (r ∷ rs) u h = go (rises-below k (r .0) rs (and-right (ltb x (r .0)) _ u)) (eqb (r .0) k) refl
+  where
+    low : x < r .0
+    low = ltb-true x (r .0) (and-left (ltb x (r .0)) _ u)
+
+    go : (placeOf k rs < length rs → r .0 < k) → (b : Bool) → eqb (r .0) k ≡ b → x < k
+    go ih true e = omega (arith, low, eqb-true (r .0) k e)
+    go ih false e = omega (arith, low, ih (le-of-suc-le-suc (rw e at h)))
+
+-- a value put at a key: in its row, or in one more where it belongs
+pub put-found : (k v : ℕ) (rs : List Row) → rising (keysIn rs) ≡ true → placeOf k rs < length rs → putRow k v rs ≡ setValue rs (placeOf k rs) v
+unfolding placeOf putRow setValue keysIn rising
+put-found k v [] u h = absurd (omega arith)
+put-found k v (r ∷ rs) u h = go (put-found k v rs (and-right (ahead (r .0) (keysIn rs)) _ u)) (eqb (r .0) k) refl
   where
     go : (placeOf k rs < length rs → putRow k v rs ≡ setValue rs (placeOf k rs) v) → (b : Bool) → eqb (r .0) k ≡ b
         → putRow k v (r ∷ rs) ≡ setValue (r ∷ rs) (placeOf k (r ∷ rs)) v
     go ih true e = rw e refl
-    go ih false e = rw e (ap (_∷_ r) (ih (le-of-suc-le-suc (rw e at h))))
+    go ih false e =
+        let l : placeOf k rs < length rs = le-of-suc-le-suc (rw e at h) in
+        let b : r .0 < k = rises-below k (r .0) rs u l in
+        rw (e, le-ltb k (r .0) (omega arith)) (ap (_∷_ r) (ih l))
 
-pub put-missed : (k v : ℕ) (rs : List Row) → length rs ≤ placeOf k rs → putRow k v rs ≡ addRow k v rs
-unfolding placeOf putRow addRow
+pub put-missed : (k v : ℕ) (rs : List Row) → length rs ≤ placeOf k rs → putRow k v rs ≡ insertAt rs (rankOf k rs) (k, v)
+unfolding placeOf putRow insertAt rankOf
 put-missed k v [] h = refl
-put-missed k v (r ∷ rs) h = go (put-missed k v rs) (eqb (r .0) k) refl
+put-missed k v (r ∷ rs) h = go (put-missed k v rs) (eqb (r .0) k) refl (ltb k (r .0)) refl
   where
-    go : (length rs ≤ placeOf k rs → putRow k v rs ≡ addRow k v rs) → (b : Bool) → eqb (r .0) k ≡ b → putRow k v (r ∷ rs) ≡ addRow k v (r ∷ rs)
-    go ih true e = absurd (not-suc-le-zero (rw e at h))
-    go ih false e = rw e (ap (_∷_ r) (ih (le-of-suc-le-suc (rw e at h))))
+    go : (length rs ≤ placeOf k rs → putRow k v rs ≡ insertAt rs (rankOf k rs) (k, v)) → (b : Bool) → eqb (r .0) k ≡ b → (c : Bool) → ltb k (r .0) ≡ c
+        → putRow k v (r ∷ rs) ≡ insertAt (r ∷ rs) (rankOf k (r ∷ rs)) (k, v)
+    go ih true e c f = absurd (not-suc-le-zero (rw e at h))
+    go ih false e true f = rw (e, f, le-ltb (r .0) k (omega (arith, ltb-true k (r .0) f))) refl
+    go ih false e false f =
+        rw (e, f, lt-ltb (r .0) k (omega (arith, ltb-false k (r .0) f, eqb-false (r .0) k e))) (ap (_∷_ r) (ih (le-of-suc-le-suc (rw e at h))))
 
 -- what callers know of a put: the table, and the number of rows
 pub lookup-put-same : (k v : ℕ) (rs : List Row) → lookup k (putRow k v rs) ≡ some v
 unfolding putRow lookup
 lookup-put-same k v [] = rw (eq-eqb k k refl) refl
-lookup-put-same k v (r ∷ rs) = go (lookup-put-same k v rs) (eqb (r .0) k) refl
+lookup-put-same k v (r ∷ rs) = go (lookup-put-same k v rs) (eqb (r .0) k) refl (ltb k (r .0)) refl
   where
-    go : lookup k (putRow k v rs) ≡ some v → (b : Bool) → eqb (r .0) k ≡ b → lookup k (putRow k v (r ∷ rs)) ≡ some v
-    go ih true e = rw (e, e) refl
-    go ih false e = rw (e, e) ih
+    go : lookup k (putRow k v rs) ≡ some v → (b : Bool) → eqb (r .0) k ≡ b → (c : Bool) → ltb k (r .0) ≡ c → lookup k (putRow k v (r ∷ rs)) ≡ some v
+    go ih true e c f = rw (e, e) refl
+    go ih false e true f = rw (e, f, eq-eqb k k refl) refl
+    go ih false e false f = rw (e, f, e) ih
 
 pub lookup-put-other : (k v j : ℕ) (rs : List Row) → j ≢ k → lookup j (putRow k v rs) ≡ lookup j rs
 unfolding putRow lookup
 lookup-put-other k v j [] n = rw (ne-eqb k j (λ e. n (sym e))) refl
-lookup-put-other k v j (r ∷ rs) n = go (lookup-put-other k v j rs n) (eqb (r .0) k) refl
+lookup-put-other k v j (r ∷ rs) n = go (lookup-put-other k v j rs n) (eqb (r .0) k) refl (ltb k (r .0)) refl
   where
-    go : lookup j (putRow k v rs) ≡ lookup j rs → (b : Bool) → eqb (r .0) k ≡ b → lookup j (putRow k v (r ∷ rs)) ≡ lookup j (r ∷ rs)
-    go ih true e = let other : eqb (r .0) j ≡ false = ne-eqb (r .0) j (λ q. n (sym q ∙ eqb-true (r .0) k e)) in rw (e, other) refl
-    go ih false e = rw e (ap (λ (o : Option ℕ). if_then_else_ (eqb (r .0) j) (some (r .1)) o) ih)
+    go : lookup j (putRow k v rs) ≡ lookup j rs → (b : Bool) → eqb (r .0) k ≡ b → (c : Bool) → ltb k (r .0) ≡ c → lookup j (putRow k v (r ∷ rs)) ≡ lookup j (r ∷ rs)
+    go ih true e c f = let other : eqb (r .0) j ≡ false = ne-eqb (r .0) j (λ q. n (sym q ∙ eqb-true (r .0) k e)) in rw (e, other) refl
+    go ih false e true f = rw (e, f, ne-eqb k j (λ q. n (sym q))) refl
+    go ih false e false f = rw (e, f) (ap (λ (o : Option ℕ). if_then_else_ (eqb (r .0) j) (some (r .1)) o) ih)
 
--- a put takes no row away
-pub put-longer : (k v : ℕ) (rs : List Row) → length rs ≤ length (putRow k v rs)
-unfolding putRow
-put-longer k v [] = omega arith
-put-longer k v (r ∷ rs) = go (put-longer k v rs) (eqb (r .0) k) refl
+-- a smaller key ahead of rising keys
+pub rises-lower : (k x : ℕ) (rs : List Row) → k < x → rising (x ∷ keysIn rs) ≡ true → rising (k ∷ keysIn rs) ≡ true
+unfolding rising ahead keysIn
+rises-lower k x [] l u = refl
+rises-lower k x (r ∷ rs) l u = and-both (ltb k (r .0)) _ (lt-ltb k (r .0) (omega (arith, ltb-true x (r .0) (and-left (ltb x (r .0)) _ u)))) (and-right (ltb x (r .0)) _ u)
+
+-- a key below the first of rising keys has no row
+pub rises-none : (k : ℕ) (rs : List Row) → rising (k ∷ keysIn rs) ≡ true → lookup k rs ≡ none
+unfolding rising ahead keysIn lookup
+rises-none k [] u = refl
+rises-none k (r ∷ rs) u =
+    let l : k < r .0 = ltb-true k (r .0) (and-left (ltb k (r .0)) _ u) in
+    rw (ne-eqb (r .0) k (omega arith)) (rises-none k rs (rises-lower k (r .0) rs l (and-right (ltb k (r .0)) _ u)))
+
+pub rows-after : (k v : ℕ) (rs : List Row) → rising (keysIn rs) ≡ true → length (putRow k v rs) ≡ length rs + newRows (lookup k rs)
+unfolding putRow lookup newRows rising keysIn
+rows-after k v [] u = refl
+rows-after k v (r ∷ rs) u = go (rows-after k v rs (and-right (ahead (r .0) (keysIn rs)) _ u)) (eqb (r .0) k) refl (ltb k (r .0)) refl
   where
-    go : length rs ≤ length (putRow k v rs) → (b : Bool) → eqb (r .0) k ≡ b → length (r ∷ rs) ≤ length (putRow k v (r ∷ rs))
-    go ih true e = rw e (omega arith)
-    go ih false e = rw e (omega arith)
+    go : length (putRow k v rs) ≡ length rs + newRows (lookup k rs) → (b : Bool) → eqb (r .0) k ≡ b → (c : Bool) → ltb k (r .0) ≡ c → length (putRow k v (r ∷ rs)) ≡ length (r ∷ rs) + newRows (lookup k (r ∷ rs))
+    go ih true e c f = rw e (omega arith)
+    go ih false e true f =
+        let new : lookup k rs ≡ none = rises-none k rs (rises-lower k (r .0) rs (ltb-true k (r .0) f) u) in
+        rw (e, f, new) (omega arith)
+    go ih false e false f = rw (e, f) (omega arith)
 
-rows-after : (k v : ℕ) (rs : List Row) → length (putRow k v rs) ≡ length rs + newRows (lookup k rs)
-unfolding putRow lookup newRows
-rows-after k v [] = refl
-rows-after k v (r ∷ rs) = go (rows-after k v rs) (eqb (r .0) k) refl
-  where
-    go : length (putRow k v rs) ≡ length rs + newRows (lookup k rs) → (b : Bool) → eqb (r .0) k ≡ b → length (putRow k v (r ∷ rs)) ≡ length (r ∷ rs) + newRows (lookup k (r ∷ rs))
-    go ih true e = rw e (omega arith)
-    go ih false e = rw e (omega arith)
-
--- The number of rows after a put. That the keys are good is asked for though it is not used while a new row goes to the end: rows in an
--- order need it.
+-- The number of rows after a put among rising keys.
 pub length-put : (book : Bool) (k v : ℕ) (rs : List Row) → keysOk book (keysIn rs) ≡ true → length (putRow k v rs) ≡ length rs + newRows (lookup k rs)
-length-put book k v rs good = rows-after k v rs
+unfolding keysOk
+length-put book k v rs good = rows-after k v rs (and-right (keysApart book (keysIn rs)) _ good)

@@ -3,25 +3,25 @@
 use mathlib.Core.Bool.{Bool, true, false, not, _&&_, _||_}
 use mathlib.Core.List.{List, [], _∷_}
 use mathlib.Core.Logic.{_≢_}
-use mathlib.Core.Option.{Option, none, some}
+use mathlib.Core.Option.{Option, none}
 use mathlib.Core.Path.{_≡_, refl, sym, ap, ap₂, subst, _∙_}
 use Prim.Native.Nat.{ℕ, zero, suc, _+_, _-_, _/_, _^_, _≤_, _<_}
 use native.Mathlib.Omega.{arith}
 use native.Mathlib.Decide.{ℕ-discrete}
-use borrow.Author.Tests.{leb-true, eqb-true, le-leb, lt-leb, eq-eqb, ne-eqb, not-true}
-use lib.Dec.{eqb, leb}
+use borrow.Author.Tests.{leb-true, eqb-true, eqb-false, le-leb, lt-leb, lt-ltb, ltb-true, ltb-false, eq-eqb, ne-eqb, not-true}
+use lib.Dec.{eqb, leb, ltb}
 use lib.ListN.{length, getD}
 use Rattle.words.specs.Words.{le}
 use Rattle.rules.specs.Basics.{eachFrom}
-use Rattle.rules.specs.Keys.{dataKey, logKey, bookKey}
+use Rattle.rules.specs.Keys.{logKey, bookKey}
 use Rattle.rules.specs.Questions.{number}
 use Rattle.rules.proofs.Each.{each-at, each-all}
-use Rattle.rules.proofs.Keys.{data-is, log-is, log-no-data, book-is}
+use Rattle.rules.proofs.Keys.{log-is, log-no-data, book-is}
 use Rattle.rules.proofs.Tests.{yes-no, and-left, and-right, and-both}
-use Rattle.rules.proofs.Questions.{ask-none, ask-yes, ask-no}
+use Rattle.rules.proofs.Questions.{ask-none, ask-yes}
 use Rattle.store.specs.Layout.{partsOf, capOf, sizeOf, keyAt, valueAt, usedOf}
-use Rattle.store.specs.Rows.{Row, Store, pairs, keysIn, rowsOf, storeOf, putRow, putAll, newRows, countNew, alter}
-use Rattle.store.specs.Questions.{numbersRight, question9, question10, isForm, member, unlike, keysOk, blankRow, partOk, question11, allIn, five, bookOk, question12, storeRefusal, createRefusal}
+use Rattle.store.specs.Rows.{Row, Store, pairs, keysIn, lookup, rowsOf, storeOf, putRow, putAll, newRows, countNew, alter}
+use Rattle.store.specs.Questions.{numbersRight, question9, question10, isForm, member, unlike, keysApart, ahead, rising, keysOk, blankRow, partOkBy, partOk, question11, allIn, five, bookOk, question12, storeRefusal, createRefusal}
 use Rattle.store.specs.Sound.{Shape, Filled, KeysGood, Sound, Changed, Stored}
 use Rattle.store.proofs.Lists.{length-put, lookup-put-other, alter-here, alter-there}
 
@@ -74,17 +74,17 @@ shape-passes xs s = (
 
 -- ---- question 11
 
--- the three tests of a partition
-module _ (xs : List ℕ) (p : ℕ) (e : partOk xs p ≡ true) where
-  fits : leb (usedOf xs p) (capOf xs) && keysOk (eqb p (partsOf xs)) (keysIn (rowsOf xs p)) ≡ true
-  unfolding partOk
+-- the three tests of a partition, by what is asked of its keys
+module _ (keys : Bool → List ℕ → Bool) (xs : List ℕ) (p : ℕ) (e : partOkBy keys xs p ≡ true) where
+  fits : leb (usedOf xs p) (capOf xs) && keys (eqb p (partsOf xs)) (keysIn (rowsOf xs p)) ≡ true
+  unfolding partOkBy
   fits = and-left _ (eachFrom (blankRow xs p) (capOf xs - usedOf xs p) (usedOf xs p)) e
 
   blanks : (i : ℕ) → usedOf xs p ≤ i → i < capOf xs → blankRow xs p i ≡ true
-  unfolding partOk
-  blanks i a b = each-at (blankRow xs p) (capOf xs - usedOf xs p) (usedOf xs p) (and-right (leb (usedOf xs p) (capOf xs) && keysOk (eqb p (partsOf xs)) (keysIn (rowsOf xs p))) _ e) i a (omega arith)
+  unfolding partOkBy
+  blanks i a b = each-at (blankRow xs p) (capOf xs - usedOf xs p) (usedOf xs p) (and-right (leb (usedOf xs p) (capOf xs) && keys (eqb p (partsOf xs)) (keysIn (rowsOf xs p))) _ e) i a (omega arith)
 
-  part-filled : Filled xs p
+  pub part-filled : Filled xs p
   unfolding blankRow
   part-filled =
       record {
@@ -93,13 +93,13 @@ module _ (xs : List ℕ) (p : ℕ) (e : partOk xs p ≡ true) where
         blank-values = λ i a b. eqb-true (le 4 xs (valueAt xs p i)) 0 (and-right (eqb (le 8 xs (keyAt xs p i)) 0) _ (blanks i a b));
       }
 
-  part-keys : keysOk (eqb p (partsOf xs)) (keysIn (rowsOf xs p)) ≡ true
+  pub part-keys : keys (eqb p (partsOf xs)) (keysIn (rowsOf xs p)) ≡ true
   part-keys = and-right (leb (usedOf xs p) (capOf xs)) _ fits
 
-part-passes : (xs : List ℕ) (p : ℕ) → Filled xs p → keysOk (eqb p (partsOf xs)) (keysIn (rowsOf xs p)) ≡ true → partOk xs p ≡ true
-unfolding partOk blankRow
-part-passes xs p f k =
-    and-both (leb (usedOf xs p) (capOf xs) && keysOk (eqb p (partsOf xs)) (keysIn (rowsOf xs p))) _ (and-both (leb (usedOf xs p) (capOf xs)) _ (le-leb (usedOf xs p) (capOf xs) (f .fit)) k)
+pub part-passes : (keys : Bool → List ℕ → Bool) (xs : List ℕ) (p : ℕ) → Filled xs p → keys (eqb p (partsOf xs)) (keysIn (rowsOf xs p)) ≡ true → partOkBy keys xs p ≡ true
+unfolding partOkBy blankRow
+part-passes keys xs p f k =
+    and-both (leb (usedOf xs p) (capOf xs) && keys (eqb p (partsOf xs)) (keysIn (rowsOf xs p))) _ (and-both (leb (usedOf xs p) (capOf xs)) _ (le-leb (usedOf xs p) (capOf xs) (f .fit)) k)
     (each-all (blankRow xs p) (capOf xs - usedOf xs p) (usedOf xs p)
     (λ i a b.
     let l : i < capOf xs = omega (arith, f .fit) in
@@ -110,11 +110,11 @@ pub sound-of : (xs : List ℕ) → Shape xs → question11 xs ≡ true → Sound
 unfolding question11 KeysGood
 sound-of xs s e =
     let one : (p : ℕ) → p ≤ partsOf xs → partOk xs p ≡ true = λ p l. each-at (partOk xs) (partsOf xs + 1) 0 e p (omega arith) (omega arith) in
-    record { formed = record { shape = s; filled = λ p l. part-filled xs p (one p l) }; keys = λ p l. part-keys xs p (one p l) }
+    record { formed = record { shape = s; filled = λ p l. part-filled keysOk xs p (one p l) }; keys = λ p l. part-keys keysOk xs p (one p l) }
 
 pub rows-pass : (xs : List ℕ) → Sound xs → question11 xs ≡ true
 unfolding question11 KeysGood
-rows-pass xs s = each-all (partOk xs) (partsOf xs + 1) 0 (λ p a b. part-passes xs p (s .formed .filled p (omega arith)) (s .keys p (omega arith)))
+rows-pass xs s = each-all (partOk xs) (partsOf xs + 1) 0 (λ p a b. part-passes keysOk xs p (s .formed .filled p (omega arith)) (s .keys p (omega arith)))
 
 -- ---- questions 9 to 12 together
 
@@ -135,30 +135,6 @@ store-passes xs s t =
     ∙ ask-yes (number 11) (question11 xs) _ (rows-pass xs s)
     ∙ ask-yes (number 12) (question12 xs) none t
 
--- and each no, in order
-pub refusal-9 : (xs : List ℕ) → question9 xs ≡ false → storeRefusal xs ≡ some (number 9)
-unfolding storeRefusal
-refusal-9 xs e = ask-no (number 9) (question9 xs) _ e
-
-pub refusal-10 : (xs : List ℕ) → question9 xs ≡ true → question10 xs ≡ false → storeRefusal xs ≡ some (number 10)
-unfolding storeRefusal
-refusal-10 xs a e = ask-yes (number 9) (question9 xs) _ a ∙ ask-no (number 10) (question10 xs) _ e
-
-pub refusal-11 : (xs : List ℕ) → Shape xs → question11 xs ≡ false → storeRefusal xs ≡ some (number 11)
-unfolding storeRefusal
-refusal-11 xs s e =
-    let q = shape-passes xs s in
-    ask-yes (number 9) (question9 xs) _ (q .0) ∙ ask-yes (number 10) (question10 xs) _ (q .1) ∙ ask-no (number 11) (question11 xs) _ e
-
-pub refusal-12 : (xs : List ℕ) → Sound xs → question12 xs ≡ false → storeRefusal xs ≡ some (number 12)
-unfolding storeRefusal
-refusal-12 xs s e =
-    let q = shape-passes xs (s .formed .shape) in
-    ask-yes (number 9) (question9 xs) _ (q .0)
-    ∙ ask-yes (number 10) (question10 xs) _ (q .1)
-    ∙ ask-yes (number 11) (question11 xs) _ (rows-pass xs s)
-    ∙ ask-no (number 12) (question12 xs) none e
-
 -- create's
 pub create-ok : (P C n : ℕ) → createRefusal P C n ≡ none → (numbersRight P C ≡ true) × (n ≡ sizeOf P C)
 unfolding createRefusal
@@ -171,45 +147,120 @@ create-ok P C n e =
 pub member-put : (k v j : ℕ) (rs : List Row) → j ≢ k → member j (keysIn (putRow k v rs)) ≡ member j (keysIn rs)
 unfolding member keysIn putRow
 member-put k v j [] n = rw (ne-eqb k j (λ e. n (sym e))) refl
-member-put k v j (r ∷ rs) n = go (member-put k v j rs n) (eqb (r .0) k) refl
+member-put k v j (r ∷ rs) n = go (member-put k v j rs n) (eqb (r .0) k) refl (ltb k (r .0)) refl
   where
-    go : member j (keysIn (putRow k v rs)) ≡ member j (keysIn rs) → (t : Bool) → eqb (r .0) k ≡ t → member j (keysIn (putRow k v (r ∷ rs))) ≡ member j (keysIn (r ∷ rs))
-    go ih true e = rw e refl
-    go ih false e = rw e (ap (λ (o : Bool). eqb (r .0) j || o) ih)
+    go : member j (keysIn (putRow k v rs)) ≡ member j (keysIn rs) → (t : Bool) → eqb (r .0) k ≡ t → (u : Bool) → ltb k (r .0) ≡ u
+        → member j (keysIn (putRow k v (r ∷ rs))) ≡ member j (keysIn (r ∷ rs))
+    go ih true e u f = rw e refl
+    go ih false e true f = rw (e, f, ne-eqb k j (λ q. n (sym q))) refl
+    go ih false e false f = rw (e, f) (ap (λ (o : Bool). eqb (r .0) j || o) ih)
+
+-- keys that are of a form and rise are unlike
+pub rises-unlike : (k : ℕ) (ks : List ℕ) → rising (k ∷ ks) ≡ true → member k ks ≡ false
+unfolding rising ahead member
+rises-unlike k [] u = refl
+rises-unlike k (x ∷ ks) u =
+    let l : k < x = ltb-true k x (and-left (ltb k x) _ u) in
+    rw (ne-eqb x k (omega arith)) (rises-unlike k ks (lower ks (and-right (ltb k x) _ u)))
+  where
+    lower : (ks : List ℕ) → rising (x ∷ ks) ≡ true → rising (k ∷ ks) ≡ true
+    lower [] w = refl
+    lower (y ∷ ys) w = and-both (ltb k y) _ (lt-ltb k y (omega (arith, ltb-true x y (and-left (ltb x y) _ w), ltb-true k x (and-left (ltb k x) _ u)))) (and-right (ltb x y) _ w)
+
+rises-apart : (b : Bool) (ks : List ℕ) → allIn (isForm b) ks ≡ true → rising ks ≡ true → keysApart b ks ≡ true
+unfolding keysApart allIn rising
+rises-apart b [] a u = refl
+rises-apart b (k ∷ ks) a u =
+    and-both (isForm b k) _ (and-left (isForm b k) _ a)
+    (and-both (not (member k ks)) _ (ap not (rises-unlike k ks u)) (rises-apart b ks (and-right (isForm b k) _ a) (and-right (ahead k ks) _ u)))
+
+pub keys-rise : (b : Bool) (ks : List ℕ) → allIn (isForm b) ks ≡ true → rising ks ≡ true → keysOk b ks ≡ true
+unfolding keysOk
+keys-rise b ks a u = and-both (keysApart b ks) _ (rises-apart b ks a u) u
+
+-- and back
+pub apart-forms : (b : Bool) (ks : List ℕ) → keysApart b ks ≡ true → allIn (isForm b) ks ≡ true
+unfolding keysApart allIn
+apart-forms b [] h = refl
+apart-forms b (k ∷ ks) h = and-both (isForm b k) _ (and-left (isForm b k) _ h) (apart-forms b ks (and-right (not (member k ks)) _ (and-right (isForm b k) _ h)))
+
+-- a key of no form has no row
+pub no-form : (b : Bool) (k : ℕ) (rows : List Row) → allIn (isForm b) (keysIn rows) ≡ true → isForm b k ≡ false → lookup k rows ≡ none
+unfolding allIn keysIn lookup
+no-form b k [] h n = refl
+no-form b k (r ∷ rows) h n =
+    rw (ne-eqb (r .0) k (λ e. yes-no (sym (and-left (isForm b (r .0)) _ h) ∙ ap (isForm b) e ∙ n))) (no-form b k rows (and-right (isForm b (r .0)) _ h) n)
+
+pub keys-apart : (b : Bool) (ks : List ℕ) → keysOk b ks ≡ true → keysApart b ks ≡ true
+unfolding keysOk
+keys-apart b ks h = and-left (keysApart b ks) (rising ks) h
+
+pub keys-rising : (b : Bool) (ks : List ℕ) → keysOk b ks ≡ true → rising ks ≡ true
+unfolding keysOk
+keys-rising b ks h = and-right (keysApart b ks) (rising ks) h
+
+pub all-put : (f : ℕ → Bool) (k v : ℕ) (rs : List Row) → f k ≡ true → allIn f (keysIn rs) ≡ true → allIn f (keysIn (putRow k v rs)) ≡ true
+unfolding allIn keysIn putRow
+all-put f k v [] h a = and-both (f k) true h refl
+all-put f k v (r ∷ rs) h a = go (all-put f k v rs h (and-right (f (r .0)) _ a)) (eqb (r .0) k) refl (ltb k (r .0)) refl
+  where
+    go : allIn f (keysIn (putRow k v rs)) ≡ true → (t : Bool) → eqb (r .0) k ≡ t → (u : Bool) → ltb k (r .0) ≡ u → allIn f (keysIn (putRow k v (r ∷ rs))) ≡ true
+    go ih true e u w = rw e a
+    go ih false e true w = rw (e, w) (and-both (f k) _ h a)
+    go ih false e false w = rw (e, w) (and-both (f (r .0)) _ (and-left (f (r .0)) _ a) ih)
+
+ahead-put : (x k v : ℕ) (rs : List Row) → x < k → ahead x (keysIn rs) ≡ true → ahead x (keysIn (putRow k v rs)) ≡ true
+unfolding ahead keysIn putRow
+ahead-put x k v [] l h = lt-ltb x k l
+ahead-put x k v (r ∷ rs) l h = go (eqb (r .0) k) refl (ltb k (r .0)) refl
+  where
+    go : (t : Bool) → eqb (r .0) k ≡ t → (u : Bool) → ltb k (r .0) ≡ u → ahead x (keysIn (putRow k v (r ∷ rs))) ≡ true
+    go true e u w = rw e h
+    go false e true w = rw (e, w) (lt-ltb x k l)
+    go false e false w = rw (e, w) h
+
+pub rising-put : (k v : ℕ) (rs : List Row) → rising (keysIn rs) ≡ true → rising (keysIn (putRow k v rs)) ≡ true
+unfolding rising ahead keysIn putRow
+rising-put k v [] u = refl
+rising-put k v (r ∷ rs) u = go (rising-put k v rs (and-right (ahead (r .0) (keysIn rs)) _ u)) (eqb (r .0) k) refl (ltb k (r .0)) refl
+  where
+    go : rising (keysIn (putRow k v rs)) ≡ true → (t : Bool) → eqb (r .0) k ≡ t → (w : Bool) → ltb k (r .0) ≡ w → rising (keysIn (putRow k v (r ∷ rs))) ≡ true
+    go ih true e w f = rw e u
+    go ih false e true f = rw (e, f) (and-both (ltb k (r .0)) _ f u)
+    go ih false e false f =
+        rw (e, f)
+        (and-both (ahead (r .0) (keysIn (putRow k v rs))) _
+        (ahead-put (r .0) k v rs (omega (arith, ltb-false k (r .0) f, eqb-false (r .0) k e)) (and-left (ahead (r .0) (keysIn rs)) _ u))
+        ih)
 
 -- the keys after a put
 pub keys-put : (b : Bool) (k v : ℕ) (rs : List Row) → isForm b k ≡ true → keysOk b (keysIn rs) ≡ true → keysOk b (keysIn (putRow k v rs)) ≡ true
-unfolding keysOk keysIn putRow member
-keys-put b k v [] f h = and-both (isForm b k) true f refl
-keys-put b k v (r ∷ rs) f h = go (keys-put b k v rs f) (eqb (r .0) k) refl
-  where
-    go : (keysOk b (keysIn rs) ≡ true → keysOk b (keysIn (putRow k v rs)) ≡ true) → (t : Bool) → eqb (r .0) k ≡ t → keysOk b (keysIn (putRow k v (r ∷ rs))) ≡ true
-    go ih true e = rw e h
-    go ih false e =
-        let h1 = and-right (isForm b (r .0)) _ h in
-        rw e
-        (and-both (isForm b (r .0)) _ (and-left (isForm b (r .0)) _ h)
-        (and-both (not (member (r .0) (keysIn (putRow k v rs)))) _
-        (ap not (member-put k v (r .0) rs (λ q. yes-no (sym (eq-eqb (r .0) k q) ∙ e))) ∙ and-left (not (member (r .0) (keysIn rs))) _ h1)
-        (ih (and-right (not (member (r .0) (keysIn rs))) _ h1))))
+keys-put b k v rs f h =
+    keys-rise b (keysIn (putRow k v rs)) (all-put (isForm b) k v rs f (apart-forms b (keysIn rs) (keys-apart b (keysIn rs) h))) (rising-put k v rs (keys-rising b (keysIn rs) h))
 
-pub good-put : (st : Store) (p k v : ℕ) → KeysGood st → isForm (eqb p (st .parts)) k ≡ true → KeysGood (alter p (putRow k v) st)
+-- and after a run of puts
+pub keys-put-all : (b : Bool) (ps rs : List Row) → allIn (isForm b) (keysIn ps) ≡ true → keysOk b (keysIn rs) ≡ true → keysOk b (keysIn (putAll ps rs)) ≡ true
+unfolding putAll keysIn allIn
+keys-put-all b [] rs a h = h
+keys-put-all b (r ∷ ps) rs a h =
+    keys-put-all b ps (putRow (r .0) (r .1) rs) (and-right (isForm b (r .0)) _ a) (keys-put b (r .0) (r .1) rs (and-left (isForm b (r .0)) _ a) h)
+
+good-alter : (st : Store) (p : ℕ) (f : List Row → List Row) → KeysGood st → keysOk (eqb p (st .parts)) (keysIn (f (st .rows p))) ≡ true → KeysGood (alter p f st)
 unfolding KeysGood
-good-put st p k v g f q l = go (ℕ-discrete q p)
+good-alter st p f g k q l = go (ℕ-discrete q p)
   where
-    same : alter p (putRow k v) st .parts ≡ st .parts
+    same : alter p f st .parts ≡ st .parts
     same = unfold alter in refl
 
-    go : Dec (q ≡ p) → keysOk (eqb q (alter p (putRow k v) st .parts)) (keysIn (alter p (putRow k v) st .rows q)) ≡ true
-    go (yes e) =
-        rw (same, e, alter-here p (putRow k v) st)
-        (keys-put (eqb p (st .parts)) k v (st .rows p) f (g p (subst (λ (n : ℕ). n ≤ st .parts) e (subst (λ (n : ℕ). q ≤ n) same l))))
-    go (no n) = rw (same, alter-there p q (putRow k v) st n) (g q (subst (λ (n : ℕ). q ≤ n) same l))
+    go : Dec (q ≡ p) → keysOk (eqb q (alter p f st .parts)) (keysIn (alter p f st .rows q)) ≡ true
+    go (yes e) = rw (same, e, alter-here p f st) k
+    go (no n) = rw (same, alter-there p q f st n) (g q (subst (λ (n : ℕ). q ≤ n) same l))
 
--- a put to sound bytes leaves sound bytes
-pub stored-put : (xs ys : List ℕ) (p k v : ℕ) → Sound xs → isForm (eqb p (partsOf xs)) k ≡ true → Changed xs ys p (putRow k v) → Stored xs ys p (putRow k v)
-stored-put xs ys p k v s f c =
-    record { sound = record { formed = c .formed; keys = subst KeysGood (sym (c .is)) (good-put (storeOf xs) p k v (s .keys) f) }; is = c .is }
+-- a change of sound bytes that leaves the partition's keys in order leaves sound bytes
+pub stored-by : (xs ys : List ℕ) (p : ℕ) (f : List Row → List Row) → Sound xs → keysOk (eqb p (partsOf xs)) (keysIn (f (rowsOf xs p))) ≡ true → Changed xs ys p f →
+    Stored xs ys p f
+stored-by xs ys p f s k c =
+    record { sound = record { formed = c .formed; keys = subst KeysGood (sym (c .is)) (good-alter (storeOf xs) p f (s .keys) k) }; is = c .is }
 
 -- ---- tests of every key
 
@@ -277,10 +328,6 @@ length-put-all book (k ∷ ks) (v ∷ vs) rs e u a h =
     )
 
 -- ---- the keys that callers make are of a form of their partition
-
-pub data-form : (P p k : ℕ) → p < P → k < 2 ^ 32 → isForm (eqb p P) (dataKey k) ≡ true
-unfolding isForm
-data-form P p k l h = rw (ne-eqb p P (omega arith), data-is k h) refl
 
 pub log-form : (P p id t : ℕ) → p < P → id < 2 ^ 32 → t < 65536 → isForm (eqb p P) (logKey id t) ≡ true
 unfolding isForm

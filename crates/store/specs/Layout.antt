@@ -1,10 +1,15 @@
 -- A store in bytes: P partitions and one more, the book, numbered P; each has C rows. Bytes: P (1), C (2), P + 1 used counts (2 each),
 -- then two parallel arrays: (P + 1) × C keys (8 each), as many values (4 each). Assumes nothing: these are definitions.
 use mathlib.Core.List.{List}
-use Prim.Native.Nat.{ℕ, _+_, _*_}
+use Prim.Native.Nat.{ℕ, _+_, _*_, _<_}
 use lib.Dec.{leb}
+use lib.ListN.{getD}
 use Rattle.words.specs.Words.{le}
 use Rattle.rules.specs.Basics.{if_then_else_}
+
+-- each is a byte, as in every lent buffer
+abbrev pub AllBytes : List ℕ → Type 0
+AllBytes xs = (j : ℕ) → getD xs j 0 < 256
 
 -- P
 abbrev pub partsOf : (xs : List ℕ) → ℕ

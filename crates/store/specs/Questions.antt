@@ -3,7 +3,7 @@ use mathlib.Core.Bool.{Bool, true, false, not, _&&_, _||_}
 use mathlib.Core.List.{List, [], _∷_}
 use mathlib.Core.Option.{Option, none}
 use Prim.Native.Nat.{ℕ, _+_, _-_, _/_}
-use lib.Dec.{eqb, leb}
+use lib.Dec.{eqb, leb, ltb}
 use lib.ListN.{length}
 use Rattle.words.specs.Words.{le}
 use Rattle.rules.specs.Basics.{if_then_else_, eachFrom, each}
@@ -38,25 +38,48 @@ unfoldable pub unlike : List ℕ → Bool
 unlike [] = true
 unlike (k ∷ ks) = not (member k ks) && unlike ks
 
--- each key is of a form and unlike the others
+-- each key is of a form and unlike the others: what question 11 asks of the keys of a store in any order
+unfoldable pub keysApart : (book : Bool) → List ℕ → Bool
+keysApart b [] = true
+keysApart b (k ∷ ks) = isForm b k && (not (member k ks) && keysApart b ks)
+
+-- k is less than the first of ks, if there is one
+unfoldable pub ahead : (k : ℕ) → List ℕ → Bool
+ahead k [] = true
+ahead k (x ∷ ks) = ltb k x
+
+-- each key is less than the next
+unfoldable pub rising : List ℕ → Bool
+rising [] = true
+rising (k ∷ ks) = ahead k ks && rising ks
+
+-- each key is of a form and unlike the others, and they rise
 unfoldable pub keysOk : (book : Bool) → List ℕ → Bool
-keysOk b [] = true
-keysOk b (k ∷ ks) = isForm b k && (not (member k ks) && keysOk b ks)
+keysOk b ks = keysApart b ks && rising ks
 
 -- row i of partition p is zero, its key and its value
 unfoldable pub blankRow : (xs : List ℕ) (p i : ℕ) → Bool
 blankRow xs p i = eqb (le 8 xs (keyAt xs p i)) 0 && eqb (le 4 xs (valueAt xs p i)) 0
 
--- 11 of partition p
-unfoldable pub partOk : (xs : List ℕ) (p : ℕ) → Bool
-partOk xs p =
+-- 11 of partition p, by what it asks of the keys
+unfoldable pub partOkBy : (keys : (book : Bool) → List ℕ → Bool) → (xs : List ℕ) (p : ℕ) → Bool
+partOkBy keys xs p =
     leb (usedOf xs p) (capOf xs)
-    && keysOk (eqb p (partsOf xs)) (keysIn (rowsOf xs p))
+    && keys (eqb p (partsOf xs)) (keysIn (rowsOf xs p))
     && eachFrom (blankRow xs p) (capOf xs - usedOf xs p) (usedOf xs p)
 
--- 11. Is each used count at most C, each used key of a form of its partition and unlike the others there, each unused row zero?
+-- 11 of partition p
+abbrev pub partOk : (xs : List ℕ) (p : ℕ) → Bool
+partOk xs p = partOkBy keysOk xs p
+
+-- 11. Is each used count at most C, each used key of a form of its partition and unlike the others there, each unused row zero, and are the
+-- used keys rising?
 unfoldable pub question11 : (xs : List ℕ) → Bool
 question11 xs = each (partsOf xs + 1) (partOk xs)
+
+-- all of 11 but the rising keys, as order asks it
+unfoldable pub question11InAnyOrder : (xs : List ℕ) → Bool
+question11InAnyOrder xs = each (partsOf xs + 1) (partOkBy keysApart xs)
 
 -- f holds at each of ks
 unfoldable pub allIn : (ℕ → Bool) → (ks : List ℕ) → Bool
@@ -81,6 +104,15 @@ storeRefusal xs =
     ask (number 9) (question9 xs)
     (ask (number 10) (question10 xs)
     (ask (number 11) (question11 xs)
+    (ask (number 12) (question12 xs)
+    none)))
+
+-- Order puts 9 to 12, of 11 all but the rising keys.
+unfoldable pub orderRefusal : (xs : List ℕ) → Option No
+orderRefusal xs =
+    ask (number 9) (question9 xs)
+    (ask (number 10) (question10 xs)
+    (ask (number 11) (question11InAnyOrder xs)
     (ask (number 12) (question12 xs)
     none)))
 

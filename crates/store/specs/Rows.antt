@@ -1,9 +1,9 @@
--- What a store holds: for each partition its used rows, each a key with its value. What is said of rows is said by key; their order is
--- open. Assumes nothing: these are definitions.
-use mathlib.Core.List.{List, [], _∷_, _++_, map}
+-- What a store holds: for each partition its used rows, each a key with its value; where question 11 says yes, by rising key. Assumes
+-- nothing: these are definitions.
+use mathlib.Core.List.{List, [], _∷_, map}
 use mathlib.Core.Option.{Option, none, some}
 use Prim.Native.Nat.{ℕ, zero, suc, _+_}
-use lib.Dec.{eqb}
+use lib.Dec.{eqb, ltb}
 use Rattle.words.specs.Words.{fields}
 use Rattle.rules.specs.Basics.{if_then_else_}
 use Rattle.store.specs.Layout.{partsOf, capOf, keyAt, valueAt, usedOf}
@@ -49,10 +49,10 @@ unfoldable pub lookup : (k : ℕ) → List Row → Option ℕ
 lookup k [] = none
 lookup k (r ∷ rs) = if eqb (r .0) k then some (r .1) else lookup k rs
 
--- value v at key k: in k's row, or in one row more
+-- value v at key k: in k's row, or in one row more, ahead of the first greater key
 unfoldable pub putRow : (k v : ℕ) → List Row → List Row
 putRow k v [] = (k, v) ∷ []
-putRow k v (r ∷ rs) = if eqb (r .0) k then (r .0, v) ∷ rs else r ∷ putRow k v rs
+putRow k v (r ∷ rs) = if eqb (r .0) k then (r .0, v) ∷ rs else (if ltb k (r .0) then (k, v) ∷ r ∷ rs else r ∷ putRow k v rs)
 
 -- the puts of ps, one after the other
 unfoldable pub putAll : (ps : List Row) → List Row → List Row
@@ -85,6 +85,23 @@ setValue [] i v = []
 setValue (r ∷ rs) zero v = (r .0, v) ∷ rs
 setValue (r ∷ rs) (suc i) v = r ∷ setValue rs i v
 
--- the rows and one more
-unfoldable pub addRow : (k v : ℕ) → List Row → List Row
-addRow k v rs = rs ++ (k, v) ∷ []
+-- the place where key k belongs: ahead of the first key that isn't smaller
+unfoldable pub rankOf : (k : ℕ) → List Row → ℕ
+rankOf k [] = 0
+rankOf k (r ∷ rs) = if ltb (r .0) k then suc (rankOf k rs) else 0
+
+-- the same among keys
+unfoldable pub rankIn : (k : ℕ) → List ℕ → ℕ
+rankIn k [] = 0
+rankIn k (x ∷ xs) = if ltb x k then suc (rankIn k xs) else 0
+
+-- 1 where the first row has key k, else 0
+unfoldable pub firstHas : (k : ℕ) → List Row → ℕ
+firstHas k [] = 0
+firstHas k (r ∷ rs) = if eqb (r .0) k then 1 else 0
+
+-- a list and one more at place i, those from there on moved up
+unfoldable pub insertAt : {A : Type 0} → List A → (i : ℕ) → A → List A
+insertAt xs zero x = x ∷ xs
+insertAt [] (suc i) x = x ∷ []
+insertAt (y ∷ xs) (suc i) x = y ∷ insertAt xs i x

@@ -29,7 +29,7 @@ pub record Formed (xs : List ℕ) : Type 0 where
   pub shape : Shape xs
   pub filled : (p : ℕ) → p ≤ partsOf xs → Filled xs p
 
--- of question 11: the keys of every partition are of a form and unlike
+-- of question 11: the keys of every partition are of a form and unlike, and they rise
 unfoldable pub KeysGood : Store → Type 0
 KeysGood st = (p : ℕ) → p ≤ st .parts → keysOk (eqb p (st .parts)) (keysIn (st .rows p)) ≡ true
 

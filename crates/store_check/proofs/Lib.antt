@@ -1,2 +1,5 @@
 pub mod Steps
 pub mod Marks
+pub mod Rising
+pub mod Five
+pub mod Asked

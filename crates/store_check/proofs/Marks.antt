@@ -2,7 +2,7 @@
 -- Assumes nothing.
 use mathlib.Core.Bool.{Bool, true, false, not, _&&_}
 use mathlib.Core.List.{List, [], _∷_}
-use mathlib.Core.Path.{_≡_, refl, sym, ap, _∙_}
+use mathlib.Core.Path.{_≡_, refl, ap, _∙_}
 use Prim.Native.Nat.{ℕ, zero, suc, _+_, _*_, _-_, _%_, _≤_, _<_}
 use native.Mathlib.Decide.{ℕ-discrete}
 use native.Mathlib.Omega.{arith}
@@ -12,7 +12,7 @@ use lib.ListN.{length, getD, set}
 use lib.Seq.{getD-set-same, getD-set-other}
 use Rattle.words.specs.Words.{le, fields}
 use Rattle.rules.proofs.Tests.{and-left, and-right, and-both, and-false}
-use Rattle.store.specs.Questions.{isForm, member, keysOk, allIn}
+use Rattle.store.specs.Questions.{isForm, member, keysApart, allIn}
 use Rattle.store.proofs.Sound.{in-all}
 use Rattle.store_check.proofs.Steps.{keys-step, all-step}
 
@@ -50,14 +50,14 @@ module _ (marks : List ℕ) (mark p : ℕ) (h : p < length marks) where
 -- ---- keys passed, from the last to the first
 
 -- all of them are passed
-pub keys-all : (b t : Bool) (xs : List ℕ) (from n i at : ℕ) → i ≡ 0 → at ≡ from + 8 * i → keysOk b (fields 8 xs at (n - i)) ≡ t → keysOk b (fields 8 xs from n) ≡ t
+pub keys-all : (b t : Bool) (xs : List ℕ) (from n i at : ℕ) → i ≡ 0 → at ≡ from + 8 * i → keysApart b (fields 8 xs at (n - i)) ≡ t → keysApart b (fields 8 xs from n) ≡ t
 keys-all b t xs from n i at z e k =
     let e0 : at ≡ from = omega arith in
     let e1 : n - i ≡ n = omega arith in
     rw (e0, e1) at k
 
 -- where those that are passed fail, all fail
-keys-rear : (b : Bool) (xs : List ℕ) (from n i at : ℕ) → i ≤ n → at ≡ from + 8 * i → keysOk b (fields 8 xs at (n - i)) ≡ false → keysOk b (fields 8 xs from n) ≡ false
+keys-rear : (b : Bool) (xs : List ℕ) (from n i at : ℕ) → i ≤ n → at ≡ from + 8 * i → keysApart b (fields 8 xs at (n - i)) ≡ false → keysApart b (fields 8 xs from n) ≡ false
 keys-rear b xs from n zero at h e f = keys-all b false xs from n 0 at refl e f
 keys-rear b xs from zero (suc i) at h e f = absurd (omega arith)
 keys-rear b xs from (suc n) (suc i) at h e f =
@@ -67,18 +67,18 @@ keys-rear b xs from (suc n) (suc i) at h e f =
 
 -- k is the key ahead of those that are passed, which begin at `at`
 module _ (xs : List ℕ) (from n i at k : ℕ) (h : i ≤ n) (g : 0 < i) (e : at ≡ from + 8 * i) (q : k ≡ le 8 xs (at - 8)) where
-  ahead : (b : Bool) → keysOk b (fields 8 xs (at - 8) (n - (i - 1))) ≡ (isForm b k && (not (member k (fields 8 xs at (n - i))) && keysOk b (fields 8 xs at (n - i))))
+  ahead : (b : Bool) → keysApart b (fields 8 xs (at - 8) (n - (i - 1))) ≡ (isForm b k && (not (member k (fields 8 xs at (n - i))) && keysApart b (fields 8 xs at (n - i))))
   ahead b =
       let o : at - 8 + 8 ≡ at = omega arith in
       rw (q, keys-step b xs (at - 8) (n - (i - 1)) (n - i) (omega arith), o) refl
 
-  pub no-form : (b : Bool) → isForm b k ≡ false → keysOk b (fields 8 xs from n) ≡ false
+  pub no-form : (b : Bool) → isForm b k ≡ false → keysApart b (fields 8 xs from n) ≡ false
   no-form b f = keys-rear b xs from n (i - 1) (at - 8) (omega arith) (omega arith) (ahead b ∙ rw f refl)
 
-  pub key-twice : (b : Bool) → member k (fields 8 xs at (n - i)) ≡ true → keysOk b (fields 8 xs from n) ≡ false
+  pub key-twice : (b : Bool) → member k (fields 8 xs at (n - i)) ≡ true → keysApart b (fields 8 xs from n) ≡ false
   key-twice b m = keys-rear b xs from n (i - 1) (at - 8) (omega arith) (omega arith) (ahead b ∙ rw m (and-false (isForm b k)))
 
-  pub key-more : (b : Bool) → isForm b k ≡ true → member k (fields 8 xs at (n - i)) ≡ false → keysOk b (fields 8 xs at (n - i)) ≡ true → keysOk b (fields 8 xs (at - 8) (n - (i - 1))) ≡ true
+  pub key-more : (b : Bool) → isForm b k ≡ true → member k (fields 8 xs at (n - i)) ≡ false → keysApart b (fields 8 xs at (n - i)) ≡ true → keysApart b (fields 8 xs (at - 8) (n - (i - 1))) ≡ true
   key-more b f m o = ahead b ∙ rw (f, m, o) refl
 
   pub mark-more : (marks : List ℕ) (mark : ℕ) → k % 8179 < length marks → allIn (marked marks mark) (fields 8 xs at (n - i)) ≡ true → allIn (marked (set marks (k % 8179) mark) mark) (fields 8 xs (at - 8) (n - (i - 1))) ≡ true

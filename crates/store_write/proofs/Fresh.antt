@@ -14,7 +14,7 @@ use Rattle.words.specs.Words.{le, put, fields}
 use Rattle.words.proofs.Laws.{le-zero}
 use Rattle.store.specs.Layout.{partsOf, capOf, sizeOf, keyAt, valueAt, usedOf}
 use Rattle.store.specs.Rows.{pairs, keysIn, rowsOf, storeOf, emptyStore}
-use Rattle.store.specs.Questions.{numbersRight, keysOk, allIn, bookOk, question12, storeRefusal, createRefusal}
+use Rattle.store.specs.Questions.{numbersRight, keysApart, rising, keysOk, allIn, bookOk, question12, storeRefusal, createRefusal}
 use Rattle.store.specs.Sound.{KeysGood, Sound}
 use Rattle.store.specs.Created.{freshBytes, Created}
 use Rattle.rules.specs.Questions.{No, number}
@@ -82,7 +82,7 @@ module _ (P C : ℕ) where
   fresh-store = λ i. record { parts = fresh-parts i; cap = fresh-cap i; rows = fun-ext {f = rowsOf (freshBytes P C)} {g = λ p. []} no-rows i }
 
   pub fresh-sound : numbersRight P C ≡ true → Sound (freshBytes P C)
-  unfolding KeysGood keysIn keysOk
+  unfolding KeysGood keysIn keysOk keysApart rising
   fresh-sound ok =
       let n = numbers-mean P C ok in
       record {

@@ -1,21 +1,9 @@
 // A fresh store.
+use crate::bytes::clear;
 use rules::Verdict;
 use store::head::numbers_right;
 use store::head::store_size;
-ghost use mathlib.Core.Path.{_≡_};
-ghost use lib.ListN.{length, replicate};
 ghost use Rattle.store.specs.Created.{Created};
-
-// Makes every byte zero.
-fn clear(s: &mut [u8])
-    ensures { λ _. ⌜ now (s .exit) ≡ replicate (length (now (s .entry))) 0 ⌝ }
-{
-    let mut i = 0;
-    while i < s.len() {
-        s[i] = 0;
-        i += 1;
-    }
-}
 
 // Writes a fresh store of `parts` partitions and the book, of `cap` rows each. Refused, it leaves the bytes.
 pub fn create(s: &mut [u8], parts: usize, cap: usize) -> Verdict

@@ -43,6 +43,7 @@ use Rattle.block.proofs.Callers.{log-in, can-write, passes-block, no-room-same,
 use Rattle.meaning.specs.State.{contentsOf, valueIn, bookOf}
 use Rattle.meaning.specs.Carried.{Wrote}
 use Rattle.meaning.proofs.Sense.{begin-below}
+use Rattle.meaning.proofs.Equal.{only-bytes}
 use Rattle.meaning.proofs.Carry.{wrote-nothing}
 use Rattle.turn.specs.declared.Turned.{Turned}
 use Rattle.turn.specs.Turned.{Turnable, movedTo, replied, behindBlock, TurnedBy}
@@ -148,7 +149,8 @@ module _ (pack store : List ℕ) (a : Agent) (h : a .id < 2 ^ 32) (t : Turnable 
                 store-passes store′ (y .sound (f .0))
                 (subst (λ (rows : List Row). bookOk (keysIn rows) ≡ true) (sym (y .book-rows)) (f .1));
             holds = refl;
-            bytes = same-bytes book store store′ p lies (held a) (code pack store a h t) begin onto b logs through;
+            only = only-bytes store store′ (contentsOf (storeOf store′)) (y .parts) refl;
+            bytes = λ n. same-bytes book store store′ p lies (held a) (code pack store a h t) begin onto b logs through;
           }
 
       is-block : r ≡ behindBlock (code pack store a h t) a begin b → TurnedBy pack store a r store′

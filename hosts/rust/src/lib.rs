@@ -43,6 +43,7 @@ mod c {
             answer: *mut u8,
             answer_len: usize,
         ) -> u32;
+        pub fn sarthule_order(store: *mut u8, store_len: usize, answer: *mut u8, answer_len: usize) -> u32;
         pub fn sarthule_arrival(
             pack: *const u8,
             pack_len: usize,
@@ -111,7 +112,10 @@ pub fn question(number: u32) -> &'static str {
         8 => "Is the last instruction RETURN?",
         9 => "Are there three bytes, P 1 to 8, C 5 to 256?",
         10 => "Is the store's length right?",
-        11 => "Is each used count at most C, each used key of a form of its partition and unlike the others there, each unused row zero?",
+        11 => {
+            "Is each used count at most C, each used key of a form of its partition and unlike the others there, \
+             each unused row zero, and are the used keys rising?"
+        }
         12 => "Has each booked id all five rows?",
         13 => "Is each booked workflow below m, each BEGIN's partition below P?",
         14 => "Is each slot empty or sound?",
@@ -170,6 +174,12 @@ pub fn create(store: &mut [u8], partitions: usize, rows: usize) -> Answer {
         c::sarthule_create(store.as_mut_ptr(), store.len(), partitions, rows, a.as_mut_ptr(), a.len())
     };
     answer(n, &a)
+}
+
+/// Puts a store of an earlier library in order; one that is in order keeps its bytes.
+pub fn order(store: &mut [u8]) -> Answer {
+    let mut a = [0; 12];
+    answer(unsafe { c::sarthule_order(store.as_mut_ptr(), store.len(), a.as_mut_ptr(), a.len()) }, &a)
 }
 
 pub fn arrival(pack: &[u8], store: &mut [u8], slots: &mut Slots, slot: usize, request: Request) -> Answer {

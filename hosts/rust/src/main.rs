@@ -8,8 +8,11 @@
 //! The file holds the store and behind it the eight slots. After each call it is written whole to a temporary file, brought to the
 //! disk, and renamed over the old one. A program that is killed at any place leaves a file from which the next one goes on: agents
 //! that were under way are emptied by a restart and started again from the book; what was logged is not done a second time.
+//!
+//! An earlier library left rows in the order in which they came. The first move or retry on such a file puts them in order, writes the
+//! file back the same way, says so on the standard error, and only then goes on; show never writes.
 
-use sarthule::{arrival, create, question, restart, retry, store_bytes, turn, word, Answer, Request, Slots, EMPTY};
+use sarthule::{arrival, create, order, question, restart, retry, store_bytes, turn, word, Answer, Request, Slots, EMPTY};
 use std::error::Error;
 use std::fs::{self, File};
 use std::io::Write;
@@ -65,6 +68,32 @@ impl Stock {
         Ok(Self { path: path.into(), pack: pack(), store, slots })
     }
 
+    /// Puts the rows in memory in order. Whether they were not: a store in order keeps its bytes.
+    fn put_in_order(&mut self) -> Try<bool> {
+        let as_read = self.store.clone();
+        said(order(&mut self.store))?;
+        Ok(self.store != as_read)
+    }
+
+    /// For a command that goes on from the file: an older one is written back in order first.
+    fn load_in_order(path: &Path) -> Try<Self> {
+        let mut stock = Self::load(path)?;
+        if stock.put_in_order()? {
+            stock.save()?;
+            eprintln!("{}: rows put in order", path.display());
+        }
+        Ok(stock)
+    }
+
+    /// For a command that only reads: the file stays as it is.
+    fn load_to_show(path: &Path) -> Try<Self> {
+        let mut stock = Self::load(path)?;
+        if stock.put_in_order()? {
+            eprintln!("{}: rows not in order yet", path.display());
+        }
+        Ok(stock)
+    }
+
     /// All of it to a temporary file, to the disk, and then to the name in one step.
     fn save(&self) -> Try<()> {
         let mut temporary = self.path.clone().into_os_string();
@@ -118,23 +147,29 @@ impl Stock {
         self.run(0)
     }
 
-    fn show(&self) {
-        let number = |at: usize, n: usize| (0..n).rev().fold(0u64, |x, i| x << 8 | u64::from(self.store[at + i]));
-        let (p, c) = (usize::from(self.store[0]), number(1, 2) as usize);
+    fn number_at(&self, at: usize, bytes: usize) -> u64 {
+        self.store[at..at + bytes].iter().rev().fold(0, |n, byte| n << 8 | u64::from(*byte))
+    }
+
+    /// The stored keys of a partition and their values, as they stand.
+    fn rows(&self, part: usize) -> impl Iterator<Item = (u64, u64)> + '_ {
+        let (p, c) = (usize::from(self.store[0]), self.number_at(1, 2) as usize);
         let keys = 3 + 2 * (p + 1);
         let values = keys + 8 * c * (p + 1);
-        for part in 0..p {
-            let used = number(3 + 2 * part, 2) as usize;
-            let row = |i: usize| (number(keys + 8 * (part * c + i), 8), number(values + 4 * (part * c + i), 4));
-            let mut rows: Vec<_> = (0..used).map(row).collect();
-            // data keys have their highest bit set; they are printed first
-            rows.sort_by_key(|(key, _)| key ^ 1 << 63);
-            for (key, value) in rows {
-                if key >> 63 == 1 {
-                    println!("row {part} {} {value}", key as u32);
-                } else {
-                    println!("log {part} {} {} {value}", key >> 16, key & 0xFFFF);
-                }
+        let used = self.number_at(3 + 2 * part, 2) as usize;
+        (part * c..part * c + used).map(move |row| (self.number_at(keys + 8 * row, 8), self.number_at(values + 4 * row, 4)))
+    }
+
+    /// By rising key a partition's log rows stand first; data rows are printed first all the same, as the schedule program does.
+    fn show(&self) {
+        for part in 0..usize::from(self.store[0]) {
+            // data keys have their highest bit set
+            let (data, log): (Vec<_>, Vec<_>) = self.rows(part).partition(|(key, _)| key >> 63 == 1);
+            for (key, value) in data {
+                println!("row {part} {} {value}", key as u32);
+            }
+            for (key, value) in log {
+                println!("log {part} {} {} {value}", key >> 16, key & 0xFFFF);
             }
         }
     }
@@ -166,18 +201,19 @@ fn command() -> Try<()> {
     let words: Vec<&str> = words.iter().map(String::as_str).collect();
     match words[..] {
         [path, "init", p, c] => Stock::init(Path::new(path), p.parse()?, c.parse()?).map(|_| ()),
-        [path, "show"] => Stock::load(Path::new(path)).map(|stock| stock.show()),
+        [path, "show"] => Stock::load_to_show(Path::new(path)).map(|stock| stock.show()),
         [path, "move", from, to, amount, "--id", id] => {
             let arguments = [from.parse()?, to.parse()?, amount.parse()?, 0];
             let request = Request { id: id.parse()?, workflow: 0, arguments };
-            let mut stock = Stock::load(Path::new(path))?;
+            let mut stock = Stock::load_in_order(Path::new(path))?;
             stock.recover()?;
             stock.move_goods(request)
         }
         [path, "retry", id] => {
-            let mut stock = Stock::load(Path::new(path))?;
+            let id = id.parse()?;
+            let mut stock = Stock::load_in_order(Path::new(path))?;
             stock.recover()?;
-            stock.retry(id.parse()?)
+            stock.retry(id)
         }
         _ => Err("FILE init P C | move FROM TO AMOUNT --id N | retry ID | show".into()),
     }

@@ -2,6 +2,7 @@
 
 use super::damage::damage;
 use super::near_miss::{any_near_miss, near_miss};
+use super::order::disorder;
 use super::packs::{encoded_pack, Bounds};
 use super::world::{changed, new_request, right_request, World};
 use crate::agents::{Agent, ALL_EMPTY, SLOTS};
@@ -10,7 +11,7 @@ use crate::cases::{CallCase, Case, ListCase, Order};
 use crate::pack::Pack;
 use crate::random::Random;
 use crate::schedule::{Event, Kind};
-use crate::store::{fresh, Key, Request, Shape, Store};
+use crate::store::{Key, Request, Shape, Store};
 
 /// A call that reads nothing but the pack.
 pub fn on_pack(pack: Vec<u8>, order: Order) -> Case {
@@ -100,23 +101,22 @@ pub fn case_on(world: World, order: Order) -> CallCase {
     }
 }
 
-/// A call on what a run left, its rows at times in another order.
+/// A call on what a run left.
 fn run_left(random: &mut Random) -> CallCase {
     let world = run_world(random);
     let order = any_order(random, &world);
-    let mut case = case_on(world, order);
-    if random.one_in(2) {
-        shuffle_rows(random, &mut case.store);
-    }
-    case
+    case_on(world, order)
 }
 
 pub fn after_run(random: &mut Random) -> Case {
     Case::Call(Box::new(run_left(random)))
 }
 
-/// One of the five calls, mostly one that will be accepted.
+/// One of the calls on store or slots, mostly one that will be accepted.
 pub fn any_order(random: &mut Random, world: &World) -> Order {
+    if random.one_in(24) {
+        return Order::Call(Call::PutInOrder);
+    }
     let event = match random.below(3) {
         0 => world.next_event(random),
         _ => {
@@ -141,26 +141,6 @@ fn some_wrong_slot(random: &mut Random) -> u32 {
     random.pick(&[8, 9, 15, 16, 255, 256, 65_536, 1 << 31, u32::MAX])
 }
 
-/// Rows may stand in any order.
-pub fn shuffle_rows(random: &mut Random, bytes: &mut Vec<u8>) {
-    let Ok(store) = Store::lay_out(bytes.clone()) else {
-        return;
-    };
-    let shape = store.shape();
-    let Ok(empty) = fresh(shape.partitions as u32, shape.rows as u32) else {
-        return;
-    };
-    let mut shuffled = Store::lay_out(empty).expect("a fresh store");
-    for partition in 0..=shape.book() {
-        let mut rows: Vec<_> = store.rows(partition).collect();
-        random.shuffle(&mut rows);
-        for (key, value) in rows {
-            shuffled.put(partition, key, value);
-        }
-    }
-    *bytes = shuffled.bytes().to_vec();
-}
-
 /// Right states that no run leaves: rows of ids that are not booked, records anywhere.
 pub fn odd(random: &mut Random) -> Case {
     let mut world = run_world(random);
@@ -179,12 +159,11 @@ pub fn odd(random: &mut Random) -> Case {
     }
     world.store = store.bytes().to_vec();
     let order = any_order(random, &world);
-    let mut case = case_on(world, order);
-    shuffle_rows(random, &mut case.store);
-    Case::Call(Box::new(case))
+    Case::Call(Box::new(case_on(world, order)))
 }
 
-fn any_key(random: &mut Random) -> u64 {
+/// A key of a data partition.
+pub fn any_key(random: &mut Random) -> u64 {
     let word = random.word();
     match random.one_in(2) {
         true => Key::Data(word),
@@ -241,7 +220,7 @@ pub fn damaged_twice(random: &mut Random) -> Case {
 }
 
 /// A world with room for a request that is booked, so that there is something to damage.
-fn booked_world(random: &mut Random) -> World {
+pub fn booked_world(random: &mut Random, rows: usize) -> World {
     let bounds = Bounds {
         workflows: random.between(1, 3),
         least_size: 3,
@@ -249,7 +228,6 @@ fn booked_world(random: &mut Random) -> World {
         partitions: random.between(1, 3),
         with_blocks: true,
     };
-    let rows = random.between(5, 12);
     let mut world = World::new(random, bounds, rows, 3);
     world.schedule.requests[0].workflow = random.below(bounds.workflows) as u32;
     let request = world.schedule.requests[0];
@@ -261,14 +239,16 @@ fn booked_world(random: &mut Random) -> World {
 }
 
 fn booked_case(random: &mut Random) -> CallCase {
-    let world = booked_world(random);
+    let rows = random.between(5, 12);
+    let world = booked_world(random, rows);
     let order = any_order(random, &world);
     case_on(world, order)
 }
 
 /// A call aimed at a question from 15 to 20, or at 24.
 pub fn wrong(random: &mut Random, question: u8, lane: usize) -> Case {
-    let mut world = booked_world(random);
+    let rows = random.between(5, 12);
+    let mut world = booked_world(random, rows);
     if world.slots.iter().all(|agent| agent.in_use) {
         world.slots[random.below(SLOTS)] = Agent::EMPTY;
     }
@@ -417,11 +397,17 @@ fn zero_arrives(random: &mut Random, world: &mut World, empty: u32, lane: usize)
 }
 
 /// Calls on an older store that has 0 in its book: its request is retried, up to its reply
-/// or with whatever comes between, and it arrives again, as it was or changed.
+/// or with whatever comes between, and it arrives again, as it was or changed. In half of the
+/// lists the store is in another order too, and is put in order first.
 pub fn older(random: &mut Random, lane: usize) -> Case {
     let mut world = World::small(random);
     let zero = world.book_zero(random);
-    let (store, slots) = (world.store.clone(), world.slots);
+    let (mut store, slots) = (world.store.clone(), world.slots);
+    let mut calls = Vec::new();
+    if lane / 2 % 2 == 1 {
+        disorder(random, &mut store, lane / 4);
+        calls.push(Call::PutInOrder);
+    }
     let slot = random.below(3) as u8;
     let retry = Event {
         kind: Kind::Retry,
@@ -433,7 +419,6 @@ pub fn older(random: &mut Random, lane: usize) -> Case {
         slot,
         request: 0,
     };
-    let mut calls = Vec::new();
     let mut happens = |world: &mut World, event: Event| {
         calls.push(world.schedule.call(&event));
         world.apply(event);

@@ -1,5 +1,6 @@
 //! A right state damaged in one place: each damage is aimed at a question from 9 to 14.
 
+use super::order::{disorder, equal_neighbours};
 use crate::agents::{Agent, SLOTS};
 use crate::bytes::write_at;
 use crate::cases::CallCase;
@@ -68,14 +69,10 @@ fn wrong_rows(random: &mut Random, bytes: &mut [u8], lane: usize) {
     let Some((shape, partition, used)) = partition_in_use(random, bytes) else {
         return;
     };
-    let row = random.below(used);
-    match lane % 9 {
+    match lane % 10 {
         0 => used_above_rows(random, bytes, shape),
         1 => set_used(bytes, shape, partition, used - 1),
-        2 if used >= 2 => {
-            let key = key_at(bytes, shape, partition, (row + 1) % used);
-            set_key(bytes, shape, partition, row, key);
-        }
+        2 if used >= 2 => equal_neighbours(random, bytes, partition),
         3 if used < shape.rows => {
             let unused = random.between(used, shape.rows - 1);
             dirty_unused(random, bytes, shape, partition, unused);
@@ -83,7 +80,11 @@ fn wrong_rows(random: &mut Random, bytes: &mut [u8], lane: usize) {
         // Two unused rows become two used ones with key 0.
         4 if used + 2 <= shape.rows => set_used(bytes, shape, partition, used + 2),
         sort @ 5..=7 => formless_in_book(random, bytes, shape, sort),
-        _ => formless_in_data(random, bytes, shape),
+        8 => formless_in_data(random, bytes, shape),
+        _ => {
+            let way = random.below(1_000);
+            disorder(random, bytes, way);
+        }
     }
 }
 
@@ -112,18 +113,20 @@ fn dirty_unused(random: &mut Random, bytes: &mut [u8], shape: Shape, partition: 
     }
 }
 
-/// The book's first row gets a key that is none of a book.
+/// The book's last row gets a key that is none of a book; the keys still rise.
 fn formless_in_book(random: &mut Random, bytes: &mut [u8], shape: Shape, sort: usize) {
-    let key = key_at(bytes, shape, shape.book(), 0);
+    let used = Store::lay_out(&*bytes).map_or(0, |store| store.used(shape.book()));
+    let last = used.clamp(1, shape.rows) - 1;
+    let key = key_at(bytes, shape, shape.book(), last);
     let wrong = match sort {
         5 => key / 8 * 8 + random.between(5, 7) as u64,
         6 => key | 1 << random.between(35, 62),
         _ => Key::Data(key as u32).stored(),
     };
-    set_key(bytes, shape, shape.book(), 0, wrong);
+    set_key(bytes, shape, shape.book(), last, wrong);
 }
 
-/// A data partition gets a row that is neither data nor log.
+/// A data partition gets a row that is neither data nor log; the keys still rise.
 fn formless_in_data(random: &mut Random, bytes: &mut [u8], shape: Shape) {
     let partition = random.below(shape.partitions);
     let (id, step) = (random.word(), random.below(4) as u16);
@@ -134,6 +137,14 @@ fn formless_in_data(random: &mut Random, bytes: &mut [u8], shape: Shape) {
     let put = Store::lay_out(&mut *bytes).map(|mut store| store.put(partition, wrong, 1));
     if put != Ok(true) {
         set_key(bytes, shape, partition, 0, wrong);
+        sort_rows(bytes);
+    }
+}
+
+/// By rising key, whatever else is wrong with them.
+fn sort_rows(bytes: &mut [u8]) {
+    if let Ok(mut store) = Store::lay_out(bytes) {
+        store.put_in_order();
     }
 }
 
@@ -143,6 +154,18 @@ fn key_at(bytes: &[u8], shape: Shape, partition: usize, row: usize) -> u64 {
 
 fn set_key(bytes: &mut [u8], shape: Shape, partition: usize, row: usize, key: u64) {
     write_at(bytes, shape.key_at(partition, row), &key.to_le_bytes());
+}
+
+/// Writes key and value of a row.
+pub fn set_row(
+    bytes: &mut [u8],
+    shape: Shape,
+    partition: usize,
+    row: usize,
+    (key, value): (u64, u32),
+) {
+    set_key(bytes, shape, partition, row, key);
+    write_at(bytes, shape.value_at(partition, row), &value.to_le_bytes());
 }
 
 fn set_used(bytes: &mut [u8], shape: Shape, partition: usize, used: usize) {
@@ -170,37 +193,27 @@ fn wrong_book(random: &mut Random, bytes: &mut [u8], lane: usize) {
             let lone = book_key(random.number() as u32, random.below(5) as u8);
             store.put(book, lone, 0);
         }
-        1 if used > 0 => remove_row(bytes, shape, book, row, used),
+        1 if used > 0 => remove_row(bytes, shape, book, row),
         // The row is another id's now.
-        _ => set_key(
-            bytes,
-            shape,
-            book,
-            row,
-            (key ^ 1 << random.between(20, 34)) % (1 << 35),
-        ),
+        _ => {
+            let other = (key ^ 1 << random.between(20, 34)) % (1 << 35);
+            set_key(bytes, shape, book, row, other);
+            sort_rows(bytes);
+        }
     }
 }
 
-/// The last used row takes the place of the removed one.
-fn remove_row(bytes: &mut [u8], shape: Shape, partition: usize, row: usize, used: usize) {
-    let last = used - 1;
-    for (from, to, length) in [
-        (
-            shape.key_at(partition, last),
-            shape.key_at(partition, row),
-            8,
-        ),
-        (
-            shape.value_at(partition, last),
-            shape.value_at(partition, row),
-            4,
-        ),
-    ] {
-        bytes.copy_within(from..from + length, to);
-        bytes[from..from + length].fill(0);
+/// The rows behind the removed one move up.
+fn remove_row(bytes: &mut [u8], shape: Shape, partition: usize, row: usize) {
+    let store = Store::lay_out(&*bytes).expect("laid out");
+    let mut rows: Vec<_> = store.rows(partition).collect();
+    rows.remove(row);
+    let used = rows.len();
+    set_used(bytes, shape, partition, used);
+    rows.push((0, 0));
+    for (row, content) in rows.into_iter().enumerate() {
+        set_row(bytes, shape, partition, row, content);
     }
-    set_used(bytes, shape, partition, last);
 }
 
 /// Question 13: a booked workflow that the pack has not, or a BEGIN beyond P.

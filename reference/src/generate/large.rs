@@ -1,6 +1,7 @@
 //! The few cases that are large.
 
 use super::calls::{any_order, case_on, on_pack};
+use super::order::{disorder, fill, ordering};
 use super::packs::{right_pack, right_workflow, Bounds};
 use super::schedules;
 use super::world::World;
@@ -11,7 +12,7 @@ use crate::random::Random;
 use crate::store::{Key, Shape, Store};
 
 pub fn any(random: &mut Random, lane: usize) -> Case {
-    match lane % 8 {
+    match lane % 9 {
         0 => on_pack(full_pack(random), Order::Check),
         1 => on_pack(full_pack(random), Order::Open { workflow: 7 }),
         2 => schedules::full(random),
@@ -19,6 +20,7 @@ pub fn any(random: &mut Random, lane: usize) -> Case {
         4 => on_full_store(random, 8),
         5 => on_full_store(random, 1),
         6 => on_full_store(random, 2),
+        7 => order_full_store(random),
         _ => largest_create(random),
     }
 }
@@ -67,6 +69,23 @@ fn on_full_store(random: &mut Random, partitions: usize) -> Case {
     world.store = store.bytes().to_vec();
     let order = any_order(random, &world);
     Case::Call(Box::new(case_on(world, order)))
+}
+
+/// A full store with C = 256 and its rows in no order, to be put in order.
+fn order_full_store(random: &mut Random) -> Case {
+    let bounds = Bounds {
+        workflows: 2,
+        least_size: 6,
+        most_size: 20,
+        partitions: 2,
+        with_blocks: false,
+    };
+    let mut world = World::new(random, bounds, 256, 40);
+    world.run(random, 60);
+    fill(random, &mut world.store);
+    // Each partition and the book shuffled.
+    disorder(random, &mut world.store, 7);
+    Case::Call(Box::new(ordering(random, world)))
 }
 
 /// Create on a buffer for P = 8, C = 256 that holds anything.

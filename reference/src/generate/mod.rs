@@ -5,6 +5,7 @@ mod calls;
 mod damage;
 mod large;
 mod near_miss;
+mod order;
 mod packs;
 mod schedules;
 mod turns;
@@ -15,7 +16,7 @@ use crate::random::Random;
 
 pub use near_miss::near_miss;
 pub use packs::{encoded_pack, Bounds};
-pub use schedules::any_schedule;
+pub use schedules::any_list;
 pub use world::World;
 
 /// What a case is after. A number is the question that it is aimed at; some miss their
@@ -46,6 +47,17 @@ enum Family {
     Wrong(u8),
     /// A list of calls on an older store, which has id 0 in its book.
     Older,
+    /// An arrival whose rows belong below, between or above those in the book, and a block
+    /// whose rows so belong in its partition.
+    NewId,
+    Merging,
+    /// A call on rows that do not rise, or have one key twice.
+    NotRising,
+    /// The call that puts a store in order, on a right one and on one that it refuses.
+    PutInOrder,
+    PutInOrderRefused,
+    /// A list of calls with it.
+    OrderList,
     /// A turn at an instruction outside a block, on any registers.
     OneInstruction,
     /// A block that reads a key: absent, here, or PUT by the block.
@@ -64,21 +76,26 @@ enum Family {
 use Family::*;
 
 /// Taken in turn. What is likely to find a difference stands more than once.
-const FAMILIES: [Family; 95] = [
+const FAMILIES: [Family; 115] = [
     Schedule,
     NearMiss(1),
     Damaged(9),
+    NotRising,
     Check,
     Reading,
+    PutInOrder,
     Older,
     Wrong(24),
     Schedule,
     NearMiss(2),
     Wrong(15),
     AfterRun,
+    Merging,
+    OrderList,
     Schedule,
     NearMiss(3),
     Damaged(10),
+    PutInOrderRefused,
     Open,
     Reading,
     Schedule,
@@ -96,22 +113,28 @@ const FAMILIES: [Family; 95] = [
     Schedule,
     NearMiss(7),
     Damaged(12),
+    NotRising,
     Odd,
     Reading,
     Schedule,
     NearMiss(8),
     Wrong(18),
     AfterRun,
+    PutInOrder,
     Older,
     Wrong(24),
     Schedule,
     BadSchedule(22),
     Damaged(13),
+    NewId,
+    Merging,
     ExactRoom,
     Schedule,
     BadSchedule(23),
     Wrong(19),
+    OrderList,
     OneRowShort,
+    PutInOrderRefused,
     Schedule,
     BadSchedule(9),
     Damaged(14),
@@ -120,29 +143,37 @@ const FAMILIES: [Family; 95] = [
     Schedule,
     NearMiss(6),
     Wrong(20),
+    PutInOrderRefused,
     AfterRun,
     Schedule,
     NearMissCall,
     Damaged(11),
+    NotRising,
     Odd,
     Schedule,
     BadPackSchedule,
     Damaged(14),
+    NewId,
+    Merging,
     Create,
     Older,
     Wrong(24),
     Schedule,
     NearMiss(5),
+    PutInOrder,
     DamagedTwice,
     OneRowShort,
     Reading,
     Schedule,
     NearMiss(2),
     Wrong(18),
+    Wrong(24),
     Open,
     Schedule,
     Noise,
+    OrderList,
     Damaged(11),
+    NotRising,
     AfterRun,
     Schedule,
     NearMiss(6),
@@ -151,6 +182,7 @@ const FAMILIES: [Family; 95] = [
     Schedule,
     Odd,
     NearMiss(5),
+    PutInOrderRefused,
     Damaged(14),
     Schedule,
     Restart,
@@ -193,6 +225,12 @@ pub fn case(seed: u64, number: usize) -> Case {
         DamagedTwice => calls::damaged_twice(random),
         Wrong(question) => calls::wrong(random, question, lane),
         Older => calls::older(random, lane),
+        NewId => order::new_id(random, lane),
+        Merging => turns::merging(random),
+        NotRising => order::not_rising(random, lane),
+        PutInOrder => order::put_in_order(random, lane),
+        PutInOrderRefused => order::put_in_order_refused(random, lane),
+        OrderList => order::list(random, lane),
         OneInstruction => turns::one_instruction(random, lane),
         Reading => turns::reading(random, lane),
         ExactRoom => turns::at_block(random, turns::Room::Exact),

@@ -3,9 +3,11 @@
 use super::near_miss::any_near_miss;
 use super::packs::Bounds;
 use super::world::World;
+use crate::calls::Call;
 use crate::cases::Case;
 use crate::random::Random;
 use crate::schedule::{Event, Kind};
+use crate::store::fresh;
 
 /// A schedule that runs; most are short.
 pub fn right(random: &mut Random) -> Case {
@@ -29,8 +31,23 @@ fn to_case(world: &World) -> Case {
     }
 }
 
-/// A schedule for demand 3: pack and schedule bytes, longer than in a file of cases.
-pub fn any_schedule(random: &mut Random) -> (Vec<u8>, Vec<u8>) {
+/// A list for demand 3: pack, fresh store and calls, longer than in a file of cases. Its calls
+/// are a schedule's, and now and then what puts a store in order, which no schedule has.
+pub fn any_list(random: &mut Random) -> (Vec<u8>, Vec<u8>, Vec<Call>) {
+    let world = any_world(random);
+    let (partitions, rows) = (world.schedule.partitions, world.schedule.rows);
+    let store = fresh(u32::from(partitions), u32::from(rows)).expect("numbers in range");
+    let mut calls = Vec::new();
+    for call in world.schedule.calls() {
+        if random.one_in(12) {
+            calls.push(Call::PutInOrder);
+        }
+        calls.push(call);
+    }
+    (world.pack, store, calls)
+}
+
+fn any_world(random: &mut Random) -> World {
     let mut world = match random.below(8) {
         0 => large_world(random),
         1..=5 => roomy_world(random),
@@ -42,7 +59,7 @@ pub fn any_schedule(random: &mut Random) -> (Vec<u8>, Vec<u8>) {
         _ => random.between(80, 250),
     };
     world.run(random, events);
-    (world.pack, world.schedule.encode())
+    world
 }
 
 /// Room for much of what comes, so that many requests meet on the same keys.

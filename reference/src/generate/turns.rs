@@ -1,7 +1,6 @@
-//! Turns of an agent at one instruction, at a block that reads, or at a BEGIN with the room
-//! in its partition counted out.
+//! Turns of an agent at one instruction, at a block that reads or whose rows belong among
+//! others, or at a BEGIN with the room in its partition counted out.
 
-use super::calls::shuffle_rows;
 use crate::agents::{Agent, ALL_EMPTY, SLOTS};
 use crate::calls::Call;
 use crate::cases::{CallCase, Case, Order};
@@ -91,9 +90,7 @@ pub fn reading(random: &mut Random, lane: usize) -> Case {
         _ => None,
     };
     let pack = reads_first(random, partition, ahead, d, s);
-    let mut bytes = store.bytes().to_vec();
-    shuffle_rows(random, &mut bytes);
-    turn_case(random, pack, bytes, agent)
+    turn_case(random, pack, store.bytes().to_vec(), agent)
 }
 
 /// A workflow whose block does `ahead` and then reads key s into d, or at times into s itself.
@@ -135,6 +132,43 @@ fn seem_present(
     }
 }
 
+/// A turn at a block whose rows belong below, between and above those of its partition; some
+/// of its keys are there already.
+pub fn merging(random: &mut Random) -> Case {
+    let id = random.between(2, 9) as u32;
+    let request = Request {
+        id,
+        ..any_request(random)
+    };
+    let least = random.pick(&[0, 1_000, u32::MAX - 39]);
+    let mut agent = any_agent(random, &request);
+    agent.registers = std::array::from_fn(|_| least + random.below(40) as u32);
+    let rows = random.between(9, 18) as u32;
+    let mut store = Store::lay_out(fresh(2, rows).expect("in range")).expect("fresh");
+    store.book(&request);
+    let partition = random.below(2);
+    for _ in 0..random.between(1, 6) {
+        let near = [least + random.below(40) as u32, agent.registers[0]];
+        let key = Key::Data(random.pick(&near)).stored();
+        store.put(partition, key, random.word());
+    }
+    for _ in 0..random.below(5) {
+        let (of, step) = (random.between(1, 10) as u32, random.below(3) as u16);
+        if (of, step) != (id, 0) {
+            let key = Key::Log { id: of, step }.stored();
+            store.put(partition, key, random.word());
+        }
+    }
+    let mut registers: [u8; 8] = std::array::from_fn(|number| number as u8);
+    random.shuffle(&mut registers);
+    let puts = &registers[..random.between(1, 6)];
+    let mut code = vec![(0x60, partition as u32)];
+    code.extend(puts.iter().map(|d| (0x90 | d, random.below(8) as u32)));
+    code.extend([(0x70 | registers[0], 0), (0xB0, 0)]);
+    let pack = pack::encode(&[code]);
+    turn_case(random, pack, store.bytes().to_vec(), agent)
+}
+
 /// How much room a block that is about to run finds.
 #[derive(Clone, Copy, Debug, PartialEq, Eq)]
 pub enum Room {
@@ -154,9 +188,7 @@ pub fn at_block(random: &mut Random, room: Room) -> Case {
     store.book(&request);
     let agent = any_agent(random, &request);
     fill_to(random, &mut store, &pack, &agent, room);
-    let mut bytes = store.bytes().to_vec();
-    shuffle_rows(random, &mut bytes);
-    turn_case(random, pack, bytes, agent)
+    turn_case(random, pack, store.bytes().to_vec(), agent)
 }
 
 /// A pack whose workflow 0 starts with a block that PUTs, at times behind a jump, and
@@ -199,9 +231,11 @@ fn fill_to(
 ) {
     let workflow = pack::open(pack, 0).expect("a right pack");
     let partition = workflow.instruction(0).expect("BEGIN").w as usize;
-    for _ in 0..random.below(3) {
-        let key = Key::Data(random.pick(&agent.registers)).stored();
-        store.put(partition, key, random.word());
+    // Keys that the block may PUT and keys next to them, so that new rows belong between.
+    for _ in 0..random.below(4) {
+        let near = random.pick(&[0, 0, 1, u32::MAX]);
+        let key = random.pick(&agent.registers).wrapping_add(near);
+        store.put(partition, Key::Data(key).stored(), random.word());
     }
     let find = |key: u32| store.find(partition, Key::Data(key).stored());
     let run = run_block(&workflow, 0, agent.registers, find);
@@ -215,10 +249,13 @@ fn fill_to(
     if room == Room::Logged {
         store.put(partition, log_key(0), random.word());
     }
-    // Other steps of the same id, to be told apart from the one that is sought.
+    // Other steps of the same id and steps of the ids next to it, to be told apart from the
+    // one that is sought, which belongs between them.
     let mut step = 1;
     while store.free(partition) > leave {
-        store.put(partition, log_key(step), random.word());
+        let near = random.pick(&[0, 0, 1, u32::MAX]);
+        let id = agent.id.wrapping_add(near);
+        store.put(partition, Key::Log { id, step }.stored(), random.word());
         step += 1;
     }
     if room != Room::Logged && partition == 0 && store.shape().partitions > 1 {

@@ -7,6 +7,7 @@ use crate::schedule::{Event, Kind, Schedule};
 use crate::store::{fresh, Request, Store, BOOK_ROWS};
 
 /// Pack, store and slots, with the requests that may come.
+#[derive(Clone, Debug)]
 pub struct World {
     pub pack: Vec<u8>,
     pub workflows: usize,

@@ -2,9 +2,10 @@
 #![allow(dead_code)]
 
 use reference::agents::{Slots, ALL_EMPTY};
+use reference::bytes::write_at;
 use reference::pack::encode;
 use reference::schedule::{Event, Kind, Schedule};
-use reference::store::{fresh, Request};
+use reference::store::{fresh, Request, Store};
 use reference::{Call, Outcome};
 
 pub const RETURN: (u8, u32) = (0xB0, 0);
@@ -106,6 +107,71 @@ impl State {
     pub fn crash(&mut self, slot: u32) -> Outcome {
         self.call(Call::Crash { slot })
     }
+}
+
+/// The bytes of a store, written out from its rows: for each partition, the book last, its
+/// used rows as they are to stand.
+pub fn laid(rows: u16, partitions: &[&[(u64, u32)]]) -> Vec<u8> {
+    let mut bytes = vec![partitions.len() as u8 - 1];
+    bytes.extend(rows.to_le_bytes());
+    for used in partitions {
+        bytes.extend((used.len() as u16).to_le_bytes());
+    }
+    let places = usize::from(rows);
+    let row = |used: &[(u64, u32)], place: usize| used.get(place).copied().unwrap_or((0, 0));
+    for used in partitions {
+        bytes.extend((0..places).flat_map(|place| row(used, place).0.to_le_bytes()));
+    }
+    for used in partitions {
+        bytes.extend((0..places).flat_map(|place| row(used, place).1.to_le_bytes()));
+    }
+    bytes
+}
+
+/// What a call left, had it written its new rows behind the used ones: rows of keys that were
+/// there keep their places.
+pub fn appended(given: &[u8], left: &[u8]) -> Vec<u8> {
+    let mut bytes = left.to_vec();
+    let (Ok(given), Ok(left)) = (Store::lay_out(given), Store::lay_out(left)) else {
+        return bytes;
+    };
+    let shape = left.shape();
+    for partition in 0..=shape.book() {
+        let old: Vec<u64> = given.rows(partition).map(|(key, _)| key).collect();
+        let mut rows: Vec<(u64, u32)> = left.rows(partition).collect();
+        rows.sort_by_key(|(key, _)| old.iter().position(|k| k == key).unwrap_or(old.len()));
+        for (row, (key, value)) in rows.into_iter().enumerate() {
+            write_at(&mut bytes, shape.key_at(partition, row), &key.to_le_bytes());
+            write_at(
+                &mut bytes,
+                shape.value_at(partition, row),
+                &value.to_le_bytes(),
+            );
+        }
+    }
+    bytes
+}
+
+/// A data key as it is stored.
+pub const fn data(key: u64) -> u64 {
+    (1 << 63) + key
+}
+
+/// The key of a log row.
+pub const fn log(id: u64, step: u64) -> u64 {
+    id * 65_536 + step
+}
+
+/// The book's rows of a request with the arguments that all have here.
+pub const fn booked(id: u64) -> [(u64, u32); 5] {
+    let key = id * 8;
+    [
+        (key, 0),
+        (key + 1, 100),
+        (key + 2, 200),
+        (key + 3, 30),
+        (key + 4, 0),
+    ]
 }
 
 /// The question number of a refusal, 0 if there is none.

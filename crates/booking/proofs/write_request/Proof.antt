@@ -2,7 +2,7 @@
 use borrow.Author.Needs.{needs}
 use mathlib.Core.Path.{refl}
 use native.Mathlib.Omega.{arith}
-use Rattle.booking.proofs.Booking.{code-formed, code-room, code-stored}
+use Rattle.booking.proofs.Booking.{code-rising, code-formed, code-room, code-stored}
 use Rattle.booking.proofs.write_request.Statement.{statement}
 use Rattle.booking.proofs.write_request.Tie as tie
 
@@ -27,6 +27,7 @@ write-request-spec =
       code-formed (a .store .now) (p .result) (a .id) (a .workflow) (a .a0) (a .a1) (a .a2) (a .a3) (p .ensures) (omega arith),
       refl,
       code-room (a .store .now) (p .result) (a .id) (a .workflow) (a .a0) (a .a1) (a .a2) (a .a3) (p .ensures) (s .pre .1),
+      code-rising (a .id),
     ))
     (λ c. search needs)
     (λ c.

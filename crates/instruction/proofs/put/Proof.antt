@@ -27,4 +27,5 @@ put-spec =
     let a = st .args in
     let k = dk .data-key .ensures in
     let q = pp .pending-put .ensures in
-    step-put rs (a .x) (a .d) (a .s) (k .1) (pp .pending-put .result) (rw (k .0) at (q .1)) (c .advanced .result) (c .advanced .ensures) (q .0) (q .2)))
+    step-put rs (a .x) (st .pre .0) (a .d) (a .s) (k .1) (pp .pending-put .result) (rw (k .0) at (q .1))
+    (c .advanced .result) (c .advanced .ensures) (q .0) (q .2)))

@@ -1,68 +1,50 @@
--- `store_check::book_ok` meets its contract. The loop: the keys still to be asked answer for all. Assumes nothing.
-use borrow.Author.Needs.{needs}
-use mathlib.Core.Bool.{Bool}
-use mathlib.Core.List.{List}
-use mathlib.Core.Path.{_≡_, refl, sym, ap, _∙_}
-use Prim.Native.Nat.{ℕ, _+_, _*_, _-_, _/_, _≤_}
-use native.Mathlib.Nat.{sub-zero}
+-- `store_check::book_ok` meets its contract. The loop: the keys still to be read are good and answer for all. Assumes nothing.
+use mathlib.Core.Bool.{true}
+use mathlib.Core.Path.{_≡_, refl, sym, _∙_}
+use Prim.Native.Nat.{suc, _+_, _*_, _-_}
 use native.Mathlib.Omega.{arith}
-use borrow.Author.Tests.{not-true, not-false}
-use Rattle.words.specs.Words.{le, fields}
-use Rattle.store.specs.Questions.{allIn, five, bookOk}
-use Rattle.store_check.proofs.Steps.{all-step, all-done}
+use Rattle.words.specs.Words.{fields}
+use Rattle.store.specs.Questions.{keysOk, bookOk}
+use Rattle.store_check.proofs.Five.{book-few, book-next, book-small, book-no, book-more}
 use Rattle.store_check.proofs.book_ok.Statement.{statement}
 use Rattle.store_check.proofs.book_ok.Tie as tie
 
--- the id of a key has all five rows
-abbrev whole : List ℕ → ℕ → ℕ → ℕ → Bool
-whole s from n k = five (fields 8 s from n) (k / 8)
-
 abbrev Inv-loop : tie.InvT-loop
-Inv-loop s from n at₀ i₀ at i = (i ≤ n) × (at ≡ from + 8 * i) × (allIn (whole s from n) (fields 8 s from n) ≡ allIn (whole s from n) (fields 8 s at (n - i)))
+Inv-loop s from n at₀ left₀ at left =
+    (at + 8 * left ≡ from + 8 * n) × (keysOk true (fields 8 s at left) ≡ true) × (bookOk (fields 8 s at left) ≡ bookOk (fields 8 s from n))
 
 abbrev μ-loop : tie.MeasureT-loop
-μ-loop s from n at₀ i₀ at i = n - i
+μ-loop s from n at₀ left₀ at left = left
 
--- the answer for the key that was read
-answer : (f : tie.After-five-rows Inv-loop μ-loop) →
-    let lp = f .before .before .before .before in
-    let a = lp .before .before .args in
-    whole (a .s .now) (a .from) (a .n) (le 8 (a .s .now) (lp .loop .at)) ≡ f .five-rows .result
-answer f =
-    let a = f .before .before .before .before .before .before .args in
-    ap (whole (a .s .now) (a .from) (a .n)) (sym (f .before .before .read64 .ensures)) ∙ sym (f .five-rows .ensures)
+-- five are left
+more : (c : tie.In-loop Inv-loop μ-loop) → let l = c .before .loop .left in l ≡ suc (suc (suc (suc (suc (l - 5)))))
+more c = let h = c .loop-test .taken in omega arith
 
 pub book-ok-spec : {M : Type 1} → statement M
-unfolding bookOk
 book-ok-spec =
     tie.close
     (tie.spec
     Inv-loop
     μ-loop
-    (λ c. let a = c .before .args in
-    let e : a .n - 0 ≡ a .n = sub-zero (a .n) in
-    rw e (search needs, omega arith, refl))
+    (λ c. (refl, c .before .pre .1, refl))
     (λ c κs. omega arith)
-    (λ c κs. search needs)
+    (λ c. omega arith)
     (λ c κs. omega arith)
-    (λ c. let f = c .before in
-    let lp = f .before .before .before .before in
-    let a = lp .before .before .args in
-    sym (lp .loop .inv .2
-    ∙ all-step (whole (a .s .now) (a .from) (a .n)) (a .s .now) (lp .loop .at) (a .n - lp .loop .i) (a .n - (lp .loop .i + 1)) (omega arith)
-    ∙ rw (answer f, not-true (f .five-rows .result) (c .if1 .taken)) refl))
+    (λ c. let r = c .before in
+    omega (arith, r .read64 .ensures, book-small _ _ _ _ (more (r .before)) (r .before .before .loop .inv .1)))
+    (λ c. let r4 = c .before in
+    let r = r4 .before in
+    let lp = r .before .before in
+    sym (book-no _ _ _ _ (more (r .before)) (lp .loop .inv .1) _ _ (r .read64 .ensures) (r4 .read642 .ensures) (c .if1 .taken))
+    ∙ lp .loop .inv .2)
     (λ c. omega arith)
     (λ c. omega arith)
-    (λ c. omega arith)
-    (λ c. let f = c .before in
-    let lp = f .before .before .before .before in
-    let a = lp .before .before .args in (
+    (λ c. let r4 = c .before in
+    let r = r4 .before in
+    let lp = r .before .before in (
       omega arith,
-      omega arith,
-      lp .loop .inv .2
-          ∙ all-step (whole (a .s .now) (a .from) (a .n)) (a .s .now) (lp .loop .at) (a .n - lp .loop .i) (a .n - (lp .loop .i + 1)) (omega arith)
-          ∙ rw (answer f, not-false (f .five-rows .result) (c .if1 .left)) refl,
+      book-next _ _ _ _ (more (r .before)) (lp .loop .inv .1),
+      sym (book-more _ _ _ _ (more (r .before)) (lp .loop .inv .1) _ _ (r .read64 .ensures) (r4 .read642 .ensures) (c .if1 .left))
+          ∙ lp .loop .inv .2,
     ))
-    (λ c. let lp = c .before in
-    let a = lp .before .before .args in
-    sym (lp .loop .inv .2 ∙ all-done (whole (a .s .now) (a .from) (a .n)) (a .s .now) (lp .loop .at) (a .n - lp .loop .i) (omega arith))))
+    (λ c. let lp = c .before in sym (book-few _ _ _ (lp .loop .inv .1) (c .loop-test .left)) ∙ lp .loop .inv .2))

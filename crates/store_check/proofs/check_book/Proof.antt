@@ -5,7 +5,7 @@ use Prim.Native.Nat.{_≤_}
 use native.Mathlib.Omega.{arith}
 use Rattle.store.specs.Layout.{partsOf}
 use Rattle.store.proofs.Bytes.{keys-within, used-le}
-use Rattle.store_check.proofs.Steps.{book-is}
+use Rattle.store_check.proofs.Steps.{book-is, book-keys}
 use Rattle.store_check.proofs.check_book.Statement.{statement}
 use Rattle.store_check.proofs.check_book.Tie as tie
 
@@ -16,11 +16,15 @@ check-book-spec =
     (λ c κs. search needs)
     (λ c κs. search needs)
     (λ c κs. search needs)
-    (λ c κs. let k = c .before .before in
+    (λ c κs. let u = c .before in
+    let k = u .before in
     let st = k .before .before in
     let xs = st .args .s .now in
-    let l : k .partition-count .result ≤ partsOf xs = omega (arith, k .partition-count .ensures) in
-    omega (arith, keys-within xs (st .pre .formed .shape) (k .partition-count .result) l (c .before .used-count .result) (omega (arith, used-le xs (st .pre .formed) (k .partition-count .result) l))))
+    let p = k .partition-count .result in
+    let l : p ≤ partsOf xs = omega (arith, k .partition-count .ensures) in (
+      omega (arith, keys-within xs (st .pre .formed .shape) p l (u .used-count .result) (omega (arith, used-le xs (st .pre .formed) p l))),
+      book-keys xs _ _ _ (k .partition-count .ensures) (u .used-count .ensures) (c .key-place .ensures) (st .pre),
+    ))
     (λ c. let u = c .before .before in
     let k = u .before in
-    c .book-ok .ensures ∙ book-is (k .before .before .args .s .now) (k .partition-count .result) (u .used-count .result) (c .before .key-place .result) (k .partition-count .ensures) (u .used-count .ensures) (c .before .key-place .ensures)))
+    c .book-ok .ensures ∙ book-is _ _ _ _ (k .partition-count .ensures) (u .used-count .ensures) (c .before .key-place .ensures)))

@@ -1,70 +1,48 @@
--- `store_check::check_store` meets its contract: each answer is the first no, by the answers before it. Assumes nothing.
+-- `store_check::check_store` meets its contract: the first no, by the answers in hand. Assumes nothing.
 use borrow.Author.Needs.{needs}
 use mathlib.Core.Bool.{true}
-use mathlib.Core.Path.{_≡_, sym, ap, ap₂, _∙_}
-use native.Mathlib.Omega.{arith}
+use mathlib.Core.Path.{_≡_, sym, ap, _∙_}
 use borrow.Author.Tests.{not-true, not-false}
 use Rattle.rules.specs.Verdicts.{verdictOf}
-use Rattle.store.specs.Layout.{partsOf, capOf, sizeOf}
-use Rattle.store.specs.Questions.{numbersRight}
-use Rattle.store.specs.Sound.{Shape, Sound}
-use Rattle.store.proofs.Sound.{numbers-mean, nine-short, nine-numbers, ten-no, shape-of, sound-of, refusal-9, refusal-10, refusal-11, refusal-12, store-passes}
+use Rattle.store.specs.Questions.{question11, storeRefusal}
+use Rattle.store.specs.Sound.{Shape}
+use Rattle.store_check.proofs.Asked.{no-shape, no-11, no-12, all-yes, shape-accepted}
+use Rattle.store.proofs.Sound.{sound-of}
 use Rattle.store_check.proofs.check_store.Statement.{statement}
 use Rattle.store_check.proofs.check_store.Tie as tie
 
--- the answer on P and C
-numbers : (n : tie.After-numbers-right) →
-    let xs = n .before .before .before .before .before .args .s .now in
-    numbersRight (partsOf xs) (capOf xs) ≡ n .numbers-right .result
-numbers n = ap₂ numbersRight (sym (n .before .before .partition-count .ensures)) (sym (n .before .capacity .ensures)) ∙ sym (n .numbers-right .ensures)
+-- 9 and 10 say yes
+shape : (c : tie.After-enum-told) → Shape (c .before .before .before .before .args .s .now)
+shape c = shape-accepted _ _ (c .before .before .check-shape .ensures) (c .enum-told .given .1)
 
-right : (c : tie.Else2) →
-    let xs = c .before .before .before .before .before .before .args .s .now in
-    numbersRight (partsOf xs) (capOf xs) ≡ true
-right c = numbers (c .before) ∙ not-false _ (c .if2 .left)
-
--- the length that was worked out
-size : (z : tie.After-store-size) →
-    let xs = z .before .before .before .before .before .before .before .args .s .now in
-    z .store-size .result ≡ sizeOf (partsOf xs) (capOf xs)
-size z =
-    let n = z .before .before in
-    z .store-size .ensures ∙ ap₂ sizeOf (n .before .before .partition-count .ensures) (n .before .capacity .ensures)
-
-shape : (c : tie.Else3) → Shape (c .before .before .before .before .before .before .before .before .args .s .now)
-shape c = shape-of _ (right (c .before .before)) (c .if3 .left ∙ size (c .before))
-
-sound : (c : tie.Else4) → Sound (c .before .before .before .before .before .before .before .before .before .before .args .s .now)
-sound c = sound-of _ (shape (c .before .before)) (sym (c .before .check-rows .ensures) ∙ not-false _ (c .if4 .left))
+-- 11 says yes
+rows : (c : tie.Else1) → question11 (c .before .before .before .before .before .before .args .s .now) ≡ true
+rows c = sym (c .before .check-partitions .ensures) ∙ not-false _ (c .if1 .left)
 
 pub check-store-spec : {M : Type 1} → statement M
+unfolding storeRefusal
 check-store-spec =
     tie.close
     (tie.spec
     (λ c κs. search needs)
-    (λ c. let a = c .before .before .before .args in c .refused .ensures ∙ ap verdictOf (sym (refusal-9 (a .s .now) (nine-short (a .s .now) (c .before .if1 .taken)))))
-    (λ c κs. search needs)
-    (λ c κs. search needs)
-    (λ c κs. search needs)
-    (λ c κs. search needs)
-    (λ c. let n = c .before .before in
-    let xs = n .before .before .before .before .before .args .s .now in
-    c .refused2 .ensures ∙ ap verdictOf (sym (refusal-9 xs (nine-numbers xs _ (n .before .before .before .if1 .left) (numbers n ∙ not-true _ (c .before .if2 .taken))))))
-    (λ c κs. let m = numbers-mean _ _ (right c) in let n = c .before in (omega (arith, m, n .before .before .partition-count .ensures), omega (arith, m, n .before .capacity .ensures)))
-    (λ c κs. search needs)
-    (λ c. let z = c .before .before in
-    let e = z .before in
-    let n = e .before in
-    let xs = n .before .before .before .before .before .args .s .now in
-    c .refused3 .ensures ∙ ap verdictOf (sym (refusal-10 xs (nine-numbers xs _ (n .before .before .before .if1 .left) (right e)) (ten-no xs (λ q. c .before .if3 .taken (q ∙ sym (size z)))))))
+    (λ c. search needs)
     (λ c κs. shape c)
     (λ c κs. search needs)
-    (λ c. let e = c .before .before .before in
-    c .refused4 .ensures ∙ ap verdictOf (sym (refusal-11 _ (shape e) (sym (c .before .before .check-rows .ensures) ∙ not-true _ (c .before .if4 .taken)))))
-    (λ c κs. sound c)
+    (λ c. let t = c .before .before .before in
+    c .refused .ensures
+    ∙ ap verdictOf (sym (no-11 _ _ _ (t .before .before .check-shape .ensures) (t .enum-told .given .1)
+    (sym (c .before .before .check-partitions .ensures) ∙ not-true _ (c .before .if1 .taken)))))
+    (λ c κs. sound-of _ (shape (c .before .before)) (rows c))
     (λ c κs. search needs)
     (λ c. let e = c .before .before .before in
-    c .refused5 .ensures ∙ ap verdictOf (sym (refusal-12 _ (sound e) (sym (c .before .before .check-book .ensures) ∙ not-true _ (c .before .if5 .taken)))))
-    (λ c κs. search needs)
-    (λ c. let e = c .before .before .before in
-    c .accepted .ensures ∙ ap verdictOf (sym (store-passes _ (sound e) (sym (c .before .before .check-book .ensures) ∙ not-false _ (c .before .if5 .left))))))
+    let t = e .before .before in
+    c .refused2 .ensures
+    ∙ ap verdictOf (sym (no-12 _ _ _ (t .before .before .check-shape .ensures) (t .enum-told .given .1) (rows e)
+    (sym (c .before .before .check-book .ensures) ∙ not-true _ (c .before .if2 .taken)))))
+    (λ c. search needs)
+    (λ c. let e = c .before .before in
+    let t = e .before .before in
+    t .enum-told .given .1
+    ∙ ap verdictOf (sym (all-yes _ _ _ (t .before .before .check-shape .ensures) (t .enum-told .given .1) (rows e)
+    (sym (c .before .check-book .ensures) ∙ not-false _ (c .if2 .left)))))
+    (λ c. no-shape _ _ _ (c .before .before .check-shape .ensures) _ _ _ (c .enum-told2 .given .1)))

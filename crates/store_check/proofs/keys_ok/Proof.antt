@@ -1,27 +1,36 @@
--- `store_check::keys_ok` meets its contract. The loop: the keys that were passed are good and marked. Assumes nothing.
+-- `store_check::keys_ok` meets its contract. The loop: the keys still to be read, from `low` on, answer for all. Assumes nothing.
 use borrow.Author.Needs.{needs}
 use mathlib.Core.Bool.{true}
-use mathlib.Core.Path.{_≡_, refl, sym, _∙_}
-use Prim.Native.Nat.{_+_, _*_, _-_, _≤_}
+use mathlib.Core.Path.{_≡_, sym, _∙_}
+use Prim.Native.Nat.{suc, _+_, _*_, _-_, _≤_}
+use native.Mathlib.Nat.{sub-zero}
 use native.Mathlib.Omega.{arith}
 use borrow.Author.Tests.{not-true, not-false}
-use lib.ListN.{length, length-set}
 use Rattle.words.specs.Words.{fields}
-use Rattle.store.specs.Questions.{isForm, keysOk, allIn}
-use Rattle.store_check.proofs.Steps.{keys-done, all-done}
-use Rattle.store_check.proofs.Marks.{marked, keys-all, no-form, key-twice, key-more, mark-more}
+use Rattle.store.specs.Questions.{isForm, keysOk}
+use Rattle.store_check.proofs.Rising.{rises, rises-all, rises-low, rises-no-form, rises-more, rises-done, form-small}
 use Rattle.store_check.proofs.keys_ok.Statement.{statement}
 use Rattle.store_check.proofs.keys_ok.Tie as tie
 
 abbrev Inv-loop : tie.InvT-loop
-Inv-loop s from n book marks₀ mark at₀ i₀ marks at i = (i ≤ n) × (at ≡ from + 8 * i) × (length marks ≡ length marks₀) × (keysOk book (fields 8 s at (n - i)) ≡ true) × (allIn (marked marks mark) (fields 8 s at (n - i)) ≡ true)
+Inv-loop s from n book low₀ at₀ i₀ low at i =
+    (i ≤ n) × (at ≡ from + 8 * i) × (rises book low (fields 8 s at (n - i)) ≡ keysOk book (fields 8 s from n))
 
 abbrev μ-loop : tie.MeasureT-loop
-μ-loop s from n book marks₀ mark at₀ i₀ marks at i = i
+μ-loop s from n book low₀ at₀ i₀ low at i = n - i
+
+-- one more is left
+more : (c : tie.In-loop Inv-loop μ-loop) →
+    let n = c .before .before .before .args .n in
+    let i = c .before .loop .i in
+    n - i ≡ suc (n - (i + 1))
+more c = let h = c .loop-test .taken in omega arith
 
 -- the key that was read is of a form
-is-form : (e : tie.Else1 Inv-loop μ-loop) → isForm (e .before .before .before .before .before .before .before .args .book) (e .before .before .read64 .result) ≡ true
-is-form e = sym (e .before .form .ensures) ∙ not-false _ (e .if1 .left)
+is-form : (e : tie.Else2 Inv-loop μ-loop) →
+    let r = e .before .before .before in
+    isForm (r .before .before .before .before .args .book) (r .read64 .result) ≡ true
+is-form e = sym (e .before .form .ensures) ∙ not-false _ (e .if2 .left)
 
 pub keys-ok-spec : {M : Type 1} → statement M
 keys-ok-spec =
@@ -29,40 +38,29 @@ keys-ok-spec =
     (tie.spec
     Inv-loop
     μ-loop
-    (λ c. omega arith)
-    (λ c. omega arith)
-    (λ c. let a = c .before .before .args in
-    let z : a .n - a .n ≡ 0 = omega arith in
-    (omega arith, refl, refl, keys-done (a .book) (a .s .now) _ _ z, all-done (marked (a .marks .now) (a .mark)) (a .s .now) _ _ z))
-    (λ c. omega arith)
+    (λ c. let a = c .before .args in
+    rw (sub-zero (a .n)) (omega arith, omega arith, rises-all (a .book) (fields 8 (a .s .now) (a .from) (a .n))))
     (λ c κs. omega arith)
+    (λ c. let r = c .before in
+    let lp = r .before .before in
+    sym (rises-low (lp .before .before .args .book) _ _ _ _ _ _ (more (r .before)) (r .read64 .ensures) (c .if1 .taken))
+    ∙ lp .loop .inv .2)
     (λ c κs. search needs)
-    (λ c. search needs)
-    (λ c. let r = c .before .before in
+    (λ c. let r = c .before .before .before in
     let lp = r .before .before in
-    let a = lp .before .before .before .args in
-    sym (no-form (a .s .now) (a .from) (a .n) (lp .loop .i) (lp .loop .at) (r .read64 .result) (lp .loop .inv .0) (r .before .loop-test .taken) (lp .loop .inv .1) (r .read64 .ensures) (a .book) (sym (c .before .form .ensures) ∙ not-true _ (c .if1 .taken))))
-    (λ c. omega arith)
-    (λ c κs. (omega arith, omega arith, c .before .before .before .before .before .loop .inv .4))
-    (λ c. search needs)
-    (λ c. let r = c .before .before .before .before .before in
-    let lp = r .before .before in
-    let a = lp .before .before .before .args in
-    sym (key-twice (a .s .now) (a .from) (a .n) (lp .loop .i) (lp .loop .at) (r .read64 .result) (lp .loop .inv .0) (r .before .loop-test .taken) (lp .loop .inv .1) (r .read64 .ensures) (a .book) (sym (c .before .seen .ensures) ∙ c .if2 .taken)))
+    sym (rises-no-form _ (lp .loop .low) _ _ _ _ _ (more (r .before)) (r .read64 .ensures)
+    (sym (c .before .form .ensures) ∙ not-true _ (c .if2 .taken)))
+    ∙ lp .loop .inv .2)
+    (λ c. omega (arith, form-small _ _ (is-form c)))
     (λ c. omega arith)
     (λ c. omega arith)
     (λ c. omega arith)
-    (λ c. omega arith)
-    (λ c. let r = c .before .before .before .before .before in
-    let lp = r .before .before in
-    let a = lp .before .before .before .args in (
+    (λ c. let r = c .before .before .before in
+    let lp = r .before .before in (
       omega arith,
       omega arith,
-      simp length-set (lp .loop .inv .2),
-      key-more (a .s .now) (a .from) (a .n) (lp .loop .i) (lp .loop .at) (r .read64 .result) (lp .loop .inv .0) (r .before .loop-test .taken) (lp .loop .inv .1) (r .read64 .ensures) (a .book) (is-form (c .before .before .before)) (sym (c .before .seen .ensures) ∙ c .if2 .left) (lp .loop .inv .3),
-      mark-more (a .s .now) (a .from) (a .n) (lp .loop .i) (lp .loop .at) (r .read64 .result) (lp .loop .inv .0) (r .before .loop-test .taken) (lp .loop .inv .1) (r .read64 .ensures) (lp .loop .marks) (a .mark) (omega arith) (lp .loop .inv .4),
+      sym (rises-more _ _ _ _ _ _ _ (more (r .before)) (r .read64 .ensures) (c .before .before .if1 .left) (is-form c)) ∙ lp .loop .inv .2,
     ))
-    (λ c. search needs)
     (λ c. let lp = c .before in
-    let a = lp .before .before .before .args in
-    sym (keys-all (a .book) true (a .s .now) (a .from) (a .n) (lp .loop .i) (lp .loop .at) (omega arith) (lp .loop .inv .1) (lp .loop .inv .3))))
+    let a = lp .before .before .args in
+    sym (rises-done (a .book) (lp .loop .low) (a .s .now) (lp .loop .at) (a .n - lp .loop .i) (omega arith)) ∙ lp .loop .inv .2))

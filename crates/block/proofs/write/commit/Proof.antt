@@ -6,7 +6,7 @@ use borrow.Author.Needs.{needs}
 use Rattle.store.specs.Layout.{capOf}
 use Rattle.store.specs.Rows.{rowsOf}
 use Rattle.instruction.proofs.Rows.{keys-count, values-count}
-use Rattle.block.proofs.Writes.{keys-good, keys-right, length-out, committed}
+use Rattle.block.proofs.Writes.{keys-good, keys-rise, keys-right, length-out, committed}
 use Rattle.block.proofs.write.commit.Statement.{statement}
 use Rattle.block.proofs.write.commit.Tie as tie
 
@@ -17,9 +17,9 @@ commit-spec =
     (λ c κs. search needs)
     (λ c κs. search needs)
     (λ c. search needs)
-    (λ c. let w = c .before .before .before .before in sym (keys-count (w .with-row .result) (w .with-row .ensures .0)))
+    (λ c. let w = c .before .before .before .before in sym (keys-count (w .insert-row .result) (w .insert-row .ensures .0)))
     (λ c. search needs)
-    (λ c. let w = c .before .before .before .before .before in sym (values-count (w .with-row .result) (w .with-row .ensures .0)))
+    (λ c. let w = c .before .before .before .before .before in sym (values-count (w .insert-row .result) (w .insert-row .ensures .0)))
     (λ c κs.
     let w = c .before .before .before .before .before in
     let lk = w .before .before in
@@ -27,14 +27,17 @@ commit-spec =
     let a = st .args in
     let rs = rowsOf (a .store .now) (a .partition) in
     let k = lk .log-key .ensures in
-    let q = w .with-row .result in
-    let z = w .with-row .ensures .0 in
-    let e = rw (k .0) at (w .with-row .ensures .1) in (
+    let q = w .insert-row .result in
+    let z = w .insert-row .ensures .0 in
+    let e = rw (k .0) at (w .insert-row .ensures .1) in
+    let good = keys-good (a .store .now) (a .partition) (st .pre .0) (st .pre .1) in (
       st .pre .0,
       omega (arith, st .pre .1),
-      keys-right (a .ran) rs (st .pre .2) (a .id) (a .step) _ (k .1) (k .2) q e z _ (a .partition) (st .pre .1),
+      keys-right (a .ran) (st .pre .2) (a .id) (a .step) _ (k .1) (k .2) q z e _ (a .partition) (st .pre .1),
       keys-count q z ∙ sym (values-count q z),
-      subst (λ (n : ℕ). n ≤ capOf (a .store .now)) (sym (length-out (a .ran) rs (st .pre .2) (a .id) (a .step) _ (k .1) (k .2) q e (keys-good (a .store .now) (a .partition) (st .pre .0) (st .pre .1)) (st .pre .3))) (st .pre .4),
+      subst (λ (n : ℕ). n ≤ capOf (a .store .now))
+          (sym (length-out (a .ran) (st .pre .2) (a .id) (a .step) _ (k .1) (k .2) q z e rs good (st .pre .3))) (st .pre .4),
+      keys-rise (a .ran) (st .pre .2) (a .id) (a .step) _ (k .1) (k .2) q z e,
     ))
     (λ c. search needs)
     (λ c.
@@ -44,4 +47,6 @@ commit-spec =
     let st = lk .before .before in
     let a = st .args in
     let k = lk .log-key .ensures in
-    committed (a .store .now) _ (a .partition) (a .ran) (st .pre .2) (a .id) (a .step) (k .1) (k .2) (w .with-row .result) (rw (k .0) at (w .with-row .ensures .1)) (pa .put-all .ensures) (keys-good (a .store .now) (a .partition) (st .pre .0) (st .pre .1)) (st .pre .3)))
+    let q = w .insert-row .ensures in
+    committed (a .store .now) _ (a .partition) (a .ran) (st .pre .2) (a .id) (a .step) (k .1) (k .2) (w .insert-row .result)
+    (q .0) (rw (k .0) at (q .1)) (pa .put-all .ensures) (keys-good (a .store .now) (a .partition) (st .pre .0) (st .pre .1)) (st .pre .3)))

@@ -3,7 +3,6 @@ use mathlib.Core.Path.{refl, sym, _∙_}
 use native.Mathlib.Omega.{arith}
 use borrow.Author.Needs.{needs}
 use borrow.Author.Tests.{leb-true, not-true, not-false}
-use Rattle.store.specs.Rows.{rowsOf}
 use Rattle.block.proofs.Writes.{through-room, through-no-room}
 use Rattle.block.proofs.write.run_and_write.Statement.{statement}
 use Rattle.block.proofs.write.run_and_write.Tie as tie

@@ -13,6 +13,7 @@ has-call-spec =
     (λ c. λ e. no-yes e)
     (λ c. search needs)
     (λ c. search needs)
+    (λ c κs. search needs)
     (λ c. search needs)
     (λ c. search needs)
     (λ c. search needs)

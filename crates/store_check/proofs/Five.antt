@@ -1,0 +1,242 @@
+-- The book by rising key: the five rows of an id stand side by side, so the fifth key is 4 more than the first; all else is forced, since
+-- each is a book key. Assumes nothing.
+use mathlib.Core.Bool.{Bool, true, false, _&&_}
+use mathlib.Core.List.{List, [], _∷_}
+use mathlib.Core.Path.{_≡_, refl, sym, ap, ap₂, subst, _∙_, fun-ext}
+use Prim.Native.Nat.{ℕ, zero, suc, _+_, _/_, _%_, _^_, _≤_, _<_}
+use native.Mathlib.Nat.{add-zero}
+use native.Mathlib.Omega.{arith}
+use borrow.Author.Tests.{ltb-true, eqb-true, eqb-false, eq-eqb, ne-eqb}
+use lib.Dec.{eqb, ltb}
+use lib.ListN.{length, getD}
+use Rattle.words.specs.Words.{le, fields}
+use Rattle.words.proofs.Laws.{length-fields}
+use Rattle.rules.specs.Basics.{each}
+use Rattle.rules.specs.Keys.{bookKey}
+use Rattle.rules.proofs.Keys.{book-bounds}
+use Rattle.rules.proofs.Tests.{no-yes, and-left, and-right}
+use Rattle.store.specs.Questions.{isForm, member, ahead, rising, keysOk, allIn, five, bookOk}
+use Rattle.store.proofs.Sound.{keys-rise, apart-forms, keys-apart, keys-rising, all-at, in-all, book-five, five-all}
+use Rattle.store_check.proofs.Steps.{member-behind, member-in}
+
+-- ---- members of keys that rise
+
+here : (k : ℕ) (ks : List ℕ) → member k (k ∷ ks) ≡ true
+unfolding member
+here k ks = rw (eq-eqb k k refl) refl
+
+behind : (k x : ℕ) (ks : List ℕ) → (k ≡ x → ⊥) → member x (k ∷ ks) ≡ true → member x ks ≡ true
+unfolding member
+behind k x ks n m = rw (ne-eqb k x n) at m
+
+rising-behind : (k : ℕ) (ks : List ℕ) → rising (k ∷ ks) ≡ true → rising ks ≡ true
+unfolding rising
+rising-behind k ks u = and-right (ahead k ks) (rising ks) u
+
+rising-next : (k x : ℕ) (ks : List ℕ) → rising (k ∷ x ∷ ks) ≡ true → k < x
+unfolding rising ahead
+rising-next k x ks u = ltb-true k x (and-left (ltb k x) _ u)
+
+forms : (ks : List ℕ) → keysOk true ks ≡ true → allIn (isForm true) ks ≡ true
+forms ks g = apart-forms true ks (keys-apart true ks g)
+
+keys-behind : (k : ℕ) (ks : List ℕ) → keysOk true (k ∷ ks) ≡ true → keysOk true ks ≡ true
+unfolding allIn
+keys-behind k ks g =
+    keys-rise true ks (and-right (isForm true k) (allIn (isForm true) ks) (forms (k ∷ ks) g))
+    (rising-behind k ks (keys-rising true (k ∷ ks) g))
+
+bounds : (k : ℕ) → isForm true k ≡ true → (k < 2 ^ 35) × (k % 8 ≤ 4)
+unfolding isForm
+bounds k f = book-bounds k f
+
+-- the keys behind a key are greater
+greater : (k x : ℕ) (ks : List ℕ) → rising (k ∷ ks) ≡ true → member x ks ≡ true → k < x
+greater k x [] u m = no-yes (unfold member in m)
+greater k x (y ∷ ks) u m = go (greater y x ks (rising-behind k (y ∷ ks) u)) (eqb y x) refl
+  where
+    go : (member x ks ≡ true → y < x) → (b : Bool) → eqb y x ≡ b → k < x
+    go ih true e = omega (arith, rising-next k y ks u, eqb-true y x e)
+    go ih false e = omega (arith, rising-next k y ks u, ih (behind y x ks (eqb-false y x e) m))
+
+least : (k x : ℕ) (ks : List ℕ) → rising (k ∷ ks) ≡ true → member x (k ∷ ks) ≡ true → k ≤ x
+least k x ks u m = go (eqb k x) refl
+  where
+    go : (b : Bool) → eqb k x ≡ b → k ≤ x
+    go true e = omega (arith, eqb-true k x e)
+    go false e = omega (arith, greater k x ks u (behind k x ks (eqb-false k x e) m))
+
+-- where k is the first and k + 1 up to k + m are among them, these come next
+side : (m k : ℕ) (ks : List ℕ) → rising (k ∷ ks) ≡ true → ((j : ℕ) → j ≤ m → member (k + j) (k ∷ ks) ≡ true)
+    → (m < length (k ∷ ks)) × (getD (k ∷ ks) m 0 ≡ k + m)
+side zero k ks u h = (omega arith, sym (add-zero k))
+side (suc m) k [] u h = no-yes (unfold member in behind k (k + 1) [] (λ e. omega arith) (h 1 (omega arith)))
+side (suc m) k (x ∷ ks) u h =
+    let next = rising-behind k (x ∷ ks) u in
+    let low = rising-next k x ks u in
+    let high = least x (k + 1) ks next (behind k (k + 1) (x ∷ ks) (λ e. omega arith) (h 1 (omega arith))) in
+    let moved : (j : ℕ) → j ≤ m → member (x + j) (k ∷ x ∷ ks) ≡ true =
+    λ j l. subst (λ (y : ℕ). member y (k ∷ x ∷ ks) ≡ true) (omega arith) (h (suc j) (omega arith)) in
+    let r = side m x ks next (λ j l. behind k (x + j) (x ∷ ks) (λ e. omega arith) (moved j l)) in
+    (omega (arith, r .0), r .1 ∙ omega arith)
+
+-- ---- a book that has all five rows of the first key's id
+
+module _ (k : ℕ) (ks : List ℕ) (u : rising (k ∷ ks) ≡ true) (b : bookOk (k ∷ ks) ≡ true) where
+  first-is : k % 8 ≡ 0
+  first-is = omega (arith, least k (bookKey (k / 8) 0) ks u (book-five (k ∷ ks) k 0 b (here k ks) (omega arith)))
+
+  fifth-is : (4 < length (k ∷ ks)) × (getD (k ∷ ks) 4 0 ≡ k + 4)
+  fifth-is =
+      side 4 k ks u
+      (λ j l. subst (λ (y : ℕ). member y (k ∷ ks) ≡ true) (omega (arith, first-is)) (book-five (k ∷ ks) k j b (here k ks) (omega arith)))
+
+all-same : (f g : ℕ → Bool) (ks : List ℕ) → ((k : ℕ) → member k ks ≡ true → f k ≡ g k) → allIn f ks ≡ allIn g ks
+unfolding allIn
+all-same f g [] h = refl
+all-same f g (x ∷ ks) h = ap₂ _&&_ (h x (here x ks)) (all-same f g ks (λ k m. h k (member-behind x k ks m)))
+
+-- ---- five rows side by side
+
+module _ (k k1 k2 k3 k4 : ℕ) (ks : List ℕ) (g : keysOk true (k ∷ k1 ∷ k2 ∷ k3 ∷ k4 ∷ ks) ≡ true) where
+  abbrev all : List ℕ
+  all = k ∷ k1 ∷ k2 ∷ k3 ∷ k4 ∷ ks
+
+  keys-fifth : keysOk true (k4 ∷ ks) ≡ true
+  keys-fifth =
+      keys-behind k3 (k4 ∷ ks)
+      (keys-behind k2 (k3 ∷ k4 ∷ ks)
+      (keys-behind k1 (k2 ∷ k3 ∷ k4 ∷ ks)
+      (keys-behind k (k1 ∷ k2 ∷ k3 ∷ k4 ∷ ks) g)))
+
+  keys-past : keysOk true ks ≡ true
+  keys-past = keys-behind k4 ks keys-fifth
+
+  u : rising all ≡ true
+  u = keys-rising true all g
+
+  number-at : (i : ℕ) → i < 5 → getD all i 0 % 8 ≤ 4
+  number-at i h = bounds (getD all i 0) (all-at (isForm true) all i (forms all g) (omega arith)) .1
+
+  module _ (e : k4 ≡ k + 4) where
+    between : (k1 ≡ k + 1) × (k2 ≡ k + 2) × (k3 ≡ k + 3)
+    between =
+        let u1 = rising-behind k (k1 ∷ k2 ∷ k3 ∷ k4 ∷ ks) u in
+        let u2 = rising-behind k1 (k2 ∷ k3 ∷ k4 ∷ ks) u1 in
+        let l = rising-next k k1 (k2 ∷ k3 ∷ k4 ∷ ks) u in
+        let l1 = rising-next k1 k2 (k3 ∷ k4 ∷ ks) u1 in
+        let l2 = rising-next k2 k3 (k4 ∷ ks) u2 in
+        let l3 = rising-next k3 k4 ks (rising-behind k2 (k3 ∷ k4 ∷ ks) u2) in
+        (omega arith, omega arith, omega arith)
+
+    -- five numbers in a row, each a book key: the first is a multiple of 8
+    first : k % 8 ≡ 0
+    first =
+        let b = between in
+        let f0 : k % 8 ≤ 4 = number-at 0 (omega arith) in
+        let f1 : k1 % 8 ≤ 4 = number-at 1 (omega arith) in
+        let f2 : k2 % 8 ≤ 4 = number-at 2 (omega arith) in
+        let f3 : k3 % 8 ≤ 4 = number-at 3 (omega arith) in
+        let f4 : k4 % 8 ≤ 4 = number-at 4 (omega arith) in
+        omega arith
+
+    -- their id has all its rows
+    place : (j : ℕ) → j < 5 → getD all j 0 ≡ bookKey (k / 8) j
+    place zero h = omega (arith, first)
+    place (suc zero) h = omega (arith, first, between)
+    place (suc (suc zero)) h = omega (arith, first, between)
+    place (suc (suc (suc zero))) h = omega (arith, first, between)
+    place (suc (suc (suc (suc zero)))) h = omega (arith, first)
+    place (suc (suc (suc (suc (suc j))))) h = absurd (omega arith)
+
+    own : (x : ℕ) → x / 8 ≡ k / 8 → five all (x / 8) ≡ true
+    own x q = rw q (five-all all (k / 8) (λ j h. member-in (bookKey (k / 8) j) all j (omega arith) (place j h)))
+
+    -- a key behind is of another id, whose rows are behind
+    past : (x : ℕ) → k4 < x → member x all ≡ member x ks
+    unfolding member
+    past x l =
+        let b = between in
+        let less : (y : ℕ) → y ≤ k4 → eqb y x ≡ false = λ y h. ne-eqb y x (λ q. omega arith) in
+        rw (less k (omega arith), less k1 (omega arith), less k2 (omega arith), less k3 (omega arith), less k4 (omega arith)) refl
+
+    later : (x : ℕ) → member x ks ≡ true → five all (x / 8) ≡ five ks (x / 8)
+    unfolding five
+    later x m =
+        let z = first in
+        let l = greater k4 x ks (keys-rising true (k4 ∷ ks) keys-fifth) m in
+        let b = bounds x (in-all (isForm true) ks x (forms ks keys-past) m) in
+        ap (each 5)
+        (fun-ext {f = λ (j : ℕ). member (bookKey (x / 8) j) all} {g = λ (j : ℕ). member (bookKey (x / 8) j) ks}
+        (λ j. past (bookKey (x / 8) j) (omega arith)))
+
+    whole : bookOk all ≡ bookOk ks
+    unfolding bookOk allIn
+    whole =
+        let z = first in
+        let b = between in
+        rw (own k refl, own k1 (omega arith), own k2 (omega arith), own k3 (omega arith), own k4 (omega arith))
+        (all-same (λ (x : ℕ). five all (x / 8)) (λ (x : ℕ). five ks (x / 8)) ks later)
+
+  -- The first five keys are those of one id, and the rest have all five rows of each of theirs.
+  pub five-first : bookOk all ≡ (eqb k4 (k + 4) && bookOk ks)
+  five-first = go (eqb k4 (k + 4)) refl (bookOk all) refl
+    where
+      go : (b : Bool) → eqb k4 (k + 4) ≡ b → (t : Bool) → bookOk all ≡ t → bookOk all ≡ (eqb k4 (k + 4) && bookOk ks)
+      go true eb t et = rw eb (whole (eqb-true k4 (k + 4) eb))
+      go false eb true et = absurd (eqb-false k4 (k + 4) eb (fifth-is k (k1 ∷ k2 ∷ k3 ∷ k4 ∷ ks) u et .1))
+      go false eb false et = rw eb et
+
+-- Of fewer than five keys each is one of an id that lacks a row.
+five-few : (ks : List ℕ) → rising ks ≡ true → length ks < 5 → bookOk ks ≡ eqb (length ks) 0
+five-few [] u h = unfold bookOk allIn in refl
+five-few (k ∷ ks) u h = go (bookOk (k ∷ ks)) refl ∙ sym (ne-eqb (suc (length ks)) 0 (λ e. omega arith))
+  where
+    go : (t : Bool) → bookOk (k ∷ ks) ≡ t → bookOk (k ∷ ks) ≡ false
+    go true e = absurd (omega (arith, fifth-is k ks u e .0))
+    go false e = e
+
+-- ---- keys still to be read
+
+pub book-few : (xs : List ℕ) (at m : ℕ) → keysOk true (fields 8 xs at m) ≡ true → m < 5 → bookOk (fields 8 xs at m) ≡ eqb m 0
+book-few xs at m g h =
+    five-few (fields 8 xs at m) (keys-rising true (fields 8 xs at m) g) (omega (arith, length-fields 8 xs at m))
+    ∙ ap (λ (n : ℕ). eqb n 0) (length-fields 8 xs at m)
+
+-- at least five are left
+module _ (xs : List ℕ) (at m n : ℕ) (e : m ≡ suc (suc (suc (suc (suc n))))) (g : keysOk true (fields 8 xs at m) ≡ true) where
+  abbrev rest : List ℕ
+  rest = fields 8 xs (at + 40) n
+
+  spread : fields 8 xs at m ≡ le 8 xs at ∷ le 8 xs (at + 8) ∷ le 8 xs (at + 16) ∷ le 8 xs (at + 24) ∷ le 8 xs (at + 32) ∷ rest
+  unfolding fields
+  spread =
+      let o2 : at + 8 + 8 ≡ at + 16 = omega arith in
+      let o3 : at + 16 + 8 ≡ at + 24 = omega arith in
+      let o4 : at + 24 + 8 ≡ at + 32 = omega arith in
+      let o5 : at + 32 + 8 ≡ at + 40 = omega arith in
+      rw (e, o2, o3, o4, o5) refl
+
+  good : keysOk true (le 8 xs at ∷ le 8 xs (at + 8) ∷ le 8 xs (at + 16) ∷ le 8 xs (at + 24) ∷ le 8 xs (at + 32) ∷ rest) ≡ true
+  good = ap (keysOk true) (sym spread) ∙ g
+
+  pub book-next : keysOk true rest ≡ true
+  book-next = keys-past (le 8 xs at) (le 8 xs (at + 8)) (le 8 xs (at + 16)) (le 8 xs (at + 24)) (le 8 xs (at + 32)) rest good
+
+  pub book-small : le 8 xs at < 2 ^ 35
+  unfolding allIn
+  book-small = bounds (le 8 xs at) (and-left (isForm true (le 8 xs at)) _ (forms _ good)) .0
+
+  -- by the keys that were read
+  module _ (k k4 : ℕ) (q : k ≡ le 8 xs at) (q4 : k4 ≡ le 8 xs (at + 32)) where
+    book-step : bookOk (fields 8 xs at m) ≡ (eqb k4 (k + 4) && bookOk rest)
+    book-step =
+        ap bookOk spread
+        ∙ five-first (le 8 xs at) (le 8 xs (at + 8)) (le 8 xs (at + 16)) (le 8 xs (at + 24)) (le 8 xs (at + 32)) rest good
+        ∙ rw (q, q4) refl
+
+    pub book-no : (k4 ≡ k + 4 → ⊥) → bookOk (fields 8 xs at m) ≡ false
+    book-no h = book-step ∙ rw (ne-eqb k4 (k + 4) h) refl
+
+    pub book-more : k4 ≡ k + 4 → bookOk (fields 8 xs at m) ≡ bookOk rest
+    book-more h = book-step ∙ rw (eq-eqb k4 (k + 4) h) refl
