@@ -11,10 +11,10 @@ use Rattle.rules.specs.Calls as Calls
 use Rattle.meaning.specs.State as States
 use Rattle.meaning.specs.Questions as Questions
 use Rattle.meaning.proofs.Equal.{equal-contents}
-use Rattle.chain.specs.InOrder.{InOrder}
+use Rattle.chain.specs.InOrder.{KeptInOrder}
 use Rattle.chain.proofs.Theorem.{sized}
 
-pub in-order : (pack : List ℕ) (P C : ℕ) → InOrder pack P C
+pub in-order : (pack : List ℕ) (P C : ℕ) → KeptInOrder pack P C
 unfolding States.stateOf Calls.rule Calls.refusal Questions.lentFor Questions.refusalFor
 in-order pack P C =
     record {

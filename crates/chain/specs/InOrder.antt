@@ -15,7 +15,7 @@ use Rattle.meaning.specs.Carried.{Carried}
 use Rattle.chain.specs.Chain.{Event, Chain}
 
 -- After any list of calls from a fresh store.
-pub record InOrder (pack : List ℕ) (P C : ℕ) : Type 0 where
+pub record KeptInOrder (pack : List ℕ) (P C : ℕ) : Type 0 where
   -- order is accepted and changes no byte: the rows are in order
   pub idle : (events : List Event) (store : List ℕ) (records : List Agent) → Chain pack P C events store records →
       (answer : Answer) (records′ : List Agent) (store′ : List ℕ) → Carried pack store records order answer records′ store′ →
