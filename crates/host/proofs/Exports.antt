@@ -23,6 +23,7 @@ use Rattle.slots.specs.Records.{slotsIn}
 use Rattle.answers.specs.Answers.{numberOf, valuesOf, withWords, slotsAfter}
 use Rattle.answers.specs.Answers as Answers
 use Rattle.agents.specs.declared.Answer.{Answer}
+use Rattle.store.specs.Ordered.{InOrder}
 use Rattle.host.specs.Told.{answerShort}
 use Rattle.host.specs.Exports.{buffersWrong, Exported, PutInOrder}
 use Rattle.host.proofs.Told.{same, missing}
@@ -92,9 +93,10 @@ in-order-short store answer h =
     record { short = λ n q. (same (sym e ∙ q), refl, refl); served = λ q. absurd (missing (sym q ∙ e)) }
 
 pub in-order : (store answer : List ℕ) (number : ℕ) (store′ answer′ : List ℕ) (said : Answer) → 12 ≤ length answer →
-    ((pack : List ℕ) (records : List Agent) → Carried pack store records order said records store′) →
+    ((pack : List ℕ) (records : List Agent) → Carried pack store records order said records store′)
+    × (accepted (answerOf said) ≡ true → InOrder store store′) →
     (number ≡ numberOf (answerOf said)) × (answer′ ≡ withWords answer (valuesOf (answerOf said))) → PutInOrder store answer number store′ answer′
 unfolding answerShort
 in-order store answer number store′ answer′ said h c w =
     let e : answerShort 12 answer ≡ none = rw (le-leb 12 (length answer) h) refl in
-    record { short = λ n s. absurd (missing (sym e ∙ s)); served = λ q. (said, c, w .0, w .1) }
+    record { short = λ n s. absurd (missing (sym e ∙ s)); served = λ q. (said, c .0, c .1, w .0, w .1) }

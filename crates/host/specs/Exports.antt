@@ -1,4 +1,5 @@
 -- What the exports for calls promise of the number returned and of the lent buffers. Assumes nothing: these are definitions.
+use mathlib.Core.Bool.{true}
 use mathlib.Core.List.{List}
 use mathlib.Core.Option.{Option, none, some}
 use mathlib.Core.Path.{_≡_}
@@ -7,6 +8,8 @@ use lib.Dec.{eqb, leb}
 use lib.ListN.{length}
 use Rattle.rules.specs.Basics.{if_then_else_}
 use Rattle.rules.specs.Calls.{Call, order}
+use Rattle.rules.specs.Plain.{accepted}
+use Rattle.store.specs.Ordered.{InOrder}
 use Rattle.agents.specs.declared.Agent.{Agent}
 use Rattle.agents.specs.declared.Answer.{Answer}
 use Rattle.agents.specs.Answers.{answerOf}
@@ -34,10 +37,11 @@ pub record Exported (pack store slots answer : List ℕ) (c : Call) (number : �
   pub served : buffersWrong answer slots ≡ none → Served pack store slots answer c number store′ slots′ answer′
 
 -- Order, which gets the store only: an answer buffer that is too short gives 100, and nothing is changed; otherwise the call is carried
--- out, with any pack and any records, and the number and the words are those of its answer.
+-- out, with any pack and any records, and the number and the words are those of its answer. Accepted, it leaves the store in order.
 pub record PutInOrder (store answer : List ℕ) (number : ℕ) (store′ answer′ : List ℕ) : Type 0 where
   pub short : (n : ℕ) → answerShort 12 answer ≡ some n → (number ≡ n) × (store′ ≡ store) × (answer′ ≡ answer)
   pub served : answerShort 12 answer ≡ none → (said : Answer)
       × ((pack : List ℕ) (records : List Agent) → Carried pack store records order said records store′)
+      × (accepted (answerOf said) ≡ true → InOrder store store′)
       × (number ≡ numberOf (answerOf said))
       × (answer′ ≡ withWords answer (valuesOf (answerOf said)))

@@ -5,6 +5,10 @@ ghost use Prim.Native.Nat.{ℕ};
 ghost use Rattle.rules.specs.Calls.{Call};
 ghost use Rattle.agents.specs.declared.Agent.{Agent};
 ghost use Rattle.meaning.specs.Carried.{Carried};
+ghost use mathlib.Core.Bool.{true};
+ghost use Rattle.rules.specs.Plain.{accepted};
+ghost use Rattle.agents.specs.Answers.{answerOf};
+ghost use Rattle.store.specs.Ordered.{InOrder};
 use agents::Agent;
 use agents::Answer;
 use agents::Outcome;
@@ -42,9 +46,11 @@ pub fn restart() -> Outcome
     agents::done(agents::no_agents())
 }
 
-// Order puts the rows of an earlier store in order. It gets the store only: no pack is asked and no slot is looked at.
+// Order puts the rows of an earlier store in order. It gets the store only: no pack is asked and no slot is looked at. `Carried` sees a store
+// by its contents, which order leaves; that the rows are in order afterwards is said beside it.
 pub fn order(store: &mut [u8]) -> Answer
-    ensures { λ r. ⌜ ((pack : List ℕ) (records : List Agent) → Carried pack (now (store .entry)) records Call.order r records (now (store .exit))) ⌝ }
+    ensures { λ r. ⌜ ((pack : List ℕ) (records : List Agent) → Carried pack (now (store .entry)) records Call.order r records (now (store .exit)))
+        × (accepted (answerOf r) ≡ true → InOrder (now (store .entry)) (now (store .exit))) ⌝ }
 {
     let v = ordering::order(store);
     match v {
