@@ -143,6 +143,9 @@ fn book_all(store: &mut Store<Vec<u8>>, ids: std::ops::RangeInclusive<u32>) {
 #[derive(Clone, Copy)]
 pub enum Keys {
     Present,
+    /// The first 16 data rows, and the last 16 where 255 rows are used.
+    First,
+    Last,
     Below,
     Between,
     Behind,
@@ -153,6 +156,8 @@ impl Keys {
     fn first_and_step(self) -> (u32, u32) {
         match self {
             Self::Present => (data_key(0), 64 * 14),
+            Self::First => (data_key(0), 64 * 2),
+            Self::Last => (data_key(224), 64 * 2),
             Self::Below => (500, 1),
             Self::Between => (data_key(1), 64 * 14),
             Self::Behind => (2_000_000, 1),
@@ -160,16 +165,37 @@ impl Keys {
     }
 }
 
-/// One partition of C = 256 with 239 rows, 17 free, and 50 requests in the book, ids 2 to 51. The only workflow is a block that does
-/// `operation` 16 times, to the keys in turn; id 2 stands at it in slot 0. Its log row goes ahead of all rows.
-pub fn at_block(operation: u8, keys: Keys) -> State {
+/// One partition of C = 256 with `used` rows. The only workflow is a block that does `operation` 16 times, to the keys in turn; `id`
+/// stands at it in slot 0.
+fn standing_at(id: u32, operation: u8, keys: Keys, used: u32, book: impl Fn(&mut Store<Vec<u8>>)) -> State {
     let mut code = vec![(0x60, 0)];
     (0..16).for_each(|_| code.extend([(operation, 7), (0x27, 6)]));
     code.extend([(0x71, 0), (0xB0, 0)]);
     let mut slots = ALL_EMPTY;
-    slots[0] = Agent::started(2, [2, 2, 3, 4]);
+    slots[0] = Agent::started(id, [id, 2, 3, 4]);
     (slots[0].registers[7], slots[0].registers[6]) = keys.first_and_step();
-    State { pack: encode(&[code]), store: filled(1, 239, |store| book_all(store, 2..=51)), slots }
+    State { pack: encode(&[code]), store: filled(1, used, book), slots }
+}
+
+/// 239 rows, 17 free, and 50 requests in the book, ids 2 to 51. The log row of id 2, which stands at the block, goes ahead of all rows.
+pub fn at_block(operation: u8, keys: Keys) -> State {
+    standing_at(2, operation, keys, 239, |store| book_all(store, 2..=51))
+}
+
+/// An id above those of all log rows, so that its own log row is sought among all of them.
+const LATEST: u32 = 20_000;
+
+/// As full as a block may find it: 255 rows, 127 of them log rows, and the last row is for the log row of the block, which goes behind
+/// the others of the log; or it is `logged`, and that row is there. The book has 50 requests too.
+pub fn at_full(operation: u8, keys: Keys, logged: bool) -> State {
+    let book = |store: &mut Store<Vec<u8>>| {
+        book_all(store, 2..=50);
+        book_all(store, LATEST..=LATEST);
+        if logged {
+            store.put(0, Key::Log { id: LATEST, step: 0 }.stored(), 1);
+        }
+    };
+    standing_at(LATEST, operation, keys, 255, book)
 }
 
 /// P = 8 and C = 256, as full as it goes: all rows of the partitions are used, and 255 of the book, by 51 requests, ids 1 to 51. The

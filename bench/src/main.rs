@@ -13,7 +13,7 @@ mod calls;
 mod inputs;
 mod sides;
 
-use inputs::{at_block, first_id_alone, full, nearly_empty, nearly_full, pack, schedule, standing, turning_pack};
+use inputs::{at_block, at_full, first_id_alone, full, nearly_empty, nearly_full, pack, schedule, standing, turning_pack};
 use inputs::{Keys, Standing, State};
 use reference::store::Request;
 use reference::Call;
@@ -50,6 +50,11 @@ const fn arrival(id: u32, workflow: u32) -> Call {
 
 const ARRIVAL: Call = arrival(90_000, 1);
 
+/// An arrival of an id that is booked, with what it is booked with.
+const fn known(id: u32) -> Call {
+    Call::Arrival { slot: 7, request: Request { id, workflow: 0, arguments: [id, 2, 3, 4] } }
+}
+
 /// The operations of a block that puts or reads 16 keys: PUT of the key itself, GET into register 1.
 const PUT: u8 = 0x97;
 const GET: u8 = 0x81;
@@ -85,7 +90,27 @@ fn cases_of_order() -> Vec<Case> {
     ]
 }
 
-/// The main cases, then how each grows, then those of rows by rising key.
+/// Where a search ends: in a partition as full as a block may find it, 16 keys present in its first or last data rows, or absent below or
+/// behind them; 16 keys written over, where question 21 must know that none is new; a log row found behind all others of the log. Then a
+/// known id at the book's first and last place.
+fn cases_of_search() -> Vec<Case> {
+    let at = |what: &str, operation, keys, logged| {
+        one(&format!("{what} full P=1 C=256"), move || at_full(operation, keys, logged), TURN)
+    };
+    let arrives = |what: &str, id| one(&format!("known {what} P=1 C=256"), || at_block(PUT, Keys::Below), known(id));
+    vec![
+        at("gets first", GET, Keys::First, false),
+        at("gets last", GET, Keys::Last, false),
+        at("gets below", GET, Keys::Below, false),
+        at("gets behind", GET, Keys::Behind, false),
+        at("puts over", PUT, Keys::Present, false),
+        at("logged", PUT, Keys::Present, true),
+        arrives("least", 2),
+        arrives("greatest", 51),
+    ]
+}
+
+/// The main cases, then how each grows, then those of rows by rising key and of where a search ends.
 fn cases() -> Vec<Case> {
     let at = |what: &str, call, p, c, m| {
         let total = total(&turning_pack(p, m));
@@ -106,6 +131,7 @@ fn cases() -> Vec<Case> {
     all.extend([2, 4, 8].map(|m| at("turn", TURN, 1, 32, m)));
     all.extend([32, 64, 128].map(events));
     all.extend(cases_of_order());
+    all.extend(cases_of_search());
     all
 }
 

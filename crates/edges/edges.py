@@ -3,7 +3,8 @@
 
 Each edge below is its words, a case, the answer that documents 01 and 02 give to it, and the store that it leaves where this isn't the
 store that was given; written by hand from the documents and not from any program. The sections follow the questions. Behind the answer of
-a call that is given a store, or of a list of calls, its bytes are printed.
+a call that is given a store, or of a list of calls, its bytes are printed. Where a search ends (W-204) is tried at every place: those
+edges are made from tables, which have the results by hand.
 """
 import os
 import struct
@@ -171,6 +172,123 @@ def refused(n, workflow=0, instruction=0):
 DONE, MOVED = "answer done\n", "answer moved\n"
 NINE = (0x05, 9)  # register 5 becomes 9
 GET = (0x85, 0)  # the value at register 0's key, to register 5
+
+# W-204: GET and HAS of register 0's key in partition 1, where register 5 holds 9: the result is the value and 1, or 9 where the key is
+# absent
+BOTH_READ = pack([(0x60, 1), (0x85, 0), (0xA6, 0), (0x25, 6), (0x75, 0), RETURN])
+# the rows of a partition by key; the log row of id 7, step 0 belongs between the first two
+SEVEN_ROWS = {log(6, 0): 1, log(7, 1): 2, log(8, 0): 3, data(10): 40, data(20): 50, data(30): 60, data(40): 70}
+# C, the rows, and each key that is sought there with the result, or none where 21 says no for want of a row for the log
+READ = [
+    (8, SEVEN_ROWS, [
+        ("just below the first data key", 9, 9), ("the first data key", 10, 41), ("between two keys", 15, 9), ("the second", 20, 51),
+        ("the third", 30, 61), ("just below the last", 39, 9), ("the last", 40, 71), ("just behind the last", 41, 9)]),
+    (5, {log(2**32 - 1, 65535): 1, data(0): 40, data(2**32 - 1): 50}, [
+        ("the least, behind the greatest log key", 0, 41), ("just behind the least", 1, 9), ("just below the greatest", 2**32 - 2, 9),
+        ("the greatest", 2**32 - 1, 51)]),
+    (5, {log(6, 0): 1, log(8, 0): 2}, [("log rows alone", 0, 9)]),
+    (5, {data(10): 40, data(20): 50}, [("ahead of every row", 0, 9)]),
+    (5, {}, [("an empty partition", 0, 9)]),
+    (5, {log(6, 0): 1, log(8, 0): 2, data(10): 40, data(20): 50, data(30): 60}, [
+        ("it is there, in a full partition", 20, None), ("it is not there, in a full partition", 15, None)]),
+]
+# 248 of 256 rows, and requests whose log rows fill the others: id, the key that its block reads, the result
+LARGE = {**{log(100 + i, i): i for i in range(100)}, **{data(10 * i): 1000 + i for i in range(1, 149)}}
+READERS = [(1, 0, 9), (2, 9, 9), (3, 10, 1002), (150, 745, 9), (151, 750, 1076), (199, 1480, 1149), (200, 1481, 9),
+           (2**32 - 1, 2**32 - 1, 9)]
+# 16 PUTs of register 4 at register 7's key, to which register 6 is added behind each; the result is register 0's
+SIXTEEN = pack([BEGIN, *[(0x97, 4), (0x27, 6)] * 16, END, RETURN])
+# at position 1, where an agent may have step 1, a block that PUTs register 2 at register 1's key; its result is register 2's
+STEP_1 = pack([SET, BEGIN, PUT, (0x72, 0), RETURN])
+# the log keys around that of id 7, step 1: the same id with a step more or less, the same step with an id more or less
+AHEAD = [log(5, 1), log(6, 1), log(6, 65535), log(7, 0)]
+BEHIND = [log(7, 2), log(8, 0), log(8, 1), log(9, 1)]
+# three requests of three workflows with 3, 2 and 1 instructions; and what a new id arrives with
+TALL = pack([SET, SET, RETURN], [SET, RETURN], [RETURN])
+THREE = [(3, 0, [1, 20, 300, 4000]), (5, 1, [2, 30, 400, 5000]), (7, 2, [3, 40, 500, 6000])]
+NEW = [0, 100, 200, 30, 0]
+# a block whose result is register 0 and 2, 4, 8 times registers 1, 2, 3: which argument is in which register shows
+WEIGHED = pack(*[[BEGIN, (0x23, 3), (0x22, 3), (0x22, 2), (0x21, 2), (0x21, 1), (0x20, 1), END, RETURN]] * 3)
+
+
+def in_part(p, rows):
+    """Rows by key, as rows of a partition."""
+    return [(p, k, v) for k, v in rows.items()]
+
+
+def reads(C, rows, words, key, result):
+    """A block of request 7 reads a key of partition 1; partition 0 has this key too, with another value."""
+    given = [(0, data(key), 80)] + in_part(1, rows)
+    case = turn(BOTH_READ, store(2, C, given, BOOKED), {0: agent(7, registers=[key, 0, 0, 0, 0, 9])})
+    words = "GET and HAS of key %d: %s" % (key, words)
+    if result is None:
+        return (words, case, refused(21))
+    return (words, case, MOVED, store(2, C, given + [(1, log(7, 0), result)], BOOKED))
+
+
+def reads_in_256():
+    """Eight blocks read, one in each slot, and fill the partition with their log rows; they reply, and a ninth finds no row."""
+    rows, book = in_part(1, LARGE), [(id, 0, [0] * 4) for id in [9, *[id for id, _, _ in READERS]]]
+    slots = {i: agent(id, registers=[key, 0, 0, 0, 0, 9]) for i, (id, key, _) in enumerate(READERS)}
+    made = [(TURN, [i]) for i in range(8)] * 2 + [(RETRY, [0, 9]), (TURN, [0])]
+    answers = MOVED * 8 + "".join("answer reply %d %d\n" % (id, result) for id, _, result in READERS) + DONE + refused(21)
+    return ("eight blocks read in a partition of 256 rows, a ninth finds it full",
+            calls(BOTH_READ, store(2, 256, rows, book), made, slots), answers,
+            store(2, 256, rows + [(1, log(id, 0), result) for id, _, result in READERS], book))
+
+
+def writes(words, p, registers, rows, new):
+    """A block of request 7 that leaves `new` over `rows`, both by key: with just enough rows, and with one too few."""
+    after, slots = {**rows, **new}, {0: agent(7, registers=registers)}
+    C = len(after)
+    return [(words + ", just enough rows", turn(p, store(1, C, in_part(0, rows), BOOKED), slots), MOVED,
+             store(1, C, in_part(0, after), BOOKED)),
+            (words + ", one row too few", turn(p, store(1, C - 1, in_part(0, rows), BOOKED), slots), refused(21))]
+
+
+def writes_one(words, key):
+    """PUT of 99 at one key over the seven rows; the result is the key."""
+    return writes("PUT at key %d, %s" % (key, words), KEPT, [key, 99], SEVEN_ROWS, {log(7, 0): key, data(key): 99})
+
+
+def writes_four(words, there, others):
+    """PUTs of 7 at keys 10, 20, 30 and 40, some of which are there; the result is 20."""
+    keys = [10, 20, 30, 40]
+    rows = {**dict.fromkeys(others, 1), **{data(k): k for k in there}}
+    return writes("PUTs at four keys, " + words, FOUR, [*keys, 7], rows, {log(7, 0): 20, **{data(k): 7 for k in keys}})
+
+
+def seeks_log(ahead, found):
+    """The log row of id 7, step 1 is sought among four others, so many of them smaller. Found, it is the result, though the partition is
+    full and key 200 would be PUT anew; else the block runs, and log row and data row fill the partition."""
+    others = dict.fromkeys(AHEAD[4 - ahead:] + BEHIND[:4 - ahead], 1)
+    given = in_part(0, {**others, **({log(7, 1): 77, data(200): 5} if found else {})})
+    after = given if found else in_part(0, {**others, log(7, 1): 30, data(200): 30})
+    slots = {0: agent(7, 1, 1, [100, 200, 30])}
+    return ("a log row %s, %d log rows ahead of its place" % ("that is there" if found else "that is not there", ahead),
+            calls(STEP_1, store(1, 6, given, BOOKED), [(TURN, [0])] * 2, slots),
+            MOVED + "answer reply 7 %d\n" % (77 if found else 30), store(1, 6, after, BOOKED))
+
+
+def seeks_id(id, rows):
+    """The first block of an id, over rows by key: register 2 is PUT at register 0's key, 1; the result is that key."""
+    given = in_part(0, rows)
+    return (turn(pack([BEGIN, (0x90, 2), END, RETURN]), store(1, 5, given, [like(id)]), {0: agent(id, registers=[1, 0, 30])}), MOVED,
+            store(1, 5, given + [(0, log(id, 0), 1), (0, data(1), 30)], [like(id)]))
+
+
+def new_id(id, C):
+    """An id that is not booked arrives where 3, 5 and 7 are."""
+    return call(ARRIVAL, [0, id, *NEW], TALL, store(1, C, book=THREE))
+
+
+def known(id, workflow, arguments):
+    """A booked id arrives in a full book with each word changed in turn, the workflow to another of the three; then as it is booked."""
+    booked = [workflow, *arguments]
+    changed = [[(w + 1) % 3 if i == j == 0 else w + (i == j) for i, w in enumerate(booked)] for j in range(5)]
+    return ("booked id %d of a full book, each word changed in turn, then the same" % id,
+            calls(TALL, store(1, 15, book=THREE), [(ARRIVAL, [0, id, *rest]) for rest in [*changed, booked]]), refused(18) * 5 + DONE)
+
 
 EDGES = [
     ("the whole case", schedule(MOVE, 2, 5, [SEVEN, EIGHT], [0x00, 0x10, 0x10, 0x20, 0x31, 0x11, 0x11, 0x11, 0x11, 0x01], [0] * 9 + [1]), """\
@@ -457,6 +575,61 @@ log 0 8 0 100
         (ARRIVAL, [0, 7, 0, 100, 1, 0, 0]), (TURN, [0]), (ARRIVAL, [1, 8, 0, 50, 2, 0, 0]), (TURN, [1])]), (DONE + MOVED) * 2, BOTH),
     ("requests 8 and 7 one after the other", calls(KEPT, store(1, 10), [
         (ARRIVAL, [0, 8, 0, 50, 2, 0, 0]), (ARRIVAL, [1, 7, 0, 100, 1, 0, 0]), (TURN, [0]), (TURN, [1])]), DONE * 2 + MOVED * 2, BOTH),
+    # where a search ends: GET and HAS, PUT, the log, the book, and where data keys begin in what is printed
+    *(reads(C, rows, *line) for C, rows, lines in READ for line in lines),
+    reads_in_256(),
+    *(edge for words, key in [("the first", 10), ("the second", 20), ("the third", 30), ("the last", 40), ("new, below the others", 0),
+                              ("new, between two", 25), ("new, behind the others", 2**32 - 1)] for edge in writes_one(words, key)),
+    *writes_four("the first and the third there and all other rows behind", [10, 30], [data(k) for k in [50, 51, 52, 53, 54]]),
+    *writes_four("the second and the last there and all other rows ahead", [20, 40], [log(5, 0), log(6, 0), data(1), data(2), data(3)]),
+    *writes_four("the first there and other rows among them", [10], [log(6, 0), log(8, 0), data(5), data(25), data(45)]),
+    *writes_four("the last there and other rows among them", [40], [log(6, 0), log(8, 0), data(5), data(25), data(45)]),
+    *writes("16 PUTs, every second key there", SIXTEEN, [6, 0, 0, 0, 7, 0, 10, 10], {data(20 * i): i for i in range(1, 9)},
+            {log(7, 0): 6, **{data(10 * i): 7 for i in range(1, 17)}}),
+    *(seeks_log(ahead, found) for found in [True, False] for ahead in range(5)),
+    ("the log row of the greatest id goes between the log rows and data key 0",
+     *seeks_id(2**32 - 1, {log(2**32 - 2, 65535): 1, data(0): 2})),
+    ("the log row of id 0, whose key is 0, among unused rows of zero", *seeks_id(0, {data(0): 2})),
+    *(("id %d arrives where 3, 5 and 7 are booked, five rows free" % id, new_id(id, 20), DONE,
+       store(1, 20, book=[*THREE, like(id)])) for id in [2, 4, 6, 8]),
+    *(("id %d arrives where 3, 5 and 7 are booked, four rows free" % id, new_id(id, 19), refused(19)) for id in [2, 4, 6, 8]),
+    ("ids 2, 4, 6 and 8 arrive in a full book", calls(TALL, store(1, 15, book=THREE), [(ARRIVAL, [0, id, *NEW]) for id in [2, 4, 6, 8]]),
+     refused(19) * 4),
+    *(known(*request) for request in THREE),
+    ("the greatest id arrives in an empty book of five rows", call(ARRIVAL, [0, 2**32 - 1, *NEW], TALL, store()), DONE,
+     store(book=[like(2**32 - 1)])),
+    ("retries of ids 0, 7 and 2^32 - 1 in an empty book", calls(TALL, store(), [(RETRY, [0, id]) for id in [0, 7, 2**32 - 1]]),
+     refused(20) * 3),
+    ("retries of ids 2 to 8 where 3, 5 and 7 are booked, and what they were booked with", calls(
+        WEIGHED, store(1, 15, book=THREE), [(RETRY, [id, id]) for id in range(2, 8)] + [(RETRY, [0, 8])]
+        + [(TURN, [id]) for id in [3, 5, 7] * 2]),
+     (refused(20) + DONE) * 3 + refused(20) + MOVED * 3 + "answer reply 3 33241\nanswer reply 5 41662\nanswer reply 7 50083\n",
+     store(1, 15, [(0, log(3, 0), 33241), (0, log(5, 0), 41662), (0, log(7, 0), 50083)], THREE)),
+    ("agents of ids 3, 5 and 7, each at the end of its workflow", calls(
+        TALL, store(1, 15, book=THREE), [(TURN, [i]) for i in range(3)], {0: agent(3, 2), 1: agent(5, 1), 2: agent(7)}),
+     "answer reply 3 0\nanswer reply 5 0\nanswer reply 7 0\n"),
+    ("an agent of id 5 at the place where id 3 ends", turn(TALL, store(1, 15, book=THREE), {0: agent(5, 2)}), refused(14)),
+    ("an agent of id 4 between booked ids", turn(TALL, store(1, 15, book=THREE), {0: agent(4)}), refused(14)),
+    ("data rows and log rows, log rows alone, and no row", schedule(
+        pack([BEGIN, (0x90, 1), END, RETURN], [(0x60, 1), END, RETURN]), 3, 20,
+        [[2**32 - 1, 0, 0, 5, 0, 0], [1, 0, 2**32 - 1, 6, 0, 0], [9, 1, 3, 0, 0, 0], [8, 1, 4, 0, 0, 0]],
+        [0x00, 0x01, 0x02, 0x03, 0x10, 0x11, 0x12, 0x13], [0, 1, 2, 3, 0, 0, 0, 0]), """\
+events 8
+0 done
+1 done
+2 done
+3 done
+4 moved
+5 moved
+6 moved
+7 moved
+row 0 0 5
+row 0 4294967295 6
+log 0 1 0 4294967295
+log 0 4294967295 0 0
+log 1 8 0 4
+log 1 9 0 3
+"""),
     # 22, 23 and 9 of a schedule
     ("a schedule with no bytes", Case(struct.pack("<BII", 0, len(ONE), 0) + ONE), "refused 22\n"),
     ("no pack and no schedule", Case(struct.pack("<BII", 0, 0, 0)), "refused 1\n"),

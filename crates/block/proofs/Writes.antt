@@ -3,29 +3,31 @@ use mathlib.Core.Bool.{Bool, true, false}
 use mathlib.Core.List.{List, [], _∷_}
 use mathlib.Core.Option.{Option, none, some}
 use mathlib.Core.Path.{_≡_, refl, sym, ap, _∙_, subst, fun-ext}
-use Prim.Native.Nat.{ℕ, _+_, _^_, _≤_, _<_}
+use Prim.Native.Nat.{ℕ, _+_, _^_, _<_}
 use native.Mathlib.Omega.{arith}
-use borrow.Author.Tests.{eq-eqb, ne-eqb, eqb-true, eqb-false, ltb-true, lt-ltb}
+use borrow.Author.Tests.{eq-eqb, ne-eqb, eqb-true, eqb-false, ltb-true, lt-ltb, le-leb, lt-leb}
 use lib.Dec.{eqb, ltb}
-use lib.ListN.{length, take}
+use lib.ListN.{length, getD, take}
 use Rattle.rules.specs.Basics.{if_then_else_, update}
-use Rattle.rules.specs.Blocks.{Block}
+use Rattle.rules.specs.Blocks.{Block, rowsNeeded}
 use Rattle.rules.specs.Keys.{logKey, isDataKey, isLogKey, tableOf, logOf}
 use Rattle.rules.proofs.Tests.{yes-no, and-left, and-right, and-both}
 use Rattle.rules.proofs.Keys.{log-is, data-bounds, log-bounds, log-no-data, log-put, log-put-data}
 use Rattle.store.specs.Rows.{Row, pairs, lookup, insertAt, putRow, putAll, newRows, countNew, rowsOf, keysIn}
 use Rattle.store.specs.Rows as Rows
-use Rattle.store.specs.Layout.{partsOf}
+use Rattle.store.specs.Layout.{partsOf, capOf}
 use Rattle.store.specs.Questions.{isForm, ahead, rising, allIn, keysOk}
-use Rattle.store.specs.Sound.{Stored, Sound}
+use Rattle.store.specs.Sound.{Stored, StoredIfRoom, Sound}
+use Rattle.store.specs.Answers.{foundIn}
+use Rattle.store.specs.declared.rows.Found.the-variants.{At, Belongs}
 use Rattle.store.specs.Sound as Sounds
 use Rattle.store.specs.Questions as Questions
 use Rattle.store.proofs.Lists.{lookup-put-same, lookup-put-other, rises-none}
-use Rattle.store.proofs.Search.{new-small, changed-parts, changed-cap, changed-here, changed-there}
+use Rattle.store.proofs.Search.{at-lookup, no-lookup, changed-parts, changed-cap, changed-here, changed-there}
 use Rattle.store.proofs.Sound.{length-put-all, log-form}
 use Rattle.instruction.specs.Pending.{over, seen, rowsIn, newIn, Sized, Kept}
 use Rattle.block.specs.Run.{blockOf}
-use Rattle.block.specs.Through.{outcomeOf, logIn, hasRoom, Committed, Through}
+use Rattle.block.specs.Through.{logIn, hasRoom, Committed, Through}
 use Rattle.instruction.specs.declared.pending.Pending.{Pending}
 use Rattle.block.specs.declared.run.Ran.{Ran}
 use Rattle.block.specs.declared.write.BlockOutcome.{BlockOutcome}
@@ -75,8 +77,15 @@ log-ahead k [] l a u = refl
 log-ahead k (x ∷ ks) l a u =
     and-both (ltb k x) _ (lt-ltb k x (omega (arith, log-bounds k l, data-bounds x (and-left (isDataKey x) _ a)))) u
 
-pub log-at : (rs : List Row) (id t : ℕ) → id < 2 ^ 32 → t < 65536 → logIn rs id t ≡ lookup (logKey id t) rs
+log-at : (rs : List Row) (id t : ℕ) → id < 2 ^ 32 → t < 65536 → logIn rs id t ≡ lookup (logKey id t) rs
 log-at rs id t h g = rw (lt-ltb id (2 ^ 32) h, lt-ltb t 65536 g) refl
+
+-- the log row by the search for it
+pub log-none : (rs : List Row) (id t i : ℕ) → id < 2 ^ 32 → t < 65536 → foundIn (logKey id t) (keysIn rs) ≡ Belongs i → logIn rs id t ≡ none
+log-none rs id t i h g e = log-at rs id t h g ∙ no-lookup (logKey id t) rs i e
+
+pub log-some : (rs : List Row) (id t i : ℕ) → id < 2 ^ 32 → t < 65536 → foundIn (logKey id t) (keysIn rs) ≡ At i → logIn rs id t ≡ some (getD rs i (0, 0) .1)
+log-some rs id t i h g e = log-at rs id t h g ∙ at-lookup (logKey id t) rs i e
 
 -- the pending rows hide no log row
 log-same : (q : Pending) → Kept q → (rs : List Row) (id t : ℕ) → logOf (seen (rowsIn q) rs) id t ≡ logIn rs id t
@@ -108,6 +117,12 @@ module _ (r : Ran) (kept : Kept (r .pending)) (id t v : ℕ) (h : id < 2 ^ 32) (
   keys-are : take (q .count) (q .keys) ≡ logKey id t ∷ keysIn (rowsIn (r .pending))
   unfolding Rows.keysIn
   keys-are = sym (keys-here q sized) ∙ ap keysIn rows-are
+
+  pub first-key : getD (take (q .count) (q .keys)) 0 0 ≡ logKey id t
+  first-key = ap (λ (l : List ℕ). getD l 0 0) keys-are
+
+  pub some-keys : 0 < length (take (q .count) (q .keys))
+  some-keys = omega (arith, ap length keys-are)
 
   rising-all : rising (logKey id t ∷ keysIn (rowsIn (r .pending))) ≡ true
   rising-all = log-ahead (logKey id t) (keysIn (rowsIn (r .pending))) (log-is id t h g) (kept .data-keys) (kept .in-order)
@@ -179,29 +194,28 @@ module _ (xs ys : List ℕ) (p : ℕ) (r : Ran) (kept : Kept (r .pending)) (id t
 
 -- ---- question 21
 
-count-few : (ks : List ℕ) (rs : List Row) → countNew ks rs ≤ length ks
-unfolding Rows.countNew
-count-few [] rs = omega arith
-count-few (k ∷ ks) rs = omega (arith, new-small (lookup k rs), count-few ks rs)
+-- A block's rows, by the answer of their write: written if question 21 says yes, else nothing is changed.
+module _ (xs ys : List ℕ) (p : ℕ) (r : Ran) (kept : Kept (r .pending)) (id t : ℕ) (h : id < 2 ^ 32) (g : t < 65536) (q : Pending)
+    (sized : Sized q) (e : rowsIn q ≡ insertAt (rowsIn (r .pending)) 0 (logKey id t, r .result))
+    (good : keysOk false (keysIn (rowsOf xs p)) ≡ true) (new : logIn (rowsOf xs p) id t ≡ none) where
+  count : length (putAll (pairs (take (q .count) (q .keys)) (take (q .count) (q .values))) (rowsOf xs p)) ≡ length (rowsOf xs p) + rowsNeeded (blockOf (rowsOf xs p) r)
+  count = length-out r kept id t (r .result) h g q sized e (rowsOf xs p) good new
 
--- counted on the keys as the arrays have them
-pub new-counted : (q : Pending) (rs : List Row) → Kept q → countNew (take (q .count) (q .keys)) rs ≡ newIn q rs
-new-counted q rs k = ap (λ (ks : List ℕ). countNew ks rs) (sym (keys-here q (k .sized)))
+  pub written : StoredIfRoom xs ys p (putAll (pairs (take (q .count) (q .keys)) (take (q .count) (q .values)))) true → Through xs ys p id t (blockOf (rowsOf xs p) r) (Result (r .result)) none
+  unfolding Sounds.StoredIfRoom Through
+  written s =
+      let yes : hasRoom xs p (blockOf (rowsOf xs p) r) ≡ true = le-leb (length (rowsOf xs p) + rowsNeeded (blockOf (rowsOf xs p) r)) (capOf xs) (omega (arith, s .0, count)) in
+      rw yes (refl, committed xs ys p r kept id t h g q sized e (s .1) good new)
 
-pub new-few : (q : Pending) (rs : List Row) → Kept q → newIn q rs ≤ q .count
-new-few q rs k = omega (arith, count-few (keysIn (rowsIn q)) rs, ap length (keys-here q (k .sized)), keys-count q (k .sized))
+  pub no-room : StoredIfRoom xs ys p (putAll (pairs (take (q .count) (q .keys)) (take (q .count) (q .values)))) false → Through xs ys p id t (blockOf (rowsOf xs p) r) NoRoom none
+  unfolding Sounds.StoredIfRoom Through
+  no-room s =
+      let full : hasRoom xs p (blockOf (rowsOf xs p) r) ≡ false = lt-leb (length (rowsOf xs p) + rowsNeeded (blockOf (rowsOf xs p) r)) (capOf xs) (omega (arith, s .0, count)) in
+      rw full (refl, s .1)
 
-module _ (xs ys : List ℕ) (p id t : ℕ) (b b′ : Block) (e : b ≡ b′) where
-  -- what is shown of the block that the code ran holds of the rules' block
-  same-block : (r : BlockOutcome) → if_then_else_ (hasRoom xs p b) ((r ≡ outcomeOf (b .result)) × Committed xs ys p id t b) ((r ≡ NoRoom) × (ys ≡ xs)) → Through xs ys p id t b′ r none
-  unfolding Through
-  same-block r = subst (λ (a : Block). if_then_else_ (hasRoom xs p a) ((r ≡ outcomeOf (a .result)) × Committed xs ys p id t a) ((r ≡ NoRoom) × (ys ≡ xs))) e
-
-  pub through-room : hasRoom xs p b ≡ true → Committed xs ys p id t b → Through xs ys p id t b′ (outcomeOf (b .result)) none
-  through-room l c = same-block (outcomeOf (b .result)) (rw l (refl, c))
-
-  pub through-no-room : hasRoom xs p b ≡ false → ys ≡ xs → Through xs ys p id t b′ NoRoom none
-  through-no-room l c = same-block NoRoom (rw l (refl, c))
+-- what is shown of the block that the code ran holds of the rules' block
+pub same-block : (xs ys : List ℕ) (p id t : ℕ) (b b′ : Block) (r : BlockOutcome) → b ≡ b′ → Through xs ys p id t b r none → Through xs ys p id t b′ r none
+same-block xs ys p id t b b′ r e = subst (λ (a : Block). Through xs ys p id t a r none) e
 
 pub through-logged : (xs ys : List ℕ) (p id t : ℕ) (b : Block) (o : Option ℕ) (v : ℕ) → o ≡ some v → ys ≡ xs → Through xs ys p id t b (Result v) o
 unfolding Through

@@ -3,11 +3,10 @@ ghost use mathlib.Core.Path.{_≡_};
 ghost use Prim.Native.Nat.{_^_, _≤_, _<_};
 ghost use Rattle.rules.specs.Keys.{logKey};
 ghost use Rattle.store.specs.Layout.{partsOf};
-ghost use Rattle.store.specs.Rows.{rowsOf};
-ghost use Rattle.store.specs.Answers.{gotOf};
+ghost use Rattle.store.specs.Rows.{rowsOf, keysIn};
+ghost use Rattle.store.specs.Answers.{foundIn};
 ghost use Rattle.store.specs.Sound.{Sound};
-ghost use Rattle.block.specs.Through.{logIn};
-use store::rows::Got;
+use store::rows::Found;
 
 // Its stored key.
 pub(crate) fn log_key(id: u32, step: u16) -> u64
@@ -16,11 +15,11 @@ pub(crate) fn log_key(id: u32, step: u16) -> u64
     id as u64 * 65536 + step as u64
 }
 
-// The result that is logged for it in a partition.
-pub fn logged(store: &[u8], partition: usize, id: u32, step: u16) -> Got
+// Where it stands in a partition, or where it belongs.
+pub fn log_row(store: &[u8], partition: usize, id: u32, step: u16) -> Found
     requires { ⌜ Sound (now store) × (partition ≤ partsOf (now store)) ⌝ }
-    ensures { λ r. ⌜ r ≡ gotOf (logIn (rowsOf (now (store .entry)) partition) id step) ⌝ }
+    ensures { λ r. ⌜ r ≡ foundIn (logKey id step) (keysIn (rowsOf (now (store .entry)) partition)) ⌝ }
 {
     let key = log_key(id, step);
-    store::rows::get(store, partition, key)
+    store::rows::find(store, partition, 0, key)
 }

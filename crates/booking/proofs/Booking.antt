@@ -3,14 +3,14 @@ use mathlib.Core.Bool.{Bool, true, false, _&&_, _||_}
 use mathlib.Core.List.{List, [], _∷_}
 use mathlib.Core.Logic.{_≢_}
 use mathlib.Core.Option.{Option, none, some, Option·getD}
-use mathlib.Core.Path.{_≡_, refl, sym, _∙_, ap, subst, fun-ext}
+use mathlib.Core.Path.{_≡_, refl, sym, _∙_, ap, ap₂, subst, fun-ext}
 use Prim.Native.Nat.{ℕ, zero, suc, _+_, _*_, _/_, _^_, _≤_, _<_}
 use native.Mathlib.Nat.{add-zero}
 use native.Mathlib.Decide.{ℕ-discrete}
 use native.Mathlib.Omega.{arith}
 use borrow.Author.Tests.{lt-ltb, le-leb, lt-leb, eq-eqb, ne-eqb, eqb-true}
 use lib.Dec.{eqb, ltb}
-use lib.ListN.{length}
+use lib.ListN.{length, getD}
 use Rattle.rules.specs.Basics.{if_then_else_, update, isSome}
 use Rattle.rules.specs.Keys.{bookKey}
 use Rattle.rules.specs.Questions.{No, number}
@@ -25,14 +25,16 @@ use Rattle.rules.proofs.Updates.{update-same, update-other, none-some, false-tr
 use Rattle.rules.proofs.Tests.{and-left, and-right}
 use Rattle.rules.proofs.Questions.{ask-none}
 use Rattle.store.specs.Rows.{Row, lookup, pairs, putAll, newRows, countNew, rowsOf, storeOf, keysIn}
-use Rattle.store.specs.Layout.{partsOf, capOf}
+use Rattle.store.specs.Layout.{partsOf}
 use Rattle.store.specs.Questions.{member, unlike, ahead, rising, five, allIn, bookOk, isForm, storeRefusal, keysOk}
 use Rattle.store.specs.Sound as Sounds
-use Rattle.store.specs.Sound.{Sound, Stored}
+use Rattle.store.specs.Sound.{Sound, Stored, StoredIfRoom}
+use Rattle.store.specs.Answers.{foundIn}
+use Rattle.store.specs.declared.rows.Found.the-variants.{At, Belongs}
 use Rattle.store.specs.Questions as StoreQuestions
 use Rattle.store.proofs.Lists.{lookup-put-same, lookup-put-other}
 use Rattle.store.proofs.Sound.{book-five, length-put-all, book-form, store-ok, store-passes, all-members, five-all}
-use Rattle.store.proofs.Search.{changed-parts, changed-cap, changed-here}
+use Rattle.store.proofs.Search.{at-lookup, no-lookup, changed-parts, changed-cap, changed-here}
 use Rattle.pack.specs.Meaning.{packOf}
 use Rattle.agents.specs.declared.Agent.{Agent}
 use Rattle.agents.specs.declared.Outcome.{Outcome}
@@ -42,6 +44,7 @@ use Rattle.agents.proofs.Answers.{refused-some}
 use Rattle.meaning.specs.State.{contentsOf, stateOf, valueIn, argumentsOf, requestOf, bookOf}
 use Rattle.meaning.specs.Questions.{bookRows, lentFor}
 use Rattle.meaning.specs.Carried.{Wrote, Carried}
+use Rattle.meaning.proofs.Book.{book-row}
 use Rattle.meaning.proofs.Contents.{contents-book}
 use Rattle.store.proofs.Order.{rising-unlike}
 use Rattle.meaning.proofs.Equal.{only-bytes}
@@ -212,15 +215,25 @@ module _ (xs : List ℕ) (p id w a0 a1 a2 a3 : ℕ) (e : p ≡ partsOf xs) where
       subst (λ (ks : List ℕ). allIn (isForm (eqb p (partsOf xs))) ks ≡ true) (sym (keys-as id))
       (subst (λ (b : Bool). allIn (isForm b) (bookKeys id) ≡ true) (sym (eq-eqb p (partsOf xs) e)) (keys-formed id h))
 
-  pub code-room : length (withRequest id w a0 a1 a2 a3 (bookRows xs)) ≤ capOf xs → length (putAll (pairs (codeKeys id) (bookValues w a0 a1 a2 a3)) (rowsOf xs p)) ≤ capOf xs
-  code-room h =
-      subst (λ (ks : List ℕ). length (putAll (pairs ks (bookValues w a0 a1 a2 a3)) (rowsOf xs p)) ≤ capOf xs) (sym (keys-as id))
-      (subst (λ (q : ℕ). length (withRequest id w a0 a1 a2 a3 (rowsOf xs q)) ≤ capOf xs) (sym e) h)
+  pub code-first : (i : ℕ) → foundIn (bookKey id 0) (keysIn (bookRows xs)) ≡ Belongs i → foundIn (id * 8) (keysIn (rowsOf xs p)) ≡ Belongs i
+  code-first i f = ap₂ (λ (k q : ℕ). foundIn k (keysIn (rowsOf xs q))) (sym (add-zero (id * 8))) e ∙ f
 
-  pub code-stored : (ys : List ℕ) → Stored xs ys p (putAll (pairs (codeKeys id) (bookValues w a0 a1 a2 a3))) → Stored xs ys (partsOf xs) (withRequest id w a0 a1 a2 a3)
-  code-stored ys s =
-      subst (λ (q : ℕ). Stored xs ys q (withRequest id w a0 a1 a2 a3)) e
-      (subst (λ (ks : List ℕ). Stored xs ys p (putAll (pairs ks (bookValues w a0 a1 a2 a3)))) (keys-as id) s)
+  pub code-stored : (ys : List ℕ) (answer : Bool) → StoredIfRoom xs ys p (putAll (pairs (codeKeys id) (bookValues w a0 a1 a2 a3))) answer →
+      StoredIfRoom xs ys (partsOf xs) (withRequest id w a0 a1 a2 a3) answer
+  code-stored ys answer s =
+      subst (λ (q : ℕ). StoredIfRoom xs ys q (withRequest id w a0 a1 a2 a3) answer) e
+      (subst (λ (ks : List ℕ). StoredIfRoom xs ys p (putAll (pairs ks (bookValues w a0 a1 a2 a3))) answer) (keys-as id) s)
+
+-- ── what the book has of an id, by the search for its first row ──
+
+module _ (rows : List Row) (id i : ℕ) (h : id < 2 ^ 32) where
+  pub found-some : foundIn (bookKey id 0) (keysIn rows) ≡ At i → bookOf (valueIn rows) id ≡ some (record { workflow = getD rows i (0, 0) .1; arguments = argumentsOf (valueIn rows) id })
+  unfolding requestOf
+  found-some f = book-row rows id h ∙ ap (λ o. requestOf o (argumentsOf (valueIn rows) id)) (at-lookup (bookKey id 0) rows i f)
+
+  pub found-none : foundIn (bookKey id 0) (keysIn rows) ≡ Belongs i → bookOf (valueIn rows) id ≡ none
+  unfolding requestOf
+  found-none f = book-row rows id h ∙ ap (λ o. requestOf o (argumentsOf (valueIn rows) id)) (no-lookup (bookKey id 0) rows i f)
 
 -- ── a new request ──
 

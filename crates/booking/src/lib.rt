@@ -2,17 +2,21 @@
 ghost use mathlib.Core.Path.{_≡_};
 ghost use mathlib.Core.Option.{none};
 ghost use mathlib.Core.List.{[], _∷_};
-ghost use lib.ListN.{length};
 ghost use Prim.Native.Nat.{_≤_};
+ghost use Rattle.rules.specs.Keys.{bookKey};
 ghost use Rattle.rules.specs.Store.{sameRequest};
-ghost use Rattle.store.specs.Layout.{partsOf, capOf};
-ghost use Rattle.store.specs.Sound.{Sound, Stored};
+ghost use Rattle.store.specs.Layout.{partsOf};
+ghost use Rattle.store.specs.Rows.{keysIn};
+ghost use Rattle.store.specs.Answers.{foundIn};
+ghost use Rattle.store.specs.declared.rows.Found.the-variants.{Belongs};
+ghost use Rattle.store.specs.Sound.{Sound, StoredIfRoom};
 ghost use Rattle.store.specs.Questions.{storeRefusal};
 ghost use Rattle.meaning.specs.State.{valueIn, argumentsOf};
 ghost use Rattle.meaning.specs.Questions.{bookRows};
 ghost use Rattle.booking.specs.Booking.{argumentOf, startedFrom, withRequest, Booked};
 use agents::Agent;
 use rules::Verdict;
+use store::rows::Found;
 use store::rows::Got;
 
 // Argument j of a booked id, 1 to 4.
@@ -69,16 +73,26 @@ fn same_request(
     a3 == argument(store, id, 4)
 }
 
-// The five rows of a request are written, all at once.
-fn write_request(store: &mut [u8], id: u32, workflow: u32, a0: u32, a1: u32, a2: u32, a3: u32)
-    requires { ⌜ Sound (now store) × (length (withRequest id workflow a0 a1 a2 a3 (bookRows (now store))) ≤ capOf (now store)) ⌝ }
-    ensures { λ _. ⌜ Stored (now (store .entry)) (now (store .exit)) (partsOf (now (store .entry))) (withRequest id workflow a0 a1 a2 a3) ⌝ }
+// The five rows of a request are written, all at once, if there is room for them: that is question 19. The first is new and belongs at row
+// `place` of the book, where the search for it ended.
+fn write_request(
+    store: &mut [u8],
+    place: usize,
+    id: u32,
+    workflow: u32,
+    a0: u32,
+    a1: u32,
+    a2: u32,
+    a3: u32,
+) -> bool
+    requires { ⌜ Sound (now store) × (foundIn (bookKey id 0) (keysIn (bookRows (now store))) ≡ Belongs place) ⌝ }
+    ensures { λ r. ⌜ StoredIfRoom (now (store .entry)) (now (store .exit)) (partsOf (now (store .entry))) (withRequest id workflow a0 a1 a2 a3) r ⌝ }
 {
     let book = store::head::partition_count(store);
     let key = id as u64 * 8;
     let keys = [key, key + 1, key + 2, key + 3, key + 4];
     let values = [workflow, a0, a1, a2, a3];
-    store_write::put_all(store, book, &keys, &values);
+    store_write::put_all(store, book, place, &keys, &values)
 }
 
 // Questions 18 and 19; then a new id is booked, and a known one stays as it is.
@@ -94,21 +108,21 @@ pub fn book_request(
     requires { ⌜ storeRefusal (now store) ≡ none ⌝ }
     ensures { λ r. ⌜ Booked (now (store .entry)) (now (store .exit)) id (record { workflow = workflow; arguments = a0 ∷ a1 ∷ a2 ∷ a3 ∷ [] }) r ⌝ }
 {
-    let g = meaning::booked_workflow(store, id);
-    match g {
-        Got::Value(w) => {
+    let f = meaning::booked_row(store, id);
+    match f {
+        Found::At(i) => {
+            let book = store::head::partition_count(store);
+            let w = store::rows::value_at(store, book, i);
             if same_request(store, id, w, workflow, a0, a1, a2, a3) {
                 return rules::accepted();
             }
             rules::refused(18, 0, 0)
         }
-        Got::Absent => {
-            let book = store::head::partition_count(store);
-            if store::head::capacity(store) < store::head::used_count(store, book) + 5 {
-                return rules::refused(19, 0, 0);
+        Found::Belongs(i) => {
+            if write_request(store, i, id, workflow, a0, a1, a2, a3) {
+                return rules::accepted();
             }
-            write_request(store, id, workflow, a0, a1, a2, a3);
-            rules::accepted()
+            rules::refused(19, 0, 0)
         }
     }
 }

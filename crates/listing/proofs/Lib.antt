@@ -1,3 +1,4 @@
-pub mod Rising
+pub mod Steps
 pub mod Printing
+pub mod Parted
 pub mod ByKey

@@ -1,20 +1,27 @@
 -- What is printed of a store: per partition, by rising key, its data rows and then its log rows. The book isn't printed. Assumes nothing:
 -- these are definitions.
+use mathlib.Core.Bool.{Bool}
 use mathlib.Core.List.{List, [], _∷_, _++_}
-use Prim.Native.Nat.{ℕ, zero, suc, _+_, _-_, _^_}
+use Prim.Native.Nat.{ℕ, zero, suc, _+_}
+use Rattle.rules.specs.Basics.{if_then_else_}
+use Rattle.rules.specs.Keys.{isDataKey, isLogKey}
 use Rattle.store.specs.Layout.{partsOf}
 use Rattle.store.specs.Rows.{Row, rowsOf}
 use Rattle.lines.specs.Lines.{storedLine}
-use Rattle.listing.specs.Order.{between}
 
 -- the lines of rows, in their order
 unfoldable pub linesOf : (partition : ℕ) → List Row → List ℕ
 linesOf p [] = []
 linesOf p (r ∷ rows) = storedLine p (r .0) (r .1) ++ linesOf p rows
 
--- A partition: its data rows, whose stored keys begin at 2^63, and then its log rows, whose keys lie below that.
+-- the rows whose keys pass the test, in their order
+unfoldable pub ofKind : (test : ℕ → Bool) → List Row → List Row
+ofKind test [] = []
+ofKind test (r ∷ rows) = if test (r .0) then r ∷ ofKind test rows else ofKind test rows
+
+-- A partition: its data rows and then its log rows, both in the order in which they stand.
 unfoldable pub partitionText : (store : List ℕ) → (partition : ℕ) → List ℕ
-partitionText s p = linesOf p (between (2 ^ 63) (2 ^ 64 - 1) (rowsOf s p)) ++ linesOf p (between 0 (2 ^ 63) (rowsOf s p))
+partitionText s p = linesOf p (ofKind isDataKey (rowsOf s p)) ++ linesOf p (ofKind isLogKey (rowsOf s p))
 
 -- the n partitions from p on
 unfoldable pub partitionsText : (store : List ℕ) → (n p : ℕ) → List ℕ

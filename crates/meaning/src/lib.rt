@@ -9,14 +9,32 @@ ghost use Rattle.pack.specs.Laid.{Laid};
 ghost use Rattle.rules.specs.Verdicts.{verdictOf};
 ghost use Rattle.pack.specs.Refusal.{packRefusal};
 ghost use Rattle.rules.specs.Keys.{bookKey};
-ghost use Rattle.store.specs.Rows.{lookup};
-ghost use Rattle.store.specs.Answers.{gotOf};
+ghost use Rattle.store.specs.Rows.{lookup, keysIn};
+ghost use Rattle.store.specs.Answers.{foundIn, gotOf};
 ghost use Rattle.store.specs.Sound.{Sound};
 ghost use Rattle.meaning.specs.State.{valueIn, bookOf};
 ghost use Rattle.meaning.specs.Questions.{bookRows, booksBelow, opensBelow, bookedRight, opensRight, question13, isBlank, isSound, slotRight, question14, lentRefusal};
 use agents::Agent;
 use rules::Verdict;
+use store::rows::Found;
 use store::rows::Got;
+
+// The stored key of the row of the book that has an id's workflow.
+fn workflow_key(id: u32) -> u64
+    ensures { λ r. ⌜ (r ≡ bookKey id 0) × (id < 2 ^ 32) ⌝ }
+{
+    id as u64 * 8
+}
+
+// Where that row stands in the book, or where it belongs.
+pub fn booked_row(store: &[u8], id: u32) -> Found
+    requires { ⌜ Sound (now store) ⌝ }
+    ensures { λ r. ⌜ (r ≡ foundIn (bookKey id 0) (keysIn (bookRows (now (store .entry))))) × (id < 2 ^ 32) ⌝ }
+{
+    let book = store::head::partition_count(store);
+    let key = workflow_key(id);
+    store::rows::find(store, book, 0, key)
+}
 
 // The workflow that the book has of an id, if it is booked.
 pub fn booked_workflow(store: &[u8], id: u32) -> Got
@@ -24,7 +42,8 @@ pub fn booked_workflow(store: &[u8], id: u32) -> Got
     ensures { λ r. ⌜ (r ≡ gotOf (lookup (bookKey id 0) (bookRows (now (store .entry))))) × (id < 2 ^ 32) ⌝ }
 {
     let book = store::head::partition_count(store);
-    store::rows::get(store, book, id as u64 * 8)
+    let key = workflow_key(id);
+    store::rows::get(store, book, key)
 }
 
 // Has a row of the book, if it is one of a workflow's number, a number below m?

@@ -9,9 +9,9 @@ use lib.Seq.{take-all}
 use Rattle.words.specs.Words.{le, fields}
 use Rattle.words.proofs.Laws.{length-fields, fields-part, getD-fields}
 use Rattle.store.specs.Layout.{partsOf, capOf, usedAt, keyAt, valueAt, usedOf}
-use Rattle.store.specs.Rows.{Row, pairs, keysIn, placeOf, indexOf, rankOf, rankIn, rowsOf}
+use Rattle.store.specs.Rows.{Row, pairs, keysIn, rowsOf}
 use Rattle.store.specs.Sound.{Shape, Formed}
-use Rattle.store.proofs.Lists.{before, within, length-pairs, keys-pairs, place-pairs, getD-pairs, rank-keys, keys-drop}
+use Rattle.store.proofs.Lists.{before, within, length-pairs, keys-pairs, getD-pairs, keys-drop}
 
 -- ---- used counts are the numbers of rows
 
@@ -45,11 +45,6 @@ module _ (xs : List ℕ) (p : ℕ) where
   unfolding rowsOf
   rows-keys = keys-pairs (fields 8 xs (keyAt xs p 0) (usedOf xs p)) (fields 4 xs (valueAt xs p 0) (usedOf xs p)) same-count
 
-  -- the place of a key's row is found among the keys
-  pub place-is : (k : ℕ) → placeOf k (rowsOf xs p) ≡ indexOf k (fields 8 xs (keyAt xs p 0) (usedOf xs p))
-  unfolding rowsOf
-  place-is k = place-pairs k (fields 8 xs (keyAt xs p 0) (usedOf xs p)) (fields 4 xs (valueAt xs p 0) (usedOf xs p)) same-count
-
   module _ (i : ℕ) (h : i < length (rowsOf xs p)) where
     row-is : getD (rowsOf xs p) i (0, 0) ≡ (le 8 xs (keyAt xs p i), le 4 xs (valueAt xs p i))
     unfolding rowsOf
@@ -64,11 +59,11 @@ module _ (xs : List ℕ) (p : ℕ) where
     pub value-is : getD (rowsOf xs p) i (0, 0) .1 ≡ le 4 xs (valueAt xs p i)
     value-is = ap (λ (r : Row). r .1) row-is
 
-  -- the place of a key among the rows from row i on is found among the keys from there on
-  pub rank-from : (k i m : ℕ) → i + m ≡ length (rowsOf xs p) → rankOf k (drop i (rowsOf xs p)) ≡ rankIn k (fields 8 xs (keyAt xs p i) m)
-  rank-from k i m e =
-      rank-keys k (drop i (rowsOf xs p)) ∙ ap (rankIn k) (keys-drop i (rowsOf xs p) ∙ ap (drop i) rows-keys ∙ sym whole
-      ∙ fields-part 8 xs (keyAt xs p 0) (usedOf xs p) i m (keyAt xs p i) (omega (arith, count-is)) (omega arith))
+  -- the keys of the rows from row i on
+  pub keys-from : (i m : ℕ) → i + m ≡ length (rowsOf xs p) → keysIn (drop i (rowsOf xs p)) ≡ fields 8 xs (keyAt xs p i) m
+  keys-from i m e =
+      keys-drop i (rowsOf xs p) ∙ ap (drop i) rows-keys ∙ sym whole
+      ∙ fields-part 8 xs (keyAt xs p 0) (usedOf xs p) i m (keyAt xs p i) (omega (arith, count-is)) (omega arith)
     where
       whole : take m (drop i (fields 8 xs (keyAt xs p 0) (usedOf xs p))) ≡ drop i (fields 8 xs (keyAt xs p 0) (usedOf xs p))
       whole =

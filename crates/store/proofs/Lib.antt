@@ -4,6 +4,7 @@ pub mod Parts
 pub mod Held
 pub mod Buffer
 pub mod Merge
+pub mod Found
 pub mod Search
 pub mod Equal
 pub mod Sound

@@ -92,19 +92,6 @@ pub index-none : (k : ℕ) (w : ℕ) (xs : List ℕ) (o m : ℕ) → m ≡ 0 →
 unfolding indexOf fields
 index-none k w xs o m e = rw e refl
 
--- the same of the place where k belongs: the first key that isn't smaller ends the search
-pub rank-more : (k : ℕ) (w : ℕ) (xs : List ℕ) (o m n : ℕ) → m ≡ suc n → le w xs o < k → rankIn k (fields w xs o m) ≡ suc (rankIn k (fields w xs (o + w) n))
-unfolding rankIn fields
-rank-more k w xs o m n e h = rw (e, lt-ltb (le w xs o) k h) refl
-
-pub rank-ends : (k : ℕ) (w : ℕ) (xs : List ℕ) (o m n : ℕ) → m ≡ suc n → k ≤ le w xs o → rankIn k (fields w xs o m) ≡ 0
-unfolding rankIn fields
-rank-ends k w xs o m n e h = rw (e, le-ltb (le w xs o) k h) refl
-
-pub rank-none : (k : ℕ) (w : ℕ) (xs : List ℕ) (o m : ℕ) → m ≡ 0 → rankIn k (fields w xs o m) ≡ 0
-unfolding rankIn fields
-rank-none k w xs o m e = rw e refl
-
 pub rank-keys : (k : ℕ) (rs : List Row) → rankOf k rs ≡ rankIn k (keysIn rs)
 unfolding rankOf rankIn keysIn
 rank-keys k [] = refl
@@ -118,6 +105,13 @@ unfolding keysIn
 keys-drop zero rs = refl
 keys-drop (suc i) [] = refl
 keys-drop (suc i) (r ∷ rs) = keys-drop i rs
+
+-- rising keys rise from any place on
+pub rising-drop : (j : ℕ) (ks : List ℕ) → rising ks ≡ true → rising (drop j ks) ≡ true
+unfolding rising
+rising-drop zero ks u = u
+rising-drop (suc j) [] u = u
+rising-drop (suc j) (k ∷ ks) u = rising-drop j ks (and-right (ahead k ks) _ u)
 
 -- the place of a key's row is its place among the keys
 pub place-pairs : (k : ℕ) (ks vs : List ℕ) → length ks ≡ length vs → placeOf k (pairs ks vs) ≡ indexOf k ks

@@ -1,48 +1,66 @@
 -- What a search's answer tells its caller, what a change tells of each part of the store, and puts one after the other. Assumes nothing.
 use mathlib.Core.Bool.{Bool, true, false}
-use mathlib.Core.List.{List}
+use mathlib.Core.List.{List, [], _∷_}
 use mathlib.Core.Logic.{_≢_}
 use mathlib.Core.Option.{Option, none, some}
 use mathlib.Core.Path.{_≡_, refl, ap, _∙_}
-use Prim.Native.Nat.{ℕ, suc, _+_, _-_, _≤_, _<_}
+use Prim.Native.Nat.{ℕ, _<_}
 use native.Mathlib.Omega.{arith}
-use borrow.Author.Tests.{ltb-true, ltb-false}
-use lib.Dec.{ltb}
-use lib.ListN.{length, getD, drop}
-use lib.Seq.{drop-cons, drop-length}
+use lib.Dec.{eqb}
+use lib.ListN.{length, getD}
 use Rattle.store.specs.Layout.{partsOf, capOf}
-use Rattle.store.specs.Rows.{Row, Store, rowsOf, storeOf, newRows, countNew, lookup, placeOf, alter}
+use Rattle.store.specs.Rows.{Row, Store, rowsOf, storeOf, newRows, lookup, indexOf, keysIn, alter}
 use Rattle.store.specs.Sound.{Changed}
-use Rattle.store.specs.Answers.{foundIn}
-use Rattle.store.specs.declared.rows.Found.the-variants.{At, Nothing}
-use Rattle.store.proofs.Lists.{found-lookup, missed-lookup, altered, alter-here, alter-there}
+use Rattle.store.specs.Questions.{member}
+use Rattle.store.specs.Answers.{foundIn, smaller}
+use Rattle.store.specs.declared.rows.Found.the-variants.{At, Belongs}
+use Rattle.store.proofs.Lists.{altered, alter-here, alter-there}
 
-module _ (k : ℕ) (rs : List Row) (i : ℕ) (e : foundIn k rs ≡ At i) where
-  at-place : (placeOf k rs ≡ i) × (placeOf k rs < length rs)
+-- ---- what an answer tells of the rows that were searched
+
+member-lookup : (k : ℕ) (rs : List Row) → member k (keysIn rs) ≡ true →
+    (indexOf k (keysIn rs) < length rs) × (lookup k rs ≡ some (getD rs (indexOf k (keysIn rs)) (0, 0) .1))
+unfolding member indexOf keysIn lookup
+member-lookup k [] m = let z : _≡_ {A = ℕ} 0 1 = cc in absurd (omega arith)
+member-lookup k (r ∷ rs) m = go (member-lookup k rs) (eqb (r .0) k) refl
+  where
+    go : (member k (keysIn rs) ≡ true → (indexOf k (keysIn rs) < length rs) × (lookup k rs ≡ some (getD rs (indexOf k (keysIn rs)) (0, 0) .1))) →
+        (b : Bool) → eqb (r .0) k ≡ b → (indexOf k (keysIn (r ∷ rs)) < length (r ∷ rs)) × (lookup k (r ∷ rs) ≡ some (getD (r ∷ rs) (indexOf k (keysIn (r ∷ rs))) (0, 0) .1))
+    go ih true e = rw e (omega arith, refl)
+    go ih false e = let h = ih (rw e at m) in rw e (omega (arith, h .0), h .1)
+
+pub no-member : (k : ℕ) (rs : List Row) → member k (keysIn rs) ≡ false → lookup k rs ≡ none
+unfolding member keysIn lookup
+no-member k [] m = refl
+no-member k (r ∷ rs) m = go (no-member k rs) (eqb (r .0) k) refl
+  where
+    go : (member k (keysIn rs) ≡ false → lookup k rs ≡ none) → (b : Bool) → eqb (r .0) k ≡ b → lookup k (r ∷ rs) ≡ none
+    go ih true e = let q : true ≡ false = rw e at m in let z : _≡_ {A = ℕ} 0 1 = cc in absurd (omega arith)
+    go ih false e = rw e (ih (rw e at m))
+
+module _ (k : ℕ) (rs : List Row) (i : ℕ) (e : foundIn k (keysIn rs) ≡ At i) where
+  at-place : (member k (keysIn rs) ≡ true) × (indexOf k (keysIn rs) ≡ i)
   unfolding foundIn
-  at-place = go (ltb (placeOf k rs) (length rs)) refl
+  at-place = go (member k (keysIn rs)) refl
     where
-      go : (b : Bool) → ltb (placeOf k rs) (length rs) ≡ b → (placeOf k rs ≡ i) × (placeOf k rs < length rs)
-      go true t = let q : At (placeOf k rs) ≡ At i = rw t at e in (cc, ltb-true _ _ t)
-      go false t = let q : Nothing ≡ At i = rw t at e in let z : _≡_ {A = ℕ} 0 1 = cc in absurd (omega arith)
+      go : (b : Bool) → member k (keysIn rs) ≡ b → (member k (keysIn rs) ≡ true) × (indexOf k (keysIn rs) ≡ i)
+      go true t = let q : At (indexOf k (keysIn rs)) ≡ At i = rw t at e in (t, cc)
+      go false t = let q : Belongs (smaller k (keysIn rs)) ≡ At i = rw t at e in let z : _≡_ {A = ℕ} 0 1 = cc in absurd (omega arith)
 
   pub at-row : i < length rs
-  at-row = omega (arith, at-place)
+  at-row = omega (arith, at-place .1, member-lookup k rs (at-place .0) .0)
 
   pub at-lookup : lookup k rs ≡ some (getD rs i (0, 0) .1)
-  at-lookup = found-lookup k rs (at-place .1) ∙ ap (λ (n : ℕ). some (getD rs n (0, 0) .1)) (at-place .0)
+  at-lookup = member-lookup k rs (at-place .0) .1 ∙ ap (λ (n : ℕ). some (getD rs n (0, 0) .1)) (at-place .1)
 
-module _ (k : ℕ) (rs : List Row) (e : foundIn k rs ≡ Nothing) where
-  no-place : length rs ≤ placeOf k rs
-  unfolding foundIn
-  no-place = go (ltb (placeOf k rs) (length rs)) refl
-    where
-      go : (b : Bool) → ltb (placeOf k rs) (length rs) ≡ b → length rs ≤ placeOf k rs
-      go true t = let q : At (placeOf k rs) ≡ Nothing = rw t at e in let z : _≡_ {A = ℕ} 0 1 = cc in absurd (omega arith)
-      go false t = ltb-false _ _ t
-
+module _ (k : ℕ) (rs : List Row) (i : ℕ) (e : foundIn k (keysIn rs) ≡ Belongs i) where
   pub no-lookup : lookup k rs ≡ none
-  no-lookup = missed-lookup k rs no-place
+  unfolding foundIn
+  no-lookup = go (member k (keysIn rs)) refl
+    where
+      go : (b : Bool) → member k (keysIn rs) ≡ b → lookup k rs ≡ none
+      go true t = let q : At (indexOf k (keysIn rs)) ≡ Belongs i = rw t at e in let z : _≡_ {A = ℕ} 0 1 = cc in absurd (omega arith)
+      go false t = no-member k rs t
 
 -- a change by g is one by h, where the two make the same of the rows
 pub changed-as : (xs ys : List ℕ) (p : ℕ) (g h : List Row → List Row) → Changed xs ys p g → g (rowsOf xs p) ≡ h (rowsOf xs p) → Changed xs ys p h
@@ -75,26 +93,3 @@ module _ (xs ys : List ℕ) (p : ℕ) (g : List Row → List Row) (e : storeOf y
 
   pub changed-there : (q : ℕ) → q ≢ p → rowsOf ys q ≡ rowsOf xs q
   changed-there q n = ap (λ (st : Store). st .rows q) e ∙ alter-there p q g (storeOf xs) n
-
--- ---- counting the keys that have no row
-
-pub new-some : (o : Option ℕ) (v : ℕ) → o ≡ some v → newRows o ≡ 0
-unfolding newRows
-new-some o v e = rw e refl
-
-pub new-small : (o : Option ℕ) → newRows o ≤ 1
-unfolding newRows
-new-small none = omega arith
-new-small (some v) = omega arith
-
-pub count-lower : (ks : List ℕ) (rs : List Row) (i : ℕ) → 0 < i → i ≤ length ks
-    → countNew (drop (i - 1) ks) rs ≡ newRows (lookup (getD ks (i - 1) 0) rs) + countNew (drop i ks) rs
-unfolding countNew
-count-lower ks rs i a b =
-    let e : suc (i - 1) ≡ i = omega arith in
-    ap (λ (l : List ℕ). countNew l rs) (drop-cons ks (i - 1) 0 (omega arith))
-    ∙ ap (λ (n : ℕ). newRows (lookup (getD ks (i - 1) 0) rs) + countNew (drop n ks) rs) e
-
-pub count-none : (ks : List ℕ) (rs : List Row) → countNew (drop (length ks) ks) rs ≡ 0
-unfolding countNew
-count-none ks rs = rw (drop-length ks) refl

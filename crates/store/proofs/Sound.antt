@@ -199,6 +199,11 @@ pub keys-rising : (b : Bool) (ks : List ℕ) → keysOk b ks ≡ true → rising
 unfolding keysOk
 keys-rising b ks h = and-right (keysApart b ks) (rising ks) h
 
+-- the keys of a partition of a sound store rise
+pub rows-rise : (xs : List ℕ) → Sound xs → (p : ℕ) → p ≤ partsOf xs → rising (keysIn (rowsOf xs p)) ≡ true
+unfolding KeysGood
+rows-rise xs s p l = keys-rising (eqb p (partsOf xs)) (keysIn (rowsOf xs p)) (s .keys p l)
+
 pub all-put : (f : ℕ → Bool) (k v : ℕ) (rs : List Row) → f k ≡ true → allIn f (keysIn rs) ≡ true → allIn f (keysIn (putRow k v rs)) ≡ true
 unfolding allIn keysIn putRow
 all-put f k v [] h a = and-both (f k) true h refl

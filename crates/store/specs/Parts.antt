@@ -52,3 +52,8 @@ pub record Holds (C : ℕ) (bs : List ℕ) (n : ℕ) (rs : List Row) : Type 0 wh
   pub rows : firstRows C bs n ≡ rs
   pub blank-keys : (i : ℕ) → n ≤ i → i < C → le 8 bs (2 + 8 * i) ≡ 0
   pub blank-values : (i : ℕ) → n ≤ i → i < C → le 4 bs (2 + 8 * C + 4 * i) ≡ 0
+
+-- Rows rs put together in a partition's bytes, and n their number; where they would be more than C, n is C + 1 and the bytes are free.
+pub record MergedIn (C : ℕ) (bs : List ℕ) (rs : List Row) (n : ℕ) : Type 0 where
+  pub held : length rs ≤ C → Holds C bs n rs
+  pub full : C < length rs → n ≡ C + 1

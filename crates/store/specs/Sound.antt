@@ -1,5 +1,5 @@
 -- A sound store: bytes that pass questions 9 to 11, said without tests; and what a change of a store is. Assumes nothing: these are definitions.
-use mathlib.Core.Bool.{true}
+use mathlib.Core.Bool.{Bool, true, false}
 use mathlib.Core.List.{List}
 use mathlib.Core.Path.{_≡_}
 use Prim.Native.Nat.{ℕ, _≤_, _<_}
@@ -7,7 +7,7 @@ use lib.Dec.{eqb}
 use lib.ListN.{length}
 use Rattle.words.specs.Words.{le}
 use Rattle.store.specs.Layout.{partsOf, capOf, sizeOf, keyAt, valueAt, usedOf}
-use Rattle.store.specs.Rows.{Row, Store, keysIn, storeOf, alter}
+use Rattle.store.specs.Rows.{Row, Store, keysIn, rowsOf, storeOf, alter}
 use Rattle.store.specs.Questions.{keysOk}
 
 -- questions 9 and 10
@@ -47,3 +47,8 @@ pub record Changed (xs ys : List ℕ) (p : ℕ) (f : List Row → List Row) : Ty
 pub record Stored (xs ys : List ℕ) (p : ℕ) (f : List Row → List Row) : Type 0 where
   pub sound : Sound ys
   pub is : storeOf ys ≡ alter p f (storeOf xs)
+
+-- Partition p's rows changed by f, and the answer yes; where they would be more than C, nothing is changed, and the answer is no.
+unfoldable pub StoredIfRoom : (xs ys : List ℕ) (p : ℕ) (f : List Row → List Row) → (answer : Bool) → Type 0
+StoredIfRoom xs ys p f true = (length (f (rowsOf xs p)) ≤ capOf xs) × Stored xs ys p f
+StoredIfRoom xs ys p f false = (capOf xs < length (f (rowsOf xs p))) × (ys ≡ xs)

@@ -7,14 +7,14 @@ ghost use Prim.Native.Nat.{_+_, _*_, _≤_, _<_};
 ghost use lib.ListN.{length, getD, drop};
 ghost use Rattle.words.specs.Words.{fields};
 ghost use Rattle.store.specs.Layout.{partsOf};
-ghost use Rattle.store.specs.Rows.{rowsOf, lookup, indexOf, rankIn, rankOf, firstHas};
-ghost use Rattle.store.specs.Answers.{foundIn, gotOf};
-ghost use Rattle.store.specs.Sound.{Sound};
+ghost use Rattle.store.specs.Rows.{rowsOf, keysIn, lookup};
+ghost use Rattle.store.specs.Answers.{Searched, endedAt, rowsFound, gotOf};
+ghost use Rattle.store.specs.Sound.{Formed, Sound};
 
-// The row of a key.
+// The row of a key, or the place where the key belongs.
 pub enum Found {
     At(usize),
-    Nothing,
+    Belongs(usize),
 }
 
 // The value at a key.
@@ -23,72 +23,57 @@ pub enum Got {
     Absent,
 }
 
-// The place of `key` among the `n` keys from byte `from` on, in whatever order they stand, or `n`.
-pub fn seek(s: &[u8], from: usize, n: usize, key: u64) -> usize
+// The place of `key` among the `n` keys from byte `from` on, or where it belongs. The first key that isn't smaller ends the search.
+fn search(s: &[u8], from: usize, n: usize, key: u64) -> Found
     requires { ⌜ from + 8 * n ≤ length (now s) ⌝ }
-    ensures { λ r. ⌜ r ≡ indexOf key (fields 8 (now (s .entry)) from n) ⌝ }
+    ensures { λ r. ⌜ Searched key (fields 8 (now (s .entry)) from n) r ⌝ }
 {
     let mut at = from;
     let mut i = 0;
-    while i < n {
-        if words::read64(s, at) == key {
-            return i;
+    let mut left = n;
+    while 0 < left {
+        let next = words::read64(s, at);
+        if key <= next {
+            if key == next {
+                return Found::At(i);
+            }
+            return Found::Belongs(i);
         }
         at += 8;
         i += 1;
+        left -= 1;
     }
-    i
+    Found::Belongs(i)
 }
 
-// Where `key` belongs among the `n` keys from byte `from` on: ahead of the first that isn't smaller, where the search ends.
-fn seek_place(s: &[u8], from: usize, n: usize, key: u64) -> usize
-    requires { ⌜ from + 8 * n ≤ length (now s) ⌝ }
-    ensures { λ r. ⌜ r ≡ rankIn key (fields 8 (now (s .entry)) from n) ⌝ }
-{
-    let mut at = from;
-    let mut i = 0;
-    while i < n {
-        if key <= words::read64(s, at) {
-            return i;
-        }
-        at += 8;
-        i += 1;
-    }
-    i
-}
-
-// Where `key` belongs among the rows of partition `p` from row `i` on: ahead of the first whose key isn't smaller.
-pub fn place_for(s: &[u8], p: usize, i: usize, key: u64) -> usize
-    requires { ⌜ Sound (now s) × (p ≤ partsOf (now s)) × (i ≤ length (rowsOf (now s) p)) ⌝ }
-    ensures { λ r. ⌜ (r ≡ i + rankOf key (drop i (rowsOf (now (s .entry)) p))) × (r ≤ length (rowsOf (now (s .entry)) p)) ⌝ }
+// The row of `key` among those of partition `p` from row `i` on, or the place where it belongs among them. Places count from row `i`.
+pub fn find(s: &[u8], p: usize, i: usize, key: u64) -> Found
+    requires { ⌜ Formed (now s) × (p ≤ partsOf (now s)) × (i ≤ length (rowsOf (now s) p)) ⌝ }
+    ensures { λ r. ⌜ Searched key (keysIn (drop i (rowsOf (now (s .entry)) p))) r ⌝ }
 {
     let n = used_count(s, p);
     let from = key_place(s, p, i);
-    i + seek_place(s, from, n - i, key)
+    search(s, from, n - i, key)
 }
 
-// 1 where row `i` of partition `p` is there and has `key`, else 0.
-pub fn has_key(s: &[u8], p: usize, i: usize, key: u64) -> usize
-    requires { ⌜ Sound (now s) × (p ≤ partsOf (now s)) × (i ≤ length (rowsOf (now s) p)) ⌝ }
-    ensures { λ r. ⌜ (r ≡ firstHas key (drop i (rowsOf (now (s .entry)) p))) × (i + r ≤ length (rowsOf (now (s .entry)) p)) ⌝ }
+// Where a search ended.
+pub fn ended_at(f: Found) -> usize
+    ensures { λ r. ⌜ r ≡ endedAt f ⌝ }
 {
-    if i < used_count(s, p) {
-        if key_at(s, p, i) == key {
-            return 1;
-        }
+    match f {
+        Found::At(i) => i,
+        Found::Belongs(i) => i,
     }
-    0
 }
 
-// The row of `key` in partition `p`.
-pub fn find(s: &[u8], p: usize, key: u64) -> Found
-    requires { ⌜ Sound (now s) × (p ≤ partsOf (now s)) ⌝ }
-    ensures { λ r. ⌜ r ≡ foundIn key (rowsOf (now (s .entry)) p) ⌝ }
+// 1 where the key's row was found, else 0.
+pub fn rows_found(f: Found) -> usize
+    ensures { λ r. ⌜ r ≡ rowsFound f ⌝ }
 {
-    let n = used_count(s, p);
-    let from = key_place(s, p, 0);
-    let i = seek(s, from, n, key);
-    if i < n { Found::At(i) } else { Found::Nothing }
+    match f {
+        Found::At(_) => 1,
+        Found::Belongs(_) => 0,
+    }
 }
 
 // The key of row `i` of partition `p`.
@@ -114,9 +99,9 @@ pub fn get(s: &[u8], p: usize, key: u64) -> Got
     requires { ⌜ Sound (now s) × (p ≤ partsOf (now s)) ⌝ }
     ensures { λ r. ⌜ r ≡ gotOf (lookup key (rowsOf (now (s .entry)) p)) ⌝ }
 {
-    let f = find(s, p, key);
+    let f = find(s, p, 0, key);
     match f {
         Found::At(i) => Got::Value(value_at(s, p, i)),
-        Found::Nothing => Got::Absent,
+        Found::Belongs(_) => Got::Absent,
     }
 }

@@ -6,7 +6,6 @@ use rules::Verdict;
 use store::head::key_place;
 use store::head::partition_count;
 use store::head::used_count;
-use store::rows::seek;
 ghost use mathlib.Core.Bool.{true};
 ghost use mathlib.Core.Path.{_≡_};
 ghost use Prim.Native.Nat.{_+_, _-_, _*_, _%_, _^_, _≤_, _<_};
@@ -15,8 +14,26 @@ ghost use lib.ListN.{length, getD};
 ghost use Rattle.words.specs.Words.{fields};
 ghost use Rattle.rules.specs.Verdicts.{verdictOf};
 ghost use Rattle.store.specs.Layout.{partsOf};
+ghost use Rattle.store.specs.Rows.{indexOf};
 ghost use Rattle.store.specs.Questions.{member, keysApart, partOkBy, allIn, five, bookOk, question11InAnyOrder, question12, orderRefusal};
 ghost use Rattle.store.specs.Sound.{Shape, Formed};
+
+// The place of `key` among the `n` keys from byte `from` on, in whatever order they stand, or `n`. All may have to be read.
+fn index_of(s: &[u8], from: usize, n: usize, key: u64) -> usize
+    requires { ⌜ from + 8 * n ≤ length (now s) ⌝ }
+    ensures { λ r. ⌜ r ≡ indexOf key (fields 8 (now (s .entry)) from n) ⌝ }
+{
+    let mut at = from;
+    let mut i = 0;
+    while i < n {
+        if words::read64(s, at) == key {
+            return i;
+        }
+        at += 8;
+        i += 1;
+    }
+    i
+}
 
 // Is `key` among the `left` keys from byte `at` on? Each of them has `mark` at its place in `marks`, so a key whose place has no such mark
 // is not among them, and nothing is sought. 65,536 leaves 104 by 8,179: the log keys of ids in a row have places of their own.
@@ -29,7 +46,7 @@ fn seen(s: &[u8], at: usize, left: usize, key: u64, marks: &[u8], mark: u8) -> b
     if marks[place] != mark {
         return false;
     }
-    seek(s, at, left, key) < left
+    index_of(s, at, left, key) < left
 }
 
 // Are the `n` keys from byte `from` on of a form, and each unlike the others? The walk goes from the last key to the first, and each key
@@ -105,7 +122,7 @@ fn has(s: &[u8], from: usize, n: usize, near: usize, key: u64) -> bool
             return true;
         }
     }
-    seek(s, from, n, key) < n
+    index_of(s, from, n, key) < n
 }
 
 // Are all five book keys of `id` among the `n` keys from byte `from` on? They are likely to stand from row `first` on.

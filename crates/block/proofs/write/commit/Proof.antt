@@ -1,12 +1,12 @@
 -- `block::commit` meets its contract. Assumes nothing.
-use mathlib.Core.Path.{sym, _∙_, subst}
-use Prim.Native.Nat.{ℕ, _≤_}
+use mathlib.Core.Path.{sym, ap, _∙_}
+use Prim.Native.Nat.{ℕ}
 use native.Mathlib.Omega.{arith}
 use borrow.Author.Needs.{needs}
-use Rattle.store.specs.Layout.{capOf}
-use Rattle.store.specs.Rows.{rowsOf}
+use Rattle.store.specs.Rows.{rowsOf, keysIn}
+use Rattle.store.specs.Answers.{foundIn}
 use Rattle.instruction.proofs.Rows.{keys-count, values-count}
-use Rattle.block.proofs.Writes.{keys-good, keys-rise, keys-right, length-out, committed}
+use Rattle.block.proofs.Writes.{keys-good, some-keys, first-key, keys-rise, keys-right, log-none, written, no-room}
 use Rattle.block.proofs.write.commit.Statement.{statement}
 use Rattle.block.proofs.write.commit.Tie as tie
 
@@ -25,28 +25,42 @@ commit-spec =
     let lk = w .before .before in
     let st = lk .before .before in
     let a = st .args in
-    let rs = rowsOf (a .store .now) (a .partition) in
     let k = lk .log-key .ensures in
     let q = w .insert-row .result in
     let z = w .insert-row .ensures .0 in
     let e = rw (k .0) at (w .insert-row .ensures .1) in
-    let good = keys-good (a .store .now) (a .partition) (st .pre .0) (st .pre .1) in (
-      st .pre .0,
-      omega (arith, st .pre .1),
-      keys-right (a .ran) (st .pre .2) (a .id) (a .step) _ (k .1) (k .2) q z e _ (a .partition) (st .pre .1),
-      keys-count q z ∙ sym (values-count q z),
-      subst (λ (n : ℕ). n ≤ capOf (a .store .now))
-          (sym (length-out (a .ran) (st .pre .2) (a .id) (a .step) _ (k .1) (k .2) q z e rs good (st .pre .3))) (st .pre .4),
-      keys-rise (a .ran) (st .pre .2) (a .id) (a .step) _ (k .1) (k .2) q z e,
+    let r = a .ran in (
+      (
+        st .pre .0,
+        omega (arith, st .pre .1),
+        some-keys r (st .pre .2) (a .id) (a .step) _ (k .1) (k .2) q z e,
+        keys-count q z ∙ sym (values-count q z),
+        keys-rise r (st .pre .2) (a .id) (a .step) _ (k .1) (k .2) q z e,
+      ),
+      (
+        keys-right r (st .pre .2) (a .id) (a .step) _ (k .1) (k .2) q z e _ (a .partition) (st .pre .1),
+        ap (λ (j : ℕ). foundIn j (keysIn (rowsOf (a .store .now) (a .partition)))) (first-key r (st .pre .2) (a .id) (a .step) _ (k .1) (k .2) q z e) ∙ st .pre .3,
+      ),
     ))
     (λ c. search needs)
     (λ c.
-    let pa = c .before .before in
+    let pa = c .before .before .before in
     let w = pa .before .before .before .before .before .before in
     let lk = w .before .before in
     let st = lk .before .before in
     let a = st .args in
     let k = lk .log-key .ensures in
     let q = w .insert-row .ensures in
-    committed (a .store .now) _ (a .partition) (a .ran) (st .pre .2) (a .id) (a .step) (k .1) (k .2) (w .insert-row .result)
-    (q .0) (rw (k .0) at (q .1)) (pa .put-all .ensures) (keys-good (a .store .now) (a .partition) (st .pre .0) (st .pre .1)) (st .pre .3)))
+    written (a .store .now) _ (a .partition) (a .ran) (st .pre .2) (a .id) (a .step) (k .1) (k .2) (w .insert-row .result) (q .0) (rw (k .0) at (q .1))
+    (keys-good (a .store .now) (a .partition) (st .pre .0) (st .pre .1)) (log-none _ (a .id) (a .step) _ (k .1) (k .2) (st .pre .3)) (rw (c .if1 .taken) at (pa .put-all .ensures)))
+    (λ c. search needs)
+    (λ c.
+    let pa = c .before .before .before in
+    let w = pa .before .before .before .before .before .before in
+    let lk = w .before .before in
+    let st = lk .before .before in
+    let a = st .args in
+    let k = lk .log-key .ensures in
+    let q = w .insert-row .ensures in
+    no-room (a .store .now) _ (a .partition) (a .ran) (st .pre .2) (a .id) (a .step) (k .1) (k .2) (w .insert-row .result) (q .0) (rw (k .0) at (q .1))
+    (keys-good (a .store .now) (a .partition) (st .pre .0) (st .pre .1)) (log-none _ (a .id) (a .step) _ (k .1) (k .2) (st .pre .3)) (rw (c .if1 .left) at (pa .put-all .ensures))))

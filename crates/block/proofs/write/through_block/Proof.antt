@@ -1,8 +1,12 @@
 -- `block::through_block` meets its contract. Assumes nothing.
-use mathlib.Core.Path.{refl}
+use mathlib.Core.Option.{some}
+use mathlib.Core.Path.{refl, sym, ap, _∙_}
+use native.Mathlib.Omega.{arith}
 use borrow.Author.Needs.{needs}
-use Rattle.instruction.proofs.Rows.{got-some, got-none}
-use Rattle.block.proofs.Writes.{through-logged}
+use Rattle.rules.specs.Keys.{logKey}
+use Rattle.store.specs.Rows.{rowsOf}
+use Rattle.store.proofs.Search.{at-row}
+use Rattle.block.proofs.Writes.{log-none, log-some, through-logged}
 use Rattle.block.proofs.write.through_block.Statement.{statement}
 use Rattle.block.proofs.write.through_block.Tie as tie
 
@@ -12,20 +16,33 @@ through-block-spec =
     (tie.spec
     (λ c κs. search needs)
     (λ c. search needs)
+    (λ c κs.
+    let f = c .before .before in
+    let lr = f .before .before in
+    let st = lr .before .before .before .before .before in
+    let a = st .args in
+    (st .pre .sound, omega (arith, st .pre .below), at-row (logKey (a .id) (a .step)) (rowsOf (a .store .now) (a .partition)) _ (sym (lr .log-row .ensures) ∙ f .f .given .1)))
     (λ c. search needs)
     (λ c κs.
-    let et = c .before in
-    let lg = et .before .before in
-    let st = lg .before .before .before .before .before in
-    (st .pre, got-none _ _ (lg .logged .ensures) (et .enum-told .given .1)))
+    let f = c .before .before in
+    let lr = f .before .before in
+    let st = lr .before .before .before .before .before in
+    (st .pre, sym (lr .log-row .ensures) ∙ f .f2 .given .1))
     (λ c. search needs)
     (λ c.
-    let g = c .before in
-    let lg = g .before .before in
-    through-logged _ _ _ _ _ _ _ _ (got-some _ _ (lg .logged .ensures) _ (g .g .given .1)) refl)
+    let f = c .before .before .before in
+    let lr = f .before .before in
+    let st = lr .before .before .before .before .before in
+    let a = st .args in
+    through-logged _ _ _ _ _ _ _ _
+    (log-some (rowsOf (a .store .now) (a .partition)) (a .id) (a .step) _ (omega (arith, st .fits .id .fits)) (omega (arith, st .fits .step .fits)) (sym (lr .log-row .ensures) ∙ f .f .given .1)
+    ∙ ap some (sym (c .value-at .ensures))) refl)
     (λ c. search needs)
     (λ c.
     let w = c .before .before in
-    let et = w .before .before in
-    let lg = et .before .before in
-    rw (got-none _ _ (lg .logged .ensures) (et .enum-told .given .1)) (w .run-and-write .ensures)))
+    let f = w .before .before .before in
+    let lr = f .before .before in
+    let st = lr .before .before .before .before .before in
+    let a = st .args in
+    rw (log-none (rowsOf (a .store .now) (a .partition)) (a .id) (a .step) _ (omega (arith, st .fits .id .fits)) (omega (arith, st .fits .step .fits)) (sym (lr .log-row .ensures) ∙ f .f2 .given .1))
+    (w .run-and-write .ensures)))

@@ -1,12 +1,17 @@
 -- `store::rows::get` meets its contract. Assumes nothing.
 use borrow.Author.Needs.{needs}
-use mathlib.Core.Path.{sym, ap, _∙_}
-use Rattle.store.specs.Rows.{rowsOf}
-use Rattle.store.specs.Answers.{gotOf}
+use mathlib.Core.Path.{_≡_, sym, ap, _∙_}
+use Rattle.store.specs.Rows.{rowsOf, keysIn}
+use Rattle.store.specs.Answers.{foundIn, gotOf}
 use Rattle.store.specs.declared.rows.Got.the-variants.{Value}
+use Rattle.store.proofs.Sound.{rows-rise}
 use Rattle.store.proofs.Search.{at-row, at-lookup, no-lookup}
 use Rattle.store.proofs.rows.get.Statement.{statement}
 use Rattle.store.proofs.rows.get.Tie as tie
+
+-- what the search found, by a reading of all rows
+found : (c : tie.After-find) → let a = c .before .before .args in foundIn (a .key) (keysIn (rowsOf (a .s .now) (a .p))) ≡ c .find .result
+found c = let st = c .before .before in sym (c .find .ensures .all (rows-rise (st .args .s .now) (st .pre .0) (st .args .p) (st .pre .1)))
 
 pub get-spec : {M : Type 1} → statement M
 unfolding gotOf
@@ -17,12 +22,12 @@ get-spec =
     (λ c. search needs)
     (λ c κs. let d = c .before .before .before in
     let st = d .before .before in
-    (st .pre .0, st .pre .1, at-row (st .args .key) (rowsOf (st .args .s .now) (st .args .p)) (c .before .f .given .0 .0) (sym (d .find .ensures) ∙ c .before .f .given .1)))
+    (st .pre .0, st .pre .1, at-row (st .args .key) (rowsOf (st .args .s .now) (st .args .p)) (c .before .f .given .0 .0) (found d ∙ c .before .f .given .1)))
     (λ c. search needs)
     (λ c. let m = c .before .before in
     let d = m .before .before in
     let st = d .before .before in
-    ap Value (c .value-at .ensures) ∙ sym (ap gotOf (at-lookup (st .args .key) (rowsOf (st .args .s .now) (st .args .p)) (m .f .given .0 .0) (sym (d .find .ensures) ∙ m .f .given .1))))
+    ap Value (c .value-at .ensures) ∙ sym (ap gotOf (at-lookup (st .args .key) (rowsOf (st .args .s .now) (st .args .p)) (m .f .given .0 .0) (found d ∙ m .f .given .1))))
     (λ c. let d = c .before .before in
     let st = d .before .before in
-    sym (ap gotOf (no-lookup (st .args .key) (rowsOf (st .args .s .now) (st .args .p)) (sym (d .find .ensures) ∙ c .enum-told .given .1)))))
+    sym (ap gotOf (no-lookup (st .args .key) (rowsOf (st .args .s .now) (st .args .p)) (c .enum-told .given .0 .0) (found d ∙ c .enum-told .given .1)))))

@@ -22,4 +22,4 @@ has-spec =
     (λ c κs. search needs)
     (λ c. let a = c .before .before .before .args in
     rw (member-place (a .key) (fields 8 (a .s .now) (a .from) (a .n)), length-fields 8 (a .s .now) (a .from) (a .n))
-    (ap (λ (i : ℕ). ltb i (a .n)) (c .seek .ensures))))
+    (ap (λ (i : ℕ). ltb i (a .n)) (c .index-of .ensures))))

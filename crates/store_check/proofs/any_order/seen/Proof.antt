@@ -21,4 +21,4 @@ seen-spec =
     (λ c κs. search needs)
     (λ c. let a = c .before .before .before .before .before .args in
     rw (member-place (a .key) (fields 8 (a .s .now) (a .at) (a .left)), length-fields 8 (a .s .now) (a .at) (a .left))
-    (ap (λ (i : ℕ). ltb i (a .left)) (c .seek .ensures))))
+    (ap (λ (i : ℕ). ltb i (a .left)) (c .index-of .ensures))))
