@@ -25,7 +25,7 @@ use Rattle.rules.proofs.Updates.{update-same, update-other, none-some, false-tr
 use Rattle.rules.proofs.Tests.{and-left, and-right}
 use Rattle.rules.proofs.Questions.{ask-none}
 use Rattle.store.specs.Rows.{Row, lookup, pairs, putAll, newRows, countNew, rowsOf, storeOf, keysIn}
-use Rattle.store.specs.Layout.{partsOf}
+use Rattle.store.specs.Layout.{partsOf, capOf}
 use Rattle.store.specs.Questions.{member, unlike, ahead, rising, five, allIn, bookOk, isForm, storeRefusal, keysOk}
 use Rattle.store.specs.Sound as Sounds
 use Rattle.store.specs.Sound.{Sound, Stored, StoredIfRoom}
@@ -218,11 +218,16 @@ module _ (xs : List ℕ) (p id w a0 a1 a2 a3 : ℕ) (e : p ≡ partsOf xs) where
   pub code-first : (i : ℕ) → foundIn (bookKey id 0) (keysIn (bookRows xs)) ≡ Belongs i → foundIn (id * 8) (keysIn (rowsOf xs p)) ≡ Belongs i
   code-first i f = ap₂ (λ (k q : ℕ). foundIn k (keysIn (rowsOf xs q))) (sym (add-zero (id * 8))) e ∙ f
 
-  pub code-stored : (ys : List ℕ) (answer : Bool) → StoredIfRoom xs ys p (putAll (pairs (codeKeys id) (bookValues w a0 a1 a2 a3))) answer →
-      StoredIfRoom xs ys (partsOf xs) (withRequest id w a0 a1 a2 a3) answer
-  code-stored ys answer s =
-      subst (λ (q : ℕ). StoredIfRoom xs ys q (withRequest id w a0 a1 a2 a3) answer) e
-      (subst (λ (ks : List ℕ). StoredIfRoom xs ys p (putAll (pairs ks (bookValues w a0 a1 a2 a3))) answer) (keys-as id) s)
+  pub code-stored : (ys : List ℕ) (answer : Bool) → length (withRequest id w a0 a1 a2 a3 (bookRows xs)) ≤ capOf xs →
+      StoredIfRoom xs ys p (putAll (pairs (codeKeys id) (bookValues w a0 a1 a2 a3))) answer → Stored xs ys (partsOf xs) (withRequest id w a0 a1 a2 a3)
+  code-stored ys answer room s =
+      go answer
+      (subst (λ (q : ℕ). StoredIfRoom xs ys q (withRequest id w a0 a1 a2 a3) answer) e
+      (subst (λ (ks : List ℕ). StoredIfRoom xs ys p (putAll (pairs ks (bookValues w a0 a1 a2 a3))) answer) (keys-as id) s))
+    where
+      go : (answer : Bool) → StoredIfRoom xs ys (partsOf xs) (withRequest id w a0 a1 a2 a3) answer → Stored xs ys (partsOf xs) (withRequest id w a0 a1 a2 a3)
+      go true t = unfold Sounds.StoredIfRoom in t .1
+      go false t = absurd (unfold Sounds.StoredIfRoom in omega (arith, room, t .0))
 
 -- ── what the book has of an id, by the search for its first row ──
 

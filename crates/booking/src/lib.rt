@@ -2,14 +2,15 @@
 ghost use mathlib.Core.Path.{_≡_};
 ghost use mathlib.Core.Option.{none};
 ghost use mathlib.Core.List.{[], _∷_};
+ghost use lib.ListN.{length};
 ghost use Prim.Native.Nat.{_≤_};
 ghost use Rattle.rules.specs.Keys.{bookKey};
 ghost use Rattle.rules.specs.Store.{sameRequest};
-ghost use Rattle.store.specs.Layout.{partsOf};
+ghost use Rattle.store.specs.Layout.{partsOf, capOf};
 ghost use Rattle.store.specs.Rows.{keysIn};
 ghost use Rattle.store.specs.Answers.{foundIn};
 ghost use Rattle.store.specs.declared.rows.Found.the-variants.{Belongs};
-ghost use Rattle.store.specs.Sound.{Sound, StoredIfRoom};
+ghost use Rattle.store.specs.Sound.{Sound, Stored};
 ghost use Rattle.store.specs.Questions.{storeRefusal};
 ghost use Rattle.meaning.specs.State.{valueIn, argumentsOf};
 ghost use Rattle.meaning.specs.Questions.{bookRows};
@@ -73,8 +74,8 @@ fn same_request(
     a3 == argument(store, id, 4)
 }
 
-// The five rows of a request are written, all at once, if there is room for them: that is question 19. The first is new and belongs at row
-// `place` of the book, where the search for it ended.
+// The five rows of a request are written, all at once; there is room for them. The first is new and belongs at row `place` of the book, where
+// the search for it ended.
 fn write_request(
     store: &mut [u8],
     place: usize,
@@ -84,15 +85,15 @@ fn write_request(
     a1: u32,
     a2: u32,
     a3: u32,
-) -> bool
-    requires { ⌜ Sound (now store) × (foundIn (bookKey id 0) (keysIn (bookRows (now store))) ≡ Belongs place) ⌝ }
-    ensures { λ r. ⌜ StoredIfRoom (now (store .entry)) (now (store .exit)) (partsOf (now (store .entry))) (withRequest id workflow a0 a1 a2 a3) r ⌝ }
+)
+    requires { ⌜ Sound (now store) × (foundIn (bookKey id 0) (keysIn (bookRows (now store))) ≡ Belongs place) × (length (withRequest id workflow a0 a1 a2 a3 (bookRows (now store))) ≤ capOf (now store)) ⌝ }
+    ensures { λ _. ⌜ Stored (now (store .entry)) (now (store .exit)) (partsOf (now (store .entry))) (withRequest id workflow a0 a1 a2 a3) ⌝ }
 {
     let book = store::head::partition_count(store);
     let key = id as u64 * 8;
     let keys = [key, key + 1, key + 2, key + 3, key + 4];
     let values = [workflow, a0, a1, a2, a3];
-    store_write::put_all(store, book, place, &keys, &values)
+    store_write::put_all(store, book, place, &keys, &values);
 }
 
 // Questions 18 and 19; then a new id is booked, and a known one stays as it is.
@@ -119,10 +120,12 @@ pub fn book_request(
             rules::refused(18, 0, 0)
         }
         Found::Belongs(i) => {
-            if write_request(store, i, id, workflow, a0, a1, a2, a3) {
-                return rules::accepted();
+            let book = store::head::partition_count(store);
+            if store::head::capacity(store) < store::head::used_count(store, book) + 5 {
+                return rules::refused(19, 0, 0);
             }
-            rules::refused(19, 0, 0)
+            write_request(store, i, id, workflow, a0, a1, a2, a3);
+            rules::accepted()
         }
     }
 }

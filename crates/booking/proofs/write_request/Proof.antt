@@ -33,4 +33,4 @@ write-request-spec =
     let k = c .before .before in
     let p = k .before .before .before .before .partition-count in
     let a = k .before .before .before .before .before .before .before .args in
-    code-stored (a .store .now) (p .result) (a .id) (a .workflow) (a .a0) (a .a1) (a .a2) (a .a3) (p .ensures) _ (k .put-all .result) (k .put-all .ensures)))
+    code-stored (a .store .now) (p .result) (a .id) (a .workflow) (a .a0) (a .a1) (a .a2) (a .a3) (p .ensures) _ (k .put-all .result) (k .before .before .before .before .before .before .before .pre .2) (k .put-all .ensures)))
