@@ -23,7 +23,8 @@ pub enum Got {
     Absent,
 }
 
-// The place of `key` among the `n` keys from byte `from` on, or where it belongs. The first key that isn't smaller ends the search.
+// The place of `key` among the `n` keys from byte `from` on, or where it belongs. The first key that isn't smaller ends the search: `i` keys
+// are passed, and `left` are still to be read.
 fn search(s: &[u8], from: usize, n: usize, key: u64) -> Found
     requires { ⌜ from + 8 * n ≤ length (now s) ⌝ }
     ensures { λ r. ⌜ Searched key (fields 8 (now (s .entry)) from n) r ⌝ }
