@@ -262,9 +262,11 @@ impl<B: AsRef<[u8]>> Store<B> {
         requests.all(|rows| rows.len() == BOOK_ROWS)
     }
 
+    /// The row of a stored key. Where the partition's keys begin is worked out once, ahead of the search (W-205).
     fn row_of(&self, partition: usize, key: u64) -> Option<usize> {
         let used = self.used(partition).min(self.shape.rows);
-        (0..used).find(|row| self.key(partition, *row) == key)
+        let keys = &self.bytes()[self.shape.key_at(partition, 0)..][..8 * used];
+        keys.chunks_exact(8).position(|stored| u64_at(stored, 0) == key)
     }
 
     /// The value at a stored key.

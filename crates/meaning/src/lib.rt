@@ -56,7 +56,7 @@ fn books_below(m: u32, key: u64, w: u32) -> bool
     true
 }
 
-// Is each booked workflow below m?
+// Is each booked workflow below m? The book's place is worked out once: a row's key is 8 bytes behind the one ahead of it, its value 4.
 fn booked_right(pack: &[u8], store: &[u8]) -> bool
     requires { ⌜ Laid (now pack) × Sound (now store) ⌝ }
     ensures { λ r. ⌜ r ≡ bookedRight (now (pack .entry)) (now (store .entry)) ⌝ }
@@ -64,14 +64,18 @@ fn booked_right(pack: &[u8], store: &[u8]) -> bool
     let m = pack::count_of(pack);
     let p = store::head::partition_count(store);
     let n = store::head::used_count(store, p);
-    let mut i = 0;
-    while i < n {
-        let key = store::rows::key_at(store, p, i);
-        let w = store::rows::value_at(store, p, i);
+    let mut key_from = store::head::key_place(store, p, 0);
+    let mut value_from = store::head::value_place(store, p, 0);
+    let mut row = 0;
+    while row < n {
+        let key = words::read64(store, key_from);
+        let w = words::read32(store, value_from);
         if !books_below(m, key, w) {
             return false;
         }
-        i += 1;
+        key_from += 8;
+        value_from += 4;
+        row += 1;
     }
     true
 }

@@ -59,6 +59,13 @@ module _ (xs : List ℕ) (p : ℕ) where
     pub value-is : getD (rowsOf xs p) i (0, 0) .1 ≡ le 4 xs (valueAt xs p i)
     value-is = ap (λ (r : Row). r .1) row-is
 
+    -- what a walk over the rows reads at the place that it has come to
+    pub key-read : (from key : ℕ) → from ≡ keyAt xs p i → key ≡ le 8 xs from → key ≡ getD (rowsOf xs p) i (0, 0) .0
+    key-read from key e r = r ∙ ap (le 8 xs) e ∙ sym key-is
+
+    pub value-read : (from value : ℕ) → from ≡ valueAt xs p i → value ≡ le 4 xs from → value ≡ getD (rowsOf xs p) i (0, 0) .1
+    value-read from value e r = r ∙ ap (le 4 xs) e ∙ sym value-is
+
   -- the keys of the rows from row i on
   pub keys-from : (i m : ℕ) → i + m ≡ length (rowsOf xs p) → keysIn (drop i (rowsOf xs p)) ≡ fields 8 xs (keyAt xs p i) m
   keys-from i m e =
@@ -88,3 +95,7 @@ module _ (xs : List ℕ) (f : Formed xs) (p : ℕ) (l : p ≤ partsOf xs) where
 
   pub row-below : (i : ℕ) → i < length (rowsOf xs p) → i < capOf xs
   row-below i h = omega (arith, used-le)
+
+  -- the places of a used row lie within the bytes
+  pub row-within : (i : ℕ) → i < length (rowsOf xs p) → (keyAt xs p i + 8 ≤ length xs) × (valueAt xs p i + 4 ≤ length xs)
+  row-within i h = (key-within xs (f .shape) p l i (row-below i h), value-within xs (f .shape) p l i (row-below i h))

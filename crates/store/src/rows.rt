@@ -47,7 +47,8 @@ fn search(s: &[u8], from: usize, n: usize, key: u64) -> Found
     Found::Belongs(i)
 }
 
-// The row of `key` among those of partition `p` from row `i` on, or the place where it belongs among them. Places count from row `i`.
+// The row of `key` among those of partition `p` from row `i` on, or the place where it belongs among them. Places count from row `i`. The
+// byte at which that row's key begins is worked out here, once for a search; the loop steps on by 8 bytes, the width of a key.
 pub fn find(s: &[u8], p: usize, i: usize, key: u64) -> Found
     requires { ⌜ Formed (now s) × (p ≤ partsOf (now s)) × (i ≤ length (rowsOf (now s) p)) ⌝ }
     ensures { λ r. ⌜ Searched key (keysIn (drop i (rowsOf (now (s .entry)) p))) r ⌝ }
@@ -75,15 +76,6 @@ pub fn rows_found(f: Found) -> usize
         Found::At(_) => 1,
         Found::Belongs(_) => 0,
     }
-}
-
-// The key of row `i` of partition `p`.
-pub fn key_at(s: &[u8], p: usize, i: usize) -> u64
-    requires { ⌜ Sound (now s) × (p ≤ partsOf (now s)) × (i < length (rowsOf (now s) p)) ⌝ }
-    ensures { λ r. ⌜ r ≡ getD (rowsOf (now (s .entry)) p) i (0, 0) .0 ⌝ }
-{
-    let at = key_place(s, p, i);
-    words::read64(s, at)
 }
 
 // The value of row `i` of partition `p`.

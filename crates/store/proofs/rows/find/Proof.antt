@@ -1,14 +1,25 @@
 -- `store::rows::find` meets its contract. Assumes nothing.
 use borrow.Author.Needs.{needs}
 use mathlib.Core.List.{List}
-use mathlib.Core.Path.{sym, ap, subst, _∙_}
-use Prim.Native.Nat.{ℕ, _-_}
+use mathlib.Core.Path.{_≡_, sym, ap, subst, _∙_}
+use Prim.Native.Nat.{ℕ, _+_, _-_}
 use native.Mathlib.Omega.{arith}
+use lib.ListN.{length, drop}
 use Rattle.words.specs.Words.{fields}
+use Rattle.store.specs.Layout.{keyAt}
+use Rattle.store.specs.Rows.{rowsOf, keysIn}
 use Rattle.store.specs.Answers.{Searched}
+use Rattle.store.specs.declared.rows.Found.{Found}
 use Rattle.store.proofs.Bytes.{used-le, keys-within, keys-from}
 use Rattle.store.proofs.rows.find.Statement.{statement}
 use Rattle.store.proofs.rows.find.Tie as tie
+
+-- a search of the keys from the place of row i's on is one of the keys of the rows from row i on
+searched-from : (xs : List ℕ) (p i m from key : ℕ) (r : Found)
+    → Searched key (fields 8 xs from m) r → i + m ≡ length (rowsOf xs p) → from ≡ keyAt xs p i
+    → Searched key (keysIn (drop i (rowsOf xs p))) r
+searched-from xs p i m from key r h e place =
+    subst (λ (ks : List ℕ). Searched key ks r) (ap (λ (a : ℕ). fields 8 xs a m) place ∙ sym (keys-from xs p i m e)) h
 
 pub find-spec : {M : Type 1} → statement M
 find-spec =
@@ -16,17 +27,18 @@ find-spec =
     (tie.spec
     (λ c κs. search needs)
     (λ c κs. let st = c .before .before in
-    (st .pre .0 .shape, st .pre .1, omega (arith, st .pre .2, used-le (st .args .s .now) (st .pre .0) (st .args .p) (st .pre .1))))
+    let h = st .pre .0 in
+    (h .shape, st .pre .1, omega (arith, st .pre .2, h .shape .cap-low, used-le (st .args .s .now) h (st .args .p) (st .pre .1))))
     (λ c. search needs)
-    (λ c κs. let u = c .before in
-    let st = u .before .before in
+    (λ c κs. let used = c .before .used-count in
+    let st = c .before .before .before in
+    let xs = st .args .s .now in
+    let p = st .args .p in
+    let fit = used-le xs (st .pre .0) p (st .pre .1) in
+    let all = keys-within xs (st .pre .0 .shape) p (st .pre .1) (used .result) (omega (arith, used .ensures, fit)) in
+    omega (arith, used .ensures, st .pre .2, all))
+    (λ c. let used = c .before .before .used-count in
+    let st = c .before .before .before .before in
     let a = st .args in
-    omega (arith, c .key-place .ensures, u .used-count .ensures, st .pre .2, keys-within (a .s .now) (st .pre .0 .shape) (a .p) (st .pre .1) (u .used-count .result) (omega (arith, u .used-count .ensures, used-le (a .s .now) (st .pre .0) (a .p) (st .pre .1)))))
-    (λ c. let k = c .before in
-    let u = k .before in
-    let st = u .before .before in
-    let a = st .args in
-    subst (λ (ks : List ℕ). Searched (a .key) ks (c .search .result))
-    (ap (λ (from : ℕ). fields 8 (a .s .now) from (u .used-count .result - a .i)) (k .key-place .ensures)
-    ∙ sym (keys-from (a .s .now) (a .p) (a .i) (u .used-count .result - a .i) (omega (arith, u .used-count .ensures, st .pre .2))))
-    (c .search .ensures)))
+    searched-from (a .s .now) (a .p) (a .i) (used .result - a .i) _ (a .key) (c .search .result)
+    (c .search .ensures) (omega (arith, used .ensures, st .pre .2)) (omega arith)))
