@@ -149,6 +149,12 @@ def turn(p=ONE, s=None, slots=None, slot=0):
     return call(TURN, [slot], p, store() if s is None else s, slots)
 
 
+def three_booked(*workflows):
+    """A full book of three ids, behind two partitions with rows. Its arguments are numbers that ONE has no workflow of."""
+    rows = [(0, data(1), 5), (1, log(9, 0), 6), (1, data(2), 7)]
+    return store(2, 15, rows, [(7 + i, workflow, [1, 2, 3, 4]) for i, workflow in enumerate(workflows)])
+
+
 def reading(*block, s=None, end=5):
     """Request 7 up to its reply: register 5 becomes 9, then a block in partition 0 whose result is register `end`'s. Before it registers
     0 to 3 are 100, 200, 30, 0."""
@@ -405,6 +411,10 @@ log 1 7 1 30
     ("a booked id with four rows", turn(s=store(rows=[(1, 8 * 7 + j, 0) for j in range(4)])), refused(12)),
     # 13
     ("a booked workflow that the pack has not", turn(s=store(book=[(7, 1, [0] * 4)])), refused(13)),
+    ("of three booked workflows the first is one that the pack has not", turn(s=three_booked(1, 0, 0)), refused(13)),
+    ("of three booked workflows the second is one that the pack has not", turn(s=three_booked(0, 1, 0)), refused(13)),
+    ("of three booked workflows the last is one that the pack has not", turn(s=three_booked(0, 0, 1)), refused(13)),
+    ("three booked workflows that the pack has", turn(s=three_booked(0, 0, 0)), refused(16)),
     ("a BEGIN of a partition that the store has not", turn(pack([(0x60, 1), END, RETURN]), store(1)), refused(13)),
     # 14
     ("a slot that is not in use and not zero", turn(s=store(book=BOOKED), slots={3: agent(0, registers=[0, 1], in_use=0)}), refused(14)),
