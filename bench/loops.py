@@ -1,8 +1,9 @@
 #!/usr/bin/env python3
 """Shows what the compiler made of the loops of a case: the instructions that our side executed most, with how often each was executed.
 
-loops.py BENCH CASE [LEAST]: BENCH is the built program; instructions executed fewer than LEAST times (500) are left out. Instructions that
-follow one another stand together; behind their number is how many of them each pass through the loop takes.
+loops.py BENCH CASE [LEAST]: BENCH is the built program; instructions executed fewer than LEAST times (500) are left out, and so are those of
+the system's libraries, memcpy's too. Instructions that follow one another stand together; behind their number is how many of them each
+pass through the loop takes.
 """
 import collections
 import os

@@ -6,11 +6,12 @@ use Prim.Native.Nat.{ℕ, _+_, _-_}
 use native.Mathlib.Omega.{arith}
 use lib.ListN.{length, drop}
 use Rattle.words.specs.Words.{fields}
-use Rattle.store.specs.Layout.{keyAt}
+use Rattle.store.specs.Layout.{partsOf, capOf, keyAt}
 use Rattle.store.specs.Rows.{rowsOf, keysIn}
 use Rattle.store.specs.Answers.{Searched}
 use Rattle.store.specs.declared.rows.Found.{Found}
-use Rattle.store.proofs.Bytes.{used-le, keys-within, keys-from}
+use Rattle.store.proofs.Lists.{before}
+use Rattle.store.proofs.Bytes.{used-le, keys-from}
 use Rattle.store.proofs.rows.find.Statement.{statement}
 use Rattle.store.proofs.rows.find.Tie as tie
 
@@ -33,10 +34,10 @@ find-spec =
     (λ c κs. let used = c .before .used-count in
     let st = c .before .before .before in
     let xs = st .args .s .now in
-    let p = st .args .p in
-    let fit = used-le xs (st .pre .0) p (st .pre .1) in
-    let all = keys-within xs (st .pre .0 .shape) p (st .pre .1) (used .result) (omega (arith, used .ensures, fit)) in
-    omega (arith, used .ensures, st .pre .2, all))
+    let h = st .pre .0 .shape in
+    let fit = used-le xs (st .pre .0) (st .args .p) (st .pre .1) in
+    let below = before (capOf xs) {p = st .args .p} {q = partsOf xs + 1} (omega (arith, st .pre .1)) in
+    omega (arith, used .ensures, st .pre .2, fit, below, h .size, h .cap-low))
     (λ c. let used = c .before .before .used-count in
     let st = c .before .before .before .before in
     let a = st .args in
