@@ -10,9 +10,9 @@ use native.Mathlib.Omega.{arith}
 use native.Mathlib.Decide.{decLt}
 use lib.ListN.{length, set, replicate, length-set, List·getD-eq-default}
 use lib.Seq.{ext-getD, getD-set-same, getD-set-other}
-use Rattle.rules.specs.Basics.{if_then_else_, update}
+use Rattle.questions.specs.Basics.{if_then_else_, update}
 use Rattle.rules.specs.Calls as Rules
-use Rattle.rules.proofs.Updates.{update-cases}
+use Rattle.questions.proofs.Updates.{update-cases}
 use Rattle.agents.specs.declared.Agent.{Agent}
 use Rattle.agents.specs.Slots.{noAgent, agentAt, held, agentOf, recordOf, slotsOf, recordsFrom, recordsOf, Whole, Tidy}
 

@@ -1,6 +1,6 @@
 -- The code's answers in the document's words: number and values for each case. Assumes nothing: these are definitions.
 use mathlib.Core.List.{List}
-use Rattle.rules.specs.Questions.{no}
+use Rattle.questions.specs.Questions.{no}
 use Rattle.rules.specs.Blocks.{yields}
 use Rattle.rules.specs.Calls as Rules
 use Rattle.agents.specs.declared.Agent.{Agent}

@@ -5,8 +5,8 @@ ghost use mathlib.Core.List.{[], _∷_};
 ghost use mathlib.Core.Option.{Option};
 ghost use Prim.Native.Nat.{_%_, _^_, _≤_};
 ghost use lib.ListN.{length};
-ghost use Rattle.rules.specs.Questions.{No};
-ghost use Rattle.rules.specs.Verdicts.{verdictOf};
+ghost use Rattle.questions.specs.Questions.{No};
+ghost use Rattle.questions.specs.Verdicts.{verdictOf};
 ghost use Rattle.rules.specs.Plain.{accepted};
 ghost use Rattle.agents.specs.Answers.{answerOf};
 ghost use Rattle.slots.specs.Records.{puts, slotsIn};
@@ -14,7 +14,7 @@ ghost use Rattle.answers.specs.Answers.{numberOf, valuesOf, withWords, j
 use agents::Agent;
 use agents::Answer;
 use agents::Outcome;
-use rules::Verdict;
+use questions::Verdict;
 
 // The low 4 bytes of a number.
 fn low(x: usize) -> u32

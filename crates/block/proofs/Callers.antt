@@ -10,7 +10,7 @@ use native.Mathlib.Decide.{ℕ-discrete}
 use borrow.Author.Tests.{lt-ltb}
 use lib.Dec.{ltb, leb}
 use lib.ListN.{length}
-use Rattle.rules.specs.Basics.{if_then_else_, update}
+use Rattle.questions.specs.Basics.{if_then_else_, update}
 use Rattle.rules.specs.Instructions.{Code, Place}
 use Rattle.rules.specs.Instructions as Instructions
 use Rattle.rules.specs.Blocks.{Block, yields, runBlock, rowsNeeded}
@@ -20,7 +20,7 @@ use Rattle.rules.specs.Store.{Request, Store, sought, withRow, written}
 use Rattle.rules.specs.Store as Stores
 use Rattle.rules.specs.Calls.{Agent, State, canWrite, movesTo, throughBlock}
 use Rattle.rules.specs.Calls as Calls
-use Rattle.rules.proofs.Updates.{update-same, update-other}
+use Rattle.questions.proofs.Updates.{update-same, update-other}
 use Rattle.store.specs.Rows.{Row, rowsOf}
 use Rattle.store.specs.Layout.{partsOf, capOf}
 use Rattle.store.specs.Sound.{Sound}

@@ -9,10 +9,10 @@ use native.Mathlib.Omega.{arith}
 use borrow.Author.Tests.{eqb-false, not-true}
 use lib.Dec.{eqb}
 use lib.ListN.{length, getD}
-use Rattle.rules.specs.Basics.{if_then_else_}
-use Rattle.rules.specs.Verdicts.{verdictOf}
-use Rattle.rules.specs.declared.Verdict.the-variants.{Accepted}
-use Rattle.rules.proofs.Each.{each-at}
+use Rattle.questions.specs.Basics.{if_then_else_}
+use Rattle.questions.specs.Verdicts.{verdictOf}
+use Rattle.questions.specs.declared.Verdict.the-variants.{Accepted}
+use Rattle.questions.proofs.Each.{each-at}
 use Rattle.operation.specs.declared.Operand.the-variants.{Jump}
 use Rattle.operation.specs.Parts.{targetOf}
 use Rattle.operation.specs.Operations.{end, put, operandOf}

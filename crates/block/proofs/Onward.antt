@@ -15,8 +15,8 @@ use Rattle.rules.specs.Shapes.{outside, shape}
 use Rattle.rules.specs.Blocks.{yields, closing, Work, Block, close, within, runFrom, runBlock}
 use Rattle.rules.specs.Instructions as Instructions
 use Rattle.rules.specs.Blocks as Blocks
-use Rattle.rules.specs.Keys.{tableOf}
-use Rattle.rules.proofs.Updates.{none-some}
+use Rattle.keys.specs.Keys.{tableOf}
+use Rattle.questions.proofs.Updates.{none-some}
 use Rattle.rules.proofs.Shapes.{Agrees, agrees}
 use Rattle.rules.proofs.Blocks.{past, enough}
 use Rattle.store.specs.Rows.{Row, countNew, keysIn}

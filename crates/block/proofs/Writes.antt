@@ -8,11 +8,11 @@ use native.Mathlib.Omega.{arith}
 use borrow.Author.Tests.{eq-eqb, ne-eqb, eqb-true, eqb-false, ltb-true, lt-ltb, le-leb, lt-leb}
 use lib.Dec.{eqb, ltb}
 use lib.ListN.{length, getD, take}
-use Rattle.rules.specs.Basics.{if_then_else_, update}
+use Rattle.questions.specs.Basics.{if_then_else_, update}
 use Rattle.rules.specs.Blocks.{Block, rowsNeeded}
-use Rattle.rules.specs.Keys.{logKey, isDataKey, isLogKey, tableOf, logOf}
-use Rattle.rules.proofs.Tests.{yes-no, and-left, and-right, and-both}
-use Rattle.rules.proofs.Keys.{log-is, data-bounds, log-bounds, log-no-data, log-put, log-put-data}
+use Rattle.keys.specs.Keys.{logKey, isDataKey, isLogKey, tableOf, logOf}
+use Rattle.questions.proofs.Tests.{yes-no, and-left, and-right, and-both}
+use Rattle.keys.proofs.Keys.{log-is, data-bounds, log-bounds, log-no-data, log-put, log-put-data}
 use Rattle.store.specs.Rows.{Row, pairs, lookup, insertAt, putRow, putAll, newRows, countNew, rowsOf, keysIn}
 use Rattle.store.specs.Rows as Rows
 use Rattle.store.specs.Layout.{partsOf, capOf}

@@ -5,7 +5,7 @@ use mathlib.Core.Path.{_≡_}
 use Prim.Native.Nat.{ℕ, _-_, _≤_}
 use lib.ListN.{length}
 use Rattle.rules.specs.Blocks.{Block, yields, runFrom}
-use Rattle.rules.specs.Keys.{tableOf}
+use Rattle.keys.specs.Keys.{tableOf}
 use Rattle.store.specs.Rows.{Row}
 use Rattle.code.specs.Questions.{insideAt, putsBefore}
 use Rattle.code.specs.Meaning.{codeOf}

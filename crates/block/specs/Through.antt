@@ -7,10 +7,10 @@ use mathlib.Core.Path.{_≡_}
 use Prim.Native.Nat.{ℕ, _+_, _<_}
 use lib.Dec.{leb}
 use lib.ListN.{length}
-use Rattle.rules.specs.Basics.{if_then_else_, update}
+use Rattle.questions.specs.Basics.{if_then_else_, update}
 use Rattle.rules.specs.Blocks.{Table, Block, yields, runBlock, rowsNeeded}
 use Rattle.rules.specs.Blocks as Rules
-use Rattle.rules.specs.Keys.{tableOf, logOf}
+use Rattle.keys.specs.Keys.{tableOf, logOf}
 use Rattle.store.specs.Rows.{Row, lookup, rowsOf}
 use Rattle.store.specs.Layout.{partsOf, capOf}
 use Rattle.store.specs.Sound.{Sound}

@@ -11,19 +11,19 @@ use native.Mathlib.Omega.{arith}
 use borrow.Author.Tests.{lt-ltb, le-leb, lt-leb, eq-eqb, ne-eqb, eqb-true}
 use lib.Dec.{eqb, ltb}
 use lib.ListN.{length, getD}
-use Rattle.rules.specs.Basics.{if_then_else_, update, isSome}
-use Rattle.rules.specs.Keys.{bookKey}
-use Rattle.rules.specs.Questions.{No, number}
-use Rattle.rules.specs.Questions as Questions
-use Rattle.rules.specs.Verdicts.{verdictOf}
-use Rattle.rules.specs.declared.Verdict.{Verdict}
-use Rattle.rules.specs.declared.Verdict.the-variants.{Refused}
+use Rattle.questions.specs.Basics.{if_then_else_, update, isSome}
+use Rattle.keys.specs.Keys.{bookKey}
+use Rattle.questions.specs.Questions.{No, number}
+use Rattle.questions.specs.Questions as Questions
+use Rattle.questions.specs.Verdicts.{verdictOf}
+use Rattle.questions.specs.declared.Verdict.{Verdict}
+use Rattle.questions.specs.declared.Verdict.the-variants.{Refused}
 use Rattle.rules.specs.Store.{Request, Store, booked, sameArguments, sameRequest}
 use Rattle.rules.specs.Calls.{gives, withSlot, start}
 use Rattle.rules.specs.Calls as Calls
-use Rattle.rules.proofs.Updates.{update-same, update-other, none-some, false-true}
-use Rattle.rules.proofs.Tests.{and-left, and-right}
-use Rattle.rules.proofs.Questions.{ask-none}
+use Rattle.questions.proofs.Updates.{update-same, update-other, none-some, false-true}
+use Rattle.questions.proofs.Tests.{and-left, and-right}
+use Rattle.questions.proofs.Questions.{ask-none}
 use Rattle.store.specs.Rows.{Row, lookup, pairs, putAll, newRows, countNew, rowsOf, storeOf, keysIn}
 use Rattle.store.specs.Layout.{partsOf, capOf}
 use Rattle.store.specs.Questions.{member, unlike, ahead, rising, five, allIn, bookOk, isForm, storeRefusal, keysOk}

@@ -4,10 +4,10 @@ use mathlib.Core.List.{List, [], _∷_}
 use mathlib.Core.Option.{Option, none, some, Option·getD}
 use mathlib.Core.Path.{_≡_}
 use Prim.Native.Nat.{ℕ}
-use Rattle.rules.specs.Keys.{bookKey}
-use Rattle.rules.specs.Questions.{No, number, ask}
-use Rattle.rules.specs.Verdicts.{verdictOf}
-use Rattle.rules.specs.declared.Verdict.{Verdict}
+use Rattle.keys.specs.Keys.{bookKey}
+use Rattle.questions.specs.Questions.{No, number, ask}
+use Rattle.questions.specs.Verdicts.{verdictOf}
+use Rattle.questions.specs.declared.Verdict.{Verdict}
 use Rattle.rules.specs.Store.{Request, Store, booked}
 use Rattle.rules.specs.Calls.{asBooked, canBook}
 use Rattle.store.specs.Rows.{Row, lookup, pairs, putAll, storeOf}

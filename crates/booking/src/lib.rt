@@ -4,7 +4,7 @@ ghost use mathlib.Core.Option.{none};
 ghost use mathlib.Core.List.{[], _∷_};
 ghost use lib.ListN.{length};
 ghost use Prim.Native.Nat.{_≤_};
-ghost use Rattle.rules.specs.Keys.{bookKey};
+ghost use Rattle.keys.specs.Keys.{bookKey};
 ghost use Rattle.rules.specs.Store.{sameRequest};
 ghost use Rattle.store.specs.Layout.{partsOf, capOf};
 ghost use Rattle.store.specs.Rows.{keysIn};
@@ -16,7 +16,7 @@ ghost use Rattle.meaning.specs.State.{valueIn, argumentsOf};
 ghost use Rattle.meaning.specs.Questions.{bookRows};
 ghost use Rattle.booking.specs.Booking.{argumentOf, startedFrom, withRequest, Booked};
 use agents::Agent;
-use rules::Verdict;
+use questions::Verdict;
 use store::rows::Found;
 use store::rows::Got;
 
@@ -115,17 +115,17 @@ pub fn book_request(
             let book = store::head::partition_count(store);
             let w = store::rows::value_at(store, book, i);
             if same_request(store, id, w, workflow, a0, a1, a2, a3) {
-                return rules::accepted();
+                return questions::accepted();
             }
-            rules::refused(18, 0, 0)
+            questions::refused(18, 0, 0)
         }
         Found::Belongs(i) => {
             let book = store::head::partition_count(store);
             if store::head::capacity(store) < store::head::used_count(store, book) + 5 {
-                return rules::refused(19, 0, 0);
+                return questions::refused(19, 0, 0);
             }
             write_request(store, i, id, workflow, a0, a1, a2, a3);
-            rules::accepted()
+            questions::accepted()
         }
     }
 }

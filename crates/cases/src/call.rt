@@ -2,7 +2,7 @@
 use agents::Agent;
 use agents::Answer;
 use agents::Outcome;
-use rules::Verdict;
+use questions::Verdict;
 ghost use mathlib.Core.Path.{_≡_};
 ghost use lib.ListN.{length};
 

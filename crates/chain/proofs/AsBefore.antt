@@ -6,14 +6,14 @@ use mathlib.Core.Path.{_≡_, refl, sym, _∙_, ap, ap₂, subst}
 use Prim.Native.Nat.{ℕ, suc}
 use native.Mathlib.Omega.{arith}
 use lib.ListN.{replicate}
-use Rattle.rules.specs.Basics.{if_then_else_, isSome}
-use Rattle.rules.specs.Questions.{No}
+use Rattle.questions.specs.Basics.{if_then_else_, isSome}
+use Rattle.questions.specs.Questions.{No}
 use Rattle.rules.specs.Store as Rules
 use Rattle.rules.specs.Calls.{Call, State, Outcome, turn, turnIn}
 use Rattle.rules.specs.Calls as Calls
 use Rattle.rules.specs.Plain.{accepted, withAnswer, Tallies, tallied}
-use Rattle.rules.proofs.Updates.{false-true, update-same}
-use Rattle.rules.proofs.Questions.{ask-none, orElse-none}
+use Rattle.questions.proofs.Updates.{false-true, update-same}
+use Rattle.questions.proofs.Questions.{ask-none, orElse-none}
 use Rattle.rules.proofs.Calls.{rule-accepted}
 use Rattle.rules.proofs.Stands.{turn-is, turn-counted, turns-at-most, last-replies}
 use Rattle.rules.proofs.ByLog.{ByLog, rule-by-log, at-first, given-before, given-equal}

@@ -4,12 +4,12 @@ use mathlib.Core.List.{List}
 use mathlib.Core.Option.{Option, none, some}
 use mathlib.Core.Path.{_≡_, refl, sym, _∙_, ap}
 use Prim.Native.Nat.{ℕ}
-use Rattle.rules.specs.Questions.{No}
+use Rattle.questions.specs.Questions.{No}
 use Rattle.rules.specs.Calls.{Call}
 use Rattle.rules.specs.Calls as Calls
 use Rattle.rules.specs.Plain.{accepted}
 use Rattle.rules.proofs.Calls.{rule-accepted}
-use Rattle.rules.proofs.Updates.{false-true}
+use Rattle.questions.proofs.Updates.{false-true}
 use Rattle.pack.specs.Meaning.{packOf}
 use Rattle.agents.specs.declared.Agent.{Agent}
 use Rattle.agents.specs.declared.Answer.{Answer}

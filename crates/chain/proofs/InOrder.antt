@@ -3,7 +3,7 @@ use mathlib.Core.List.{List}
 use mathlib.Core.Option.{Option, none}
 use mathlib.Core.Path.{_≡_, refl, sym, ap, _∙_}
 use Prim.Native.Nat.{ℕ}
-use Rattle.rules.specs.Questions.{No, orElse}
+use Rattle.questions.specs.Questions.{No, orElse}
 use Rattle.rules.specs.Plain.{accepted}
 use Rattle.store.specs.Questions.{orderRefusal}
 use Rattle.store.proofs.Order.{order-passes}

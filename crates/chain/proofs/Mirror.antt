@@ -6,15 +6,15 @@ use mathlib.Core.Path.{_≡_, refl, sym, _∙_, ap, ap₂}
 use Prim.Native.Nat.{ℕ, _^_}
 use lib.Dec.{ltb}
 use lib.ListN.{replicate}
-use Rattle.rules.specs.Basics.{if_then_else_}
-use Rattle.rules.specs.Questions.{No}
+use Rattle.questions.specs.Basics.{if_then_else_}
+use Rattle.questions.specs.Questions.{No}
 use Rattle.rules.specs.Calls.{Call, stopped, Outcome, State, History, fresh, refusal, call, unless, stateAfter, answerTo}
 use Rattle.rules.specs.Calls as Calls
 use Rattle.rules.specs.Plain.{tallied, fed, accepted, talliesAfter, machineAfter, repliesAfter, withAnswer}
-use Rattle.rules.proofs.Questions.{orElse-none}
+use Rattle.questions.proofs.Questions.{orElse-none}
 use Rattle.pack.specs.Meaning.{packOf}
 use Rattle.store.specs.Rows.{emptyStore, lookup}
-use Rattle.rules.specs.declared.Verdict.the-variants.{Accepted}
+use Rattle.questions.specs.declared.Verdict.the-variants.{Accepted}
 use Rattle.store.specs.Created.{Created}
 use Rattle.agents.specs.declared.Agent.{Agent}
 use Rattle.agents.specs.declared.Answer.{Answer}

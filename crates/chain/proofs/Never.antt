@@ -6,12 +6,12 @@ use mathlib.Core.Option.{Option, none, some}
 use mathlib.Core.Path.{_≡_, refl, sym, _∙_, ap}
 use Prim.Native.Nat.{ℕ, _<_}
 use native.Mathlib.Omega.{arith}
-use Rattle.rules.specs.Basics.{eachFrom}
-use Rattle.rules.specs.Questions.{No, number}
-use Rattle.rules.specs.Questions as Questions
+use Rattle.questions.specs.Basics.{eachFrom}
+use Rattle.questions.specs.Questions.{No, number}
+use Rattle.questions.specs.Questions as Questions
 use Rattle.rules.specs.Calls as Rules
 use Rattle.rules.proofs.Theorem.{sound-agents, booked-below}
-use Rattle.rules.proofs.Updates.{none-some}
+use Rattle.questions.proofs.Updates.{none-some}
 use Rattle.pack.specs.Layout.{count}
 use Rattle.pack.specs.Refusal.{packRefusal}
 use Rattle.pack.specs.Meaning.{packOf}
@@ -22,7 +22,7 @@ use Rattle.agents.proofs.Slots.{record-at, record-back, records-none}
 use Rattle.meaning.specs.State.{contentsOf, stateOf, valueIn, bookOf}
 use Rattle.meaning.specs.Questions.{bookRows, isBlank, isSound, slotRight, question13, question14, lentRefusal, refusalFor}
 use Rattle.meaning.specs.Carried.{Kept, Carried, ruled}
-use Rattle.rules.proofs.Each.{each-all}
+use Rattle.questions.proofs.Each.{each-all}
 use Rattle.meaning.proofs.Sense.{sound-passes}
 use Rattle.chain.specs.Chain.{Event, Chain, begins, goes-on}
 use Rattle.chain.specs.Demands.{NeverNo}

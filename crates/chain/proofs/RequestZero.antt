@@ -4,15 +4,15 @@ use mathlib.Core.List.{List, List·Memᴰ}
 use mathlib.Core.Option.{Option, none, some}
 use mathlib.Core.Path.{_≡_, refl, _∙_, ap, subst}
 use Prim.Native.Nat.{ℕ, _<_}
-use Rattle.rules.specs.Questions.{No, orElse}
-use Rattle.rules.specs.Questions as Questions
+use Rattle.questions.specs.Questions.{No, orElse}
+use Rattle.questions.specs.Questions as Questions
 use Rattle.rules.specs.Store.{Request, found}
 use Rattle.rules.specs.Store as Rules
 use Rattle.rules.specs.Calls.{Call, State, arrival, retry, refusal}
 use Rattle.rules.specs.Calls as Calls
 use Rattle.rules.specs.Plain.{Machine, Reply, accepted}
 use Rattle.rules.specs.RequestZero.{zeroNo}
-use Rattle.rules.proofs.Questions.{orElse-none}
+use Rattle.questions.proofs.Questions.{orElse-none}
 use Rattle.rules.proofs.RequestZero.{request-zero, rule-books-no-new, no-zero}
 use Rattle.pack.specs.Meaning.{packOf}
 use Rattle.store.specs.Rows.{storeOf}

@@ -8,13 +8,13 @@ use Prim.Native.Nat.{ℕ, _^_, _≤_, _<_}
 use native.Mathlib.Omega.{arith}
 use borrow.Author.Tests.{lt-ltb, le-ltb}
 use lib.Dec.{ltb}
-use Rattle.rules.specs.Basics.{if_then_else_}
-use Rattle.rules.specs.Keys.{dataKey, tableOf}
-use Rattle.rules.specs.Questions.{No}
+use Rattle.questions.specs.Basics.{if_then_else_}
+use Rattle.keys.specs.Keys.{dataKey, tableOf}
+use Rattle.questions.specs.Questions.{No}
 use Rattle.rules.specs.Calls.{Call, turn, State, answerTo}
 use Rattle.rules.specs.Plain.{Machine, Tallies, tallied, accepted, talliesAfter, Reply, firstReplies}
 use Rattle.rules.specs.Demand3 as Rules
-use Rattle.rules.proofs.Questions.{orElse-none}
+use Rattle.questions.proofs.Questions.{orElse-none}
 use Rattle.rules.proofs.Theorem.{rows-are, replies-are, equal-are, plain-run, booked-below}
 use Rattle.pack.specs.Layout.{count}
 use Rattle.pack.specs.Meaning.{packOf}
@@ -22,7 +22,7 @@ use Rattle.pack.specs.Refusal.{packRefusal}
 use Rattle.pack.proofs.Laws.{length-pack, length-workflow, accepted-checked}
 use Rattle.store.specs.Rows.{Store, lookup, rowsOf, storeOf, keysIn}
 use Rattle.store.specs.Layout.{partsOf, capOf}
-use Rattle.rules.specs.declared.Verdict.the-variants.{Accepted}
+use Rattle.questions.specs.declared.Verdict.the-variants.{Accepted}
 use Rattle.store.specs.Created.{Created}
 use Rattle.store.specs.Questions.{bookOk, allIn, storeRefusal}
 use Rattle.store.specs.Questions as StoreQuestions

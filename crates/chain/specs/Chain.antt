@@ -4,11 +4,11 @@ use mathlib.Core.List.{List, [], _∷_}
 use mathlib.Core.Option.{none}
 use Prim.Native.Nat.{ℕ}
 use lib.ListN.{replicate}
-use Rattle.rules.specs.Basics.{if_then_else_}
+use Rattle.questions.specs.Basics.{if_then_else_}
 use Rattle.rules.specs.Instructions.{Pack}
 use Rattle.rules.specs.Calls.{Call}
 use Rattle.rules.specs.Plain.{Machine, empty, Tallies, tallied, fed, accepted, Reply, withAnswer}
-use Rattle.rules.specs.declared.Verdict.the-variants.{Accepted}
+use Rattle.questions.specs.declared.Verdict.the-variants.{Accepted}
 use Rattle.store.specs.Created.{Created}
 use Rattle.agents.specs.declared.Agent.{Agent}
 use Rattle.agents.specs.declared.Answer.{Answer}

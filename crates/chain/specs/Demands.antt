@@ -5,8 +5,8 @@ use mathlib.Core.Logic.{_⊎_}
 use mathlib.Core.Option.{none, some}
 use mathlib.Core.Path.{_≡_}
 use Prim.Native.Nat.{ℕ, _^_, _≤_, _<_}
-use Rattle.rules.specs.Keys.{dataKey}
-use Rattle.rules.specs.Questions.{No, number}
+use Rattle.keys.specs.Keys.{dataKey}
+use Rattle.questions.specs.Questions.{No, number}
 use Rattle.rules.specs.Store.{Request}
 use Rattle.rules.specs.Calls.{Call, turn, rule}
 use Rattle.rules.specs.Calls as Calls

@@ -6,7 +6,7 @@ use mathlib.Core.Path.{_≡_}
 use Prim.Native.Nat.{ℕ, _<_}
 use lib.ListN.{replicate}
 use Rattle.rules.specs.Blocks.{Result}
-use Rattle.rules.specs.Questions.{No, orElse}
+use Rattle.questions.specs.Questions.{No, orElse}
 use Rattle.rules.specs.Store.{Request, found}
 use Rattle.rules.specs.Logged.{replyLogged}
 use Rattle.rules.specs.Calls.{Call, arrival, retry, turn}

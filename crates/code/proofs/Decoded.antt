@@ -12,16 +12,16 @@ use borrow.Author.Tests.{ltb-true, leb-true, not-true, eqb-true, ne-eqb}
 use lib.Dec.{eqb, ltb, leb}
 use lib.ListN.{length, getD, drop, List·getD-eq-default}
 use lib.Seq.{drop-cons}
-use Rattle.rules.specs.Basics.{if_then_else_}
+use Rattle.questions.specs.Basics.{if_then_else_}
 use Rattle.rules.specs.Shapes.{Side, outside, inside, shape}
 use Rattle.rules.specs.Checked.{sideBehind, sideAt, Lands, Jumps, StandsOn, GoesTo, Stands, Checked}
 use Rattle.rules.specs.Instructions.{Code, Instruction, BEGIN, RETURN, instructionAt}
 use Rattle.rules.specs.Blocks.{closing, isEnd, throughEnd}
 use Rattle.rules.proofs.Positions.{side-next}
-use Rattle.rules.proofs.Questions.{ask-none, orElse-none}
-use Rattle.rules.proofs.Each.{each-at}
-use Rattle.rules.proofs.Tests.{and-left}
-use Rattle.rules.proofs.Chains.{each-yes}
+use Rattle.questions.proofs.Questions.{ask-none, orElse-none}
+use Rattle.questions.proofs.Each.{each-at}
+use Rattle.questions.proofs.Tests.{and-left}
+use Rattle.questions.proofs.Chains.{each-yes}
 use Rattle.operation.specs.declared.Side as Declared
 use Rattle.operation.specs.declared.Side.the-variants.{Anywhere, Inside, Outside}
 use Rattle.operation.specs.declared.Operand.{Operand}

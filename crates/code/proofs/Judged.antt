@@ -7,9 +7,9 @@ use Prim.Native.Nat.{ℕ, _<_}
 use borrow.Author.Tests.{ltb-true, eqb-true, eq-eqb, ne-eqb}
 use lib.Dec.{ltb, eqb}
 use lib.ListN.{length}
-use Rattle.rules.specs.Questions.{no, ask}
-use Rattle.rules.proofs.Questions.{ask-none}
-use Rattle.rules.proofs.Tests.{no-yes, and-left, and-right}
+use Rattle.questions.specs.Questions.{no, ask}
+use Rattle.questions.proofs.Questions.{ask-none}
+use Rattle.questions.proofs.Tests.{no-yes, and-left, and-right}
 use Rattle.operation.specs.declared.Operand.{Operand}
 use Rattle.operation.specs.declared.Operand.the-variants.{Jump}
 use Rattle.operation.specs.declared.Row.{Row}

@@ -8,7 +8,7 @@ use native.Mathlib.Omega.{arith}
 use lib.ListN.{length}
 use Rattle.rules.specs.Shapes.{outside, shape}
 use Rattle.rules.specs.Checked.{sideAt, Checked}
-use Rattle.rules.proofs.Tests.{no-yes}
+use Rattle.questions.proofs.Tests.{no-yes}
 use Rattle.rules.proofs.Positions.{two-sides}
 use Rattle.operation.specs.declared.Side as Declared
 use Rattle.operation.specs.declared.Side.the-variants.{Anywhere, Inside, Outside}

@@ -7,12 +7,12 @@ use native.Mathlib.Omega.{arith}
 use native.Mathlib.Numerals.{add-one}
 use borrow.Author.Tests.{ne-eqb, eqb-true}
 use lib.Dec.{eqb}
-use Rattle.rules.specs.Basics.{if_then_else_}
-use Rattle.rules.specs.declared.Verdict.{Verdict}
-use Rattle.rules.specs.declared.Verdict.the-variants.{Accepted}
-use Rattle.rules.specs.Verdicts.{verdictOf}
-use Rattle.rules.proofs.Tests.{no-yes}
-use Rattle.rules.proofs.Chains.{accepted}
+use Rattle.questions.specs.Basics.{if_then_else_}
+use Rattle.questions.specs.declared.Verdict.{Verdict}
+use Rattle.questions.specs.declared.Verdict.the-variants.{Accepted}
+use Rattle.questions.specs.Verdicts.{verdictOf}
+use Rattle.questions.proofs.Tests.{no-yes}
+use Rattle.questions.proofs.Chains.{accepted}
 use Rattle.operation.specs.Operations.{begin, end, put, sideOf}
 use Rattle.code.specs.Layout.{operationAt}
 use Rattle.code.specs.Questions.{insideAt, putsBefore, stands}

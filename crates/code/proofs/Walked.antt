@@ -5,11 +5,11 @@ use mathlib.Core.List.{List}
 use mathlib.Core.Option.{none}
 use Prim.Native.Nat.{ℕ, _-_}
 use lib.ListN.{length}
-use Rattle.rules.specs.declared.Verdict.{Verdict}
-use Rattle.rules.specs.declared.Verdict.the-variants.{Accepted, Refused}
-use Rattle.rules.specs.Questions.{no, ask, firstNo}
-use Rattle.rules.specs.Verdicts.{verdictOf}
-use Rattle.rules.proofs.Chains.{or-yes, accepted, refused-first, first-all}
+use Rattle.questions.specs.declared.Verdict.{Verdict}
+use Rattle.questions.specs.declared.Verdict.the-variants.{Accepted, Refused}
+use Rattle.questions.specs.Questions.{no, ask, firstNo}
+use Rattle.questions.specs.Verdicts.{verdictOf}
+use Rattle.questions.proofs.Chains.{or-yes, accepted, refused-first, first-all}
 use Rattle.code.specs.Questions.{question8}
 use Rattle.code.specs.Refusal.{instructionNo, codeNo}
 

@@ -5,7 +5,7 @@ use mathlib.Core.List.{List}
 use Prim.Native.Nat.{ℕ, zero, suc, _+_, _-_}
 use lib.Dec.{ltb, leb, eqb}
 use lib.ListN.{length, getD}
-use Rattle.rules.specs.Basics.{if_then_else_, eachFrom}
+use Rattle.questions.specs.Basics.{if_then_else_, eachFrom}
 use Rattle.operation.specs.declared.Side.{Side}
 use Rattle.operation.specs.declared.Side.the-variants.{Anywhere, Inside, Outside}
 use Rattle.operation.specs.declared.Operand.{Operand}

@@ -3,7 +3,7 @@ use mathlib.Core.List.{List}
 use mathlib.Core.Option.{Option, none}
 use Prim.Native.Nat.{ℕ, _-_}
 use lib.ListN.{length}
-use Rattle.rules.specs.Questions.{No, no, ask, orElse, firstNo}
+use Rattle.questions.specs.Questions.{No, no, ask, orElse, firstNo}
 use Rattle.code.specs.Questions.{question4, question5, question6, question7, question8}
 
 -- 4 to 7, put to instruction i of workflow w

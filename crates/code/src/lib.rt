@@ -4,9 +4,9 @@ ghost use mathlib.Core.Bool.{true, false, _&&_};
 ghost use Prim.Native.Nat.{_+_, _-_, _*_, _≤_, _<_};
 ghost use lib.ListN.{length};
 ghost use lib.Dec.{eqb};
-ghost use Rattle.rules.specs.Basics.{if_then_else_, eachFrom};
-ghost use Rattle.rules.specs.Questions.{firstNo};
-ghost use Rattle.rules.specs.Verdicts.{verdictOf};
+ghost use Rattle.questions.specs.Basics.{if_then_else_, eachFrom};
+ghost use Rattle.questions.specs.Questions.{firstNo};
+ghost use Rattle.questions.specs.Verdicts.{verdictOf};
 ghost use Rattle.operation.specs.Parts.{operationOf, registerOf, targetOf};
 ghost use Rattle.operation.specs.Operations.{put};
 ghost use Rattle.code.specs.Layout.{wordAt};
@@ -15,7 +15,7 @@ ghost use Rattle.code.specs.Refusal.{instructionNo, codeNo};
 use operation::Operand;
 use operation::Row;
 use operation::Side;
-use rules::Verdict;
+use questions::Verdict;
 
 // Is the operation 0 to B, and bit 3 clear?
 fn is_legal(b: u8) -> bool
@@ -188,14 +188,14 @@ fn judge_outside(ops: &[u8], operands: &[u8], workflow: usize, at: usize) -> Ver
     let b = ops[at];
     let w = words::read32(operands, 4 * at);
     if !is_legal(b) {
-        return rules::refused(4, workflow, at);
+        return questions::refused(4, workflow, at);
     }
     let row = operation::row_of(b);
     if !is_ranged(row, b, ops.len(), at, w) {
-        return rules::refused(5, workflow, at);
+        return questions::refused(5, workflow, at);
     }
     if !is_sided_outside(row, ops, at, w) {
-        return rules::refused(6, workflow, at);
+        return questions::refused(6, workflow, at);
     }
     Verdict::Accepted
 }
@@ -209,17 +209,17 @@ fn judge_inside(ops: &[u8], operands: &[u8], workflow: usize, at: usize, puts: u
     let b = ops[at];
     let w = words::read32(operands, 4 * at);
     if !is_legal(b) {
-        return rules::refused(4, workflow, at);
+        return questions::refused(4, workflow, at);
     }
     let row = operation::row_of(b);
     if !is_ranged(row, b, ops.len(), at, w) {
-        return rules::refused(5, workflow, at);
+        return questions::refused(5, workflow, at);
     }
     if !is_sided_inside(row, ops, at, w) {
-        return rules::refused(6, workflow, at);
+        return questions::refused(6, workflow, at);
     }
     if !is_counted(b, puts) {
-        return rules::refused(7, workflow, at);
+        return questions::refused(7, workflow, at);
     }
     Verdict::Accepted
 }
@@ -287,7 +287,7 @@ pub fn check_workflow(ops: &[u8], operands: &[u8], workflow: usize) -> Verdict
             if operation::operation_of(ops[last]) == operation::RETURN {
                 Verdict::Accepted
             } else {
-                rules::refused(8, workflow, last)
+                questions::refused(8, workflow, last)
             }
         }
         Verdict::Refused {

@@ -1,14 +1,14 @@
 // Executes the two forms with references on a pack that it reads from standard input, the whole case's: a reader, which carries the lent
 // pack with the workflow that it has open, and the record of one agent, lent by `&mut` and moved on in place.
 ghost use mathlib.Core.Path.{_≡_};
-ghost use Rattle.rules.specs.Verdicts.{verdictOf};
+ghost use Rattle.questions.specs.Verdicts.{verdictOf};
 ghost use Rattle.pack.specs.Refusal.{openRefusal};
 ghost use Rattle.lent.specs.Alone.{TurnedAlone};
 use agents::Agent;
 use agents::Answer;
 use libc::STDOUT_FILENO;
+use questions::Verdict;
 use reader::Instruction;
-use rules::Verdict;
 use turn::Turned;
 
 fn write_text(text: &[u8]) {

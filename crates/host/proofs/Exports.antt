@@ -6,12 +6,12 @@ use mathlib.Core.Path.{_≡_, refl, sym, _∙_, ap, subst}
 use Prim.Native.Nat.{ℕ, _≤_, _<_}
 use borrow.Author.Tests.{le-leb, lt-leb, eq-eqb, ne-eqb}
 use lib.ListN.{length}
-use Rattle.rules.specs.Questions.{No}
+use Rattle.questions.specs.Questions.{No}
 use Rattle.rules.specs.Calls.{Call, order}
 use Rattle.rules.specs.Calls as Rules
 use Rattle.rules.specs.Plain.{accepted}
 use Rattle.rules.proofs.Calls.{rule-accepted}
-use Rattle.rules.proofs.Tests.{yes-no}
+use Rattle.questions.proofs.Tests.{yes-no}
 use Rattle.pack.specs.Meaning.{packOf}
 use Rattle.agents.specs.declared.Agent.{Agent}
 use Rattle.agents.specs.declared.Outcome.{Outcome}

@@ -6,10 +6,10 @@ use Prim.Native.Nat.{ℕ, _*_, _≤_, _<_}
 use native.Mathlib.Omega.{arith}
 use borrow.Author.Tests.{le-leb, lt-leb}
 use lib.ListN.{length}
-use Rattle.rules.specs.Questions.{No}
+use Rattle.questions.specs.Questions.{No}
 use Rattle.rules.specs.Blocks.{yields}
 use Rattle.rules.specs.Calls.{Answer, done, moved, reply, refused}
-use Rattle.rules.specs.declared.Verdict.{Verdict}
+use Rattle.questions.specs.declared.Verdict.{Verdict}
 use Rattle.pack.specs.Layout.{sizeOf, operationsAt, operandsAt}
 use Rattle.pack.specs.Refusal.{openRefusal}
 use Rattle.slots.specs.Records.{puts}

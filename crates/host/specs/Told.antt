@@ -5,9 +5,9 @@ use mathlib.Core.Path.{_≡_}
 use Prim.Native.Nat.{ℕ, _*_}
 use lib.Dec.{leb}
 use lib.ListN.{length}
-use Rattle.rules.specs.Basics.{if_then_else_}
-use Rattle.rules.specs.Questions.{No}
-use Rattle.rules.specs.Verdicts.{verdictOf}
+use Rattle.questions.specs.Basics.{if_then_else_}
+use Rattle.questions.specs.Questions.{No}
+use Rattle.questions.specs.Verdicts.{verdictOf}
 use Rattle.rules.specs.Calls.{Answer}
 use Rattle.pack.specs.Layout.{sizeOf, operationsAt, operandsAt}
 use Rattle.pack.specs.Refusal.{openRefusal}

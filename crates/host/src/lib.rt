@@ -6,7 +6,7 @@ ghost use Rattle.pack.specs.Refusal.{packRefusal, openRefusal};
 ghost use Rattle.answers.specs.Answers.{valuesOf, judged};
 ghost use Rattle.host.specs.Told.{openedWords, Told, Made};
 ghost use Rattle.host.specs.Exports.{Exported, PutInOrder};
-use rules::Verdict;
+use questions::Verdict;
 
 // The check of a pack.
 #[no_mangle]

@@ -7,7 +7,7 @@ use native.Mathlib.Omega.{arith}
 use borrow.Author.Tests.{ltb-true, eqb-true}
 use lib.Dec.{ltb}
 use lib.ListN.{length}
-use Rattle.rules.proofs.Tests.{and-left}
+use Rattle.questions.proofs.Tests.{and-left}
 use Rattle.operation.specs.declared.Operand.the-variants.{Jump}
 use Rattle.operation.specs.Parts.{sourceOf, targetOf}
 use Rattle.operation.specs.Operations.{operandOf}

@@ -9,13 +9,13 @@ use native.Mathlib.Omega.{arith}
 use borrow.Author.Tests.{lt-ltb, ne-eqb}
 use lib.Dec.{eqb, ltb}
 use lib.ListN.{getD, set}
-use Rattle.rules.specs.Basics.{if_then_else_, update, isSome}
+use Rattle.questions.specs.Basics.{if_then_else_, update, isSome}
 use Rattle.rules.specs.Instructions.{GET, PUT, HAS, Place, register, becomes, goto, next, Act, moves, reads, puts, act}
 use Rattle.rules.specs.Instructions as Instructions
 use Rattle.rules.specs.Blocks.{within}
 use Rattle.rules.specs.Blocks as Blocks
-use Rattle.rules.specs.Keys.{dataKey, tableOf}
-use Rattle.rules.proofs.Keys.{data-put}
+use Rattle.keys.specs.Keys.{dataKey, tableOf}
+use Rattle.keys.proofs.Keys.{data-put}
 use Rattle.store.specs.Rows.{Row, putRow, countNew, keysIn}
 use Rattle.operation.specs.Parts.{operationOf, registerOf, sourceOf, targetOf}
 use Rattle.operation.specs.Operations.{get, put, has}

@@ -5,7 +5,7 @@ use mathlib.Core.Option.{Option, none, some}
 use mathlib.Core.Path.{_≡_}
 use Prim.Native.Nat.{ℕ, _≤_}
 use lib.ListN.{length, take}
-use Rattle.rules.specs.Keys.{isDataKey}
+use Rattle.keys.specs.Keys.{isDataKey}
 use Rattle.store.specs.Rows.{Row, pairs, lookup, keysIn, countNew}
 use Rattle.store.specs.Questions.{allIn, rising}
 use Rattle.instruction.specs.declared.pending.Pending.{Pending}

@@ -3,10 +3,10 @@ use mathlib.Core.List.{List}
 use mathlib.Core.Path.{_≡_}
 use Prim.Native.Nat.{ℕ, _+_, _%_, _≤_, _<_}
 use lib.Dec.{eqb}
-use Rattle.rules.specs.Basics.{if_then_else_}
+use Rattle.questions.specs.Basics.{if_then_else_}
 use Rattle.rules.specs.Instructions.{Place, Act}
 use Rattle.rules.specs.Blocks.{Work, Block, within}
-use Rattle.rules.specs.Keys.{tableOf}
+use Rattle.keys.specs.Keys.{tableOf}
 use Rattle.store.specs.Rows.{Row}
 use Rattle.operation.specs.Parts.{operationOf, sourceOf}
 use Rattle.operation.specs.Operations.{set, jlt, jeq, begin, end, put, return}

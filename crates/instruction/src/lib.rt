@@ -4,7 +4,7 @@ pub mod pending;
 ghost use mathlib.Core.List.{List};
 ghost use mathlib.Core.Path.{_≡_};
 ghost use Prim.Native.Nat.{_+_, _%_, _^_, _≤_, _<_};
-ghost use Rattle.rules.specs.Basics.{if_then_else_};
+ghost use Rattle.questions.specs.Basics.{if_then_else_};
 ghost use Rattle.rules.specs.Instructions.{moves, act, next, goto, becomes, Instruction};
 ghost use Rattle.operation.specs.Parts.{operationOf};
 ghost use Rattle.code.specs.Meaning.{decode, instructionOf};

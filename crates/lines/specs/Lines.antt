@@ -2,7 +2,7 @@
 use mathlib.Core.List.{List, [], _∷_, _++_}
 use Prim.Native.Nat.{ℕ, _-_, _/_, _%_, _^_}
 use lib.Dec.{leb}
-use Rattle.rules.specs.Basics.{if_then_else_}
+use Rattle.questions.specs.Basics.{if_then_else_}
 use Rattle.rules.specs.Blocks.{yields}
 use Rattle.rules.specs.Calls.{Answer, done, moved, reply, refused}
 use Rattle.text.specs.Text.{decimal}

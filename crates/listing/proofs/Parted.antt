@@ -10,10 +10,10 @@ use borrow.Author.Tests.{lt-ltb, le-ltb, lt-leb, ltb-true, ltb-false}
 use lib.Dec.{eqb, ltb}
 use lib.ListN.{length, take, drop, length-drop}
 use lib.Seq.{take-all}
-use Rattle.rules.specs.Keys.{isDataKey, isLogKey}
-use Rattle.rules.specs.Keys as Keys
-use Rattle.rules.proofs.Keys.{book-bounds}
-use Rattle.rules.proofs.Tests.{no-yes, and-left, and-right}
+use Rattle.keys.specs.Keys.{isDataKey, isLogKey}
+use Rattle.keys.specs.Keys as Keys
+use Rattle.keys.proofs.Keys.{book-bounds}
+use Rattle.questions.proofs.Tests.{no-yes, and-left, and-right}
 use Rattle.store.specs.Layout.{partsOf}
 use Rattle.store.specs.Rows.{Row, keysIn, rowsOf, rankOf}
 use Rattle.store.specs.Rows as Rows

@@ -3,8 +3,8 @@
 use mathlib.Core.Bool.{Bool}
 use mathlib.Core.List.{List, [], _∷_, _++_}
 use Prim.Native.Nat.{ℕ, zero, suc, _+_}
-use Rattle.rules.specs.Basics.{if_then_else_}
-use Rattle.rules.specs.Keys.{isDataKey, isLogKey}
+use Rattle.questions.specs.Basics.{if_then_else_}
+use Rattle.keys.specs.Keys.{isDataKey, isLogKey}
 use Rattle.store.specs.Layout.{partsOf}
 use Rattle.store.specs.Rows.{Row, rowsOf}
 use Rattle.lines.specs.Lines.{storedLine}

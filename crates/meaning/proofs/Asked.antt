@@ -4,9 +4,9 @@ use mathlib.Core.List.{List}
 use mathlib.Core.Option.{Option, none, some}
 use mathlib.Core.Path.{_≡_, refl}
 use Prim.Native.Nat.{ℕ}
-use Rattle.rules.specs.Questions.{No, number, ask}
-use Rattle.rules.specs.Questions as Questions
-use Rattle.rules.proofs.Questions.{ask-none, orElse-none}
+use Rattle.questions.specs.Questions.{No, number, ask}
+use Rattle.questions.specs.Questions as Questions
+use Rattle.questions.proofs.Questions.{ask-none, orElse-none}
 use Rattle.pack.specs.Refusal.{packRefusal}
 use Rattle.store.specs.Questions.{storeRefusal}
 use Rattle.agents.specs.declared.Agent.{Agent}

@@ -5,7 +5,7 @@ use mathlib.Core.Path.{_≡_, refl, sym, _∙_, ap}
 use Prim.Native.Nat.{ℕ, _^_, _<_}
 use native.Mathlib.Omega.{arith}
 use borrow.Author.Tests.{lt-ltb}
-use Rattle.rules.specs.Keys.{bookKey}
+use Rattle.keys.specs.Keys.{bookKey}
 use Rattle.store.specs.Rows.{Row, lookup}
 use Rattle.store.specs.Answers.{gotOf}
 use Rattle.store.specs.declared.rows.Got.{Got}

@@ -13,18 +13,18 @@ use lib.Seq.{ext-getD}
 use mir.Val.{Val}
 use denote.Laws.{Is}
 use denote.Array.{Array}
-use Rattle.rules.specs.Basics.{update, each}
-use Rattle.rules.specs.Questions.{No, no, number}
-use Rattle.rules.specs.Questions as Questions
+use Rattle.questions.specs.Basics.{update, each}
+use Rattle.questions.specs.Questions.{No, no, number}
+use Rattle.questions.specs.Questions as Questions
 use Rattle.rules.specs.Calls.{Call, Outcome, gives, withSlot, refusal}
 use Rattle.rules.specs.Calls as Calls
 use Rattle.rules.specs.Store as Rules
-use Rattle.rules.proofs.Updates.{none-some, update-other}
-use Rattle.rules.proofs.Tests.{and-left, and-right}
-use Rattle.rules.proofs.Each.{each-at}
+use Rattle.questions.proofs.Updates.{none-some, update-other}
+use Rattle.questions.proofs.Tests.{and-left, and-right}
+use Rattle.questions.proofs.Each.{each-at}
 use Rattle.pack.specs.Meaning.{packOf}
-use Rattle.rules.specs.declared.Verdict.{Verdict}
-use Rattle.rules.specs.declared.Verdict.the-variants as Verdicts
+use Rattle.questions.specs.declared.Verdict.{Verdict}
+use Rattle.questions.specs.declared.Verdict.the-variants as Verdicts
 use Rattle.store.specs.Rows.{storeOf}
 use Rattle.store.specs.Questions.{orderRefusal}
 use Rattle.store.specs.Ordered.{Ordered}

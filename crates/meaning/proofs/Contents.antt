@@ -9,9 +9,9 @@ use native.Mathlib.Omega.{arith}
 use borrow.Author.Tests.{lt-ltb, ltb-true}
 use lib.Dec.{ltb}
 use lib.ListN.{length}
-use Rattle.rules.specs.Basics.{if_then_else_, update}
-use Rattle.rules.specs.Keys.{tableOf, logOf}
-use Rattle.rules.proofs.Updates.{update-same, update-other, update-after}
+use Rattle.questions.specs.Basics.{if_then_else_, update}
+use Rattle.keys.specs.Keys.{tableOf, logOf}
+use Rattle.questions.proofs.Updates.{update-same, update-other, update-after}
 use Rattle.store.specs.Rows.{Row, Store, alter}
 use Rattle.store.proofs.Lists.{alter-here, alter-there}
 use Rattle.meaning.specs.State.{contentsOf, valueIn, bookOf}

@@ -10,13 +10,13 @@ use native.Mathlib.Decide.{decLt, ℕ-discrete}
 use borrow.Author.Tests.{lt-ltb, eq-eqb, ne-eqb, ltb-true, leb-true}
 use lib.Dec.{eqb, ltb, leb}
 use lib.ListN.{length, getD}
-use Rattle.rules.specs.Basics.{if_then_else_, isSome}
-use Rattle.rules.specs.Keys.{bookKey, isDataKey, isLogKey, isBookKey, tableOf, logOf}
-use Rattle.rules.specs.Keys as Keys
+use Rattle.questions.specs.Basics.{if_then_else_, isSome}
+use Rattle.keys.specs.Keys.{bookKey, isDataKey, isLogKey, isBookKey, tableOf, logOf}
+use Rattle.keys.specs.Keys as Keys
 use Rattle.rules.specs.Store.{Request}
 use Rattle.rules.specs.Store as Rules
-use Rattle.rules.proofs.Tests.{no-yes, and-left, and-right}
-use Rattle.rules.proofs.Updates.{none-some}
+use Rattle.questions.proofs.Tests.{no-yes, and-left, and-right}
+use Rattle.questions.proofs.Updates.{none-some}
 use Rattle.words.specs.Words as Words
 use Rattle.store.specs.Layout.{AllBytes, partsOf}
 use Rattle.store.specs.Ordered.{InOrder}

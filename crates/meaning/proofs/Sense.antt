@@ -10,15 +10,15 @@ use native.Mathlib.Decide.{decLt}
 use borrow.Author.Tests.{ltb-true, leb-true, not-true, lt-ltb, le-leb, eq-eqb}
 use lib.Dec.{ltb, leb}
 use lib.ListN.{length, getD}
-use Rattle.rules.specs.Basics.{if_then_else_}
+use Rattle.questions.specs.Basics.{if_then_else_}
 use Rattle.rules.specs.Instructions.{BEGIN, instructionAt}
 use Rattle.rules.specs.Shapes.{Side, outside, inside}
 use Rattle.rules.specs.Checked.{sideAt}
-use Rattle.rules.specs.Keys.{bookKey}
+use Rattle.keys.specs.Keys.{bookKey}
 use Rattle.rules.specs.Store.{Request}
 use Rattle.rules.specs.Calls as Rules
 use Rattle.rules.specs.Demand3.{SoundAgent}
-use Rattle.rules.proofs.Updates.{none-some, false-true}
+use Rattle.questions.proofs.Updates.{none-some, false-true}
 use Rattle.words.specs.Words.{le}
 use Rattle.code.specs.Questions.{insideAt}
 use Rattle.code.proofs.Decoded.{decoded-begin, operation-known, side-known}
@@ -26,7 +26,7 @@ use Rattle.pack.specs.Layout.{count, sizeOf, firstOf, total, operationByte, ope
 use Rattle.pack.specs.Refusal.{packRefusal}
 use Rattle.pack.specs.Meaning.{packOf}
 use Rattle.pack.proofs.Sizes.{within, length-operations}
-use Rattle.rules.proofs.Tests.{and-left, and-right}
+use Rattle.questions.proofs.Tests.{and-left, and-right}
 use Rattle.pack.proofs.Laws.{workflow-at, accepted-laid, accepted-workflow, length-workflow, instruction-in}
 use Rattle.store.specs.Rows.{lookup}
 use Rattle.store.specs.Layout.{partsOf}
@@ -35,7 +35,7 @@ use Rattle.agents.specs.Slots.{agentAt, slotsOf, held}
 use Rattle.agents.proofs.Slots.{slot-empty, slot-held, slots-past}
 use Rattle.meaning.specs.State.{contentsOf, stateOf, valueIn, argumentsOf, requestOf, bookOf}
 use Rattle.meaning.specs.Questions.{bookRows, opensBelow, byteOf, wordOf, bookedRight, opensRight, isSound, slotRight, question13, question14, lentRefusal}
-use Rattle.rules.proofs.Each.{each-at}
+use Rattle.questions.proofs.Each.{each-at}
 use Rattle.meaning.proofs.Asked.{lent-pack, lent-13, lent-14}
 use Rattle.meaning.proofs.Steps.{and-yes, workflow-below, booked-of-13, opens-of-13, slot-used}
 

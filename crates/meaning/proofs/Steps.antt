@@ -9,14 +9,14 @@ use native.Mathlib.Omega.{arith}
 use borrow.Author.Tests.{lt-ltb, le-ltb, eq-eqb, ne-eqb, ltb-true, eqb-true}
 use lib.Dec.{eqb, ltb, leb}
 use lib.ListN.{length, getD}
-use Rattle.rules.specs.Basics.{if_then_else_, each, eachFrom}
-use Rattle.rules.specs.Keys.{bookKey}
+use Rattle.questions.specs.Basics.{if_then_else_, each, eachFrom}
+use Rattle.keys.specs.Keys.{bookKey}
 use Rattle.words.specs.Words.{le}
 use Rattle.code.specs.Questions.{insideAt}
 use Rattle.pack.specs.Layout.{count, sizeOf, total, operationsOf}
 use Rattle.pack.specs.Laid.{Laid}
 use Rattle.pack.proofs.Sizes.{length-operations}
-use Rattle.rules.proofs.Tests.{and-left, and-right}
+use Rattle.questions.proofs.Tests.{and-left, and-right}
 use Rattle.store.specs.Rows.{Row, lookup, rowsOf}
 use Rattle.store.specs.Layout.{partsOf}
 use Rattle.store.specs.Answers.{gotOf}
@@ -27,7 +27,7 @@ use Rattle.agents.specs.Slots.{agentAt}
 use Rattle.meaning.specs.State.{valueIn, bookOf}
 use Rattle.meaning.specs.Questions.{bookRows, booksBelow, opensBelow, byteOf, wordOf, bookedRight, opensRight, isBlank, isSound, slotRight, question13, question14}
 use Rattle.meaning.proofs.Book.{booked-some, booked-none}
-use Rattle.rules.proofs.Each.{each-at, each-none, each-more, each-fails}
+use Rattle.questions.proofs.Each.{each-at, each-none, each-more, each-fails}
 
 -- the rest of tests that are joined, after a yes and after a no
 pub and-yes : (a b : Bool) → a ≡ true → (a && b) ≡ b

@@ -4,7 +4,7 @@ use mathlib.Core.Logic.{_⊎_}
 use mathlib.Core.Option.{none, some}
 use mathlib.Core.Path.{_≡_}
 use Prim.Native.Nat.{ℕ}
-use Rattle.rules.specs.Questions.{No}
+use Rattle.questions.specs.Questions.{No}
 use Rattle.rules.specs.Calls.{Call, Outcome, State, rule}
 use Rattle.rules.specs.Calls as Calls
 use Rattle.rules.specs.Store as Rules

@@ -6,8 +6,8 @@ use Prim.Native.Nat.{ℕ, _+_, _*_, _/_, _%_}
 use lib.Dec.{ltb, leb, eqb}
 use lib.ListN.{length, getD}
 use Rattle.words.specs.Words.{le}
-use Rattle.rules.specs.Basics.{if_then_else_, each}
-use Rattle.rules.specs.Questions.{No, number, ask, orElse}
+use Rattle.questions.specs.Basics.{if_then_else_, each}
+use Rattle.questions.specs.Questions.{No, number, ask, orElse}
 use Rattle.rules.specs.Store.{Request}
 use Rattle.rules.specs.Calls.{Call, arrival, retry, turn, crash, restart, order, stopped, refusal}
 use Rattle.code.specs.Questions.{insideAt}

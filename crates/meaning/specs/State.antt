@@ -4,8 +4,8 @@ use mathlib.Core.Option.{Option, none, some, Option·getD}
 use Prim.Native.Nat.{ℕ, _^_}
 use lib.Dec.{ltb}
 use lib.ListN.{length}
-use Rattle.rules.specs.Basics.{if_then_else_}
-use Rattle.rules.specs.Keys.{bookKey, tableOf, logOf}
+use Rattle.questions.specs.Basics.{if_then_else_}
+use Rattle.keys.specs.Keys.{bookKey, tableOf, logOf}
 use Rattle.rules.specs.Store.{Request}
 use Rattle.rules.specs.Store as Rules
 use Rattle.rules.specs.Calls.{State}

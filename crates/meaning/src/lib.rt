@@ -6,16 +6,16 @@ ghost use Prim.Native.Nat.{_+_, _^_, _≤_, _<_};
 ghost use lib.ListN.{length, getD};
 ghost use Rattle.words.specs.Words.{le};
 ghost use Rattle.pack.specs.Laid.{Laid};
-ghost use Rattle.rules.specs.Verdicts.{verdictOf};
+ghost use Rattle.questions.specs.Verdicts.{verdictOf};
 ghost use Rattle.pack.specs.Refusal.{packRefusal};
-ghost use Rattle.rules.specs.Keys.{bookKey};
+ghost use Rattle.keys.specs.Keys.{bookKey};
 ghost use Rattle.store.specs.Rows.{lookup, keysIn};
 ghost use Rattle.store.specs.Answers.{foundIn, gotOf};
 ghost use Rattle.store.specs.Sound.{Sound};
 ghost use Rattle.meaning.specs.State.{valueIn, bookOf};
 ghost use Rattle.meaning.specs.Questions.{bookRows, booksBelow, opensBelow, bookedRight, opensRight, question13, isBlank, isSound, slotRight, question14, lentRefusal};
 use agents::Agent;
-use rules::Verdict;
+use questions::Verdict;
 use store::rows::Found;
 use store::rows::Got;
 
@@ -204,10 +204,10 @@ fn check_behind_pack(pack: &[u8], store: &[u8], agents: [Agent; 8]) -> Verdict
     match v {
         Verdict::Accepted => {
             if !check_13(pack, store) {
-                return rules::refused(13, 0, 0);
+                return questions::refused(13, 0, 0);
             }
             if !check_14(pack, store, agents) {
-                return rules::refused(14, 0, 0);
+                return questions::refused(14, 0, 0);
             }
             v
         }

@@ -4,7 +4,7 @@ use mathlib.Core.Bool.{Bool, false, _||_}
 use mathlib.Core.List.{List, [], _∷_}
 use Prim.Native.Nat.{ℕ}
 use lib.Dec.{eqb}
-use Rattle.rules.specs.Basics.{if_then_else_}
+use Rattle.questions.specs.Basics.{if_then_else_}
 use Rattle.operation.specs.declared.Side.{Side}
 use Rattle.operation.specs.declared.Side.the-variants.{Anywhere, Inside, Outside}
 use Rattle.operation.specs.declared.Operand.{Operand}

@@ -7,10 +7,10 @@ use native.Mathlib.Omega.{arith}
 use borrow.Author.Tests.{le-leb}
 use lib.ListN.{length}
 use Rattle.words.specs.Words.{le}
-use Rattle.rules.specs.Basics.{eachFrom}
-use Rattle.rules.specs.Questions.{no, number, ask, orElse, firstNo}
+use Rattle.questions.specs.Basics.{eachFrom}
+use Rattle.questions.specs.Questions.{no, number, ask, orElse, firstNo}
 use Rattle.rules.specs.Instructions.{ADD, SUB, Place, moves, act}
-use Rattle.rules.specs.Keys.{dataKey, logKey, bookKey}
+use Rattle.keys.specs.Keys.{dataKey, logKey, bookKey}
 use Rattle.operation.specs.Operations.{sideOf, operandOf, fixedOf}
 use Rattle.code.specs.Questions.{legal, question4, inRange, registerRight, question5, insideAt, stands, isNoEnd, landsFrom, lands, question6, putsBefore, counted, question7, question8}
 use Rattle.code.specs.Refusal.{instructionNo, codeNo}

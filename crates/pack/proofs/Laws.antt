@@ -11,8 +11,8 @@ use Rattle.words.specs.Words.{le}
 use Rattle.words.proofs.Laws.{le-lt}
 use Rattle.rules.specs.Instructions.{BEGIN, instructionAt}
 use Rattle.rules.specs.Checked.{CheckedPack, Checked}
-use Rattle.rules.proofs.Questions.{orElse-none}
-use Rattle.rules.proofs.Chains.{each-yes}
+use Rattle.questions.proofs.Questions.{orElse-none}
+use Rattle.questions.proofs.Chains.{each-yes}
 use Rattle.code.specs.Layout.{wordAt}
 use Rattle.code.specs.Refusal.{instructionNo}
 use Rattle.code.specs.Right.{Right}

@@ -10,11 +10,11 @@ use borrow.Author.Tests.{leb-true, eqb-true, le-leb, lt-leb}
 use lib.Dec.{leb, eqb}
 use lib.ListN.{length, length-drop}
 use lib.Seq.{length-take-le}
-use Rattle.rules.specs.Basics.{each}
-use Rattle.rules.specs.Questions.{number, ask}
-use Rattle.rules.proofs.Questions.{ask-none}
-use Rattle.rules.proofs.Tests.{and-left, and-right, and-false}
-use Rattle.rules.proofs.Each.{each-at}
+use Rattle.questions.specs.Basics.{each}
+use Rattle.questions.specs.Questions.{number, ask}
+use Rattle.questions.proofs.Questions.{ask-none}
+use Rattle.questions.proofs.Tests.{and-left, and-right, and-false}
+use Rattle.questions.proofs.Each.{each-at}
 use Rattle.pack.specs.Layout.{count, sizeOf, firstOf, total, operationsAt, operandsAt, operationsOf, operandsOf}
 use Rattle.pack.specs.Laid.{Laid}
 use Rattle.pack.specs.Questions.{between, sizeRight, question1, question2, question3}

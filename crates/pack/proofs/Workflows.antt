@@ -7,12 +7,12 @@ use Prim.Native.Nat.{ℕ, _+_, _*_, _≤_, _<_}
 use native.Mathlib.Omega.{arith}
 use borrow.Author.Tests.{ltb-true, lt-ltb, le-ltb}
 use lib.ListN.{take, drop}
-use Rattle.rules.specs.declared.Verdict.{Verdict}
-use Rattle.rules.specs.declared.Verdict.the-variants.{Accepted, Refused}
-use Rattle.rules.specs.Questions.{No, number, ask, firstNo}
-use Rattle.rules.specs.Verdicts.{verdictOf}
-use Rattle.rules.proofs.Questions.{ask-none, orElse-none}
-use Rattle.rules.proofs.Chains.{or-yes, accepted, refused-first}
+use Rattle.questions.specs.declared.Verdict.{Verdict}
+use Rattle.questions.specs.declared.Verdict.the-variants.{Accepted, Refused}
+use Rattle.questions.specs.Questions.{No, number, ask, firstNo}
+use Rattle.questions.specs.Verdicts.{verdictOf}
+use Rattle.questions.proofs.Questions.{ask-none, orElse-none}
+use Rattle.questions.proofs.Chains.{or-yes, accepted, refused-first}
 use Rattle.code.specs.Refusal.{codeNo}
 use Rattle.pack.specs.Layout.{count, sizeOf, firstOf, total, operationsOf, operandsOf}
 use Rattle.pack.specs.Laid.{Laid}

@@ -5,7 +5,7 @@ use mathlib.Core.List.{List}
 use Prim.Native.Nat.{ℕ, _+_, _*_}
 use lib.Dec.{ltb, leb, eqb}
 use lib.ListN.{length}
-use Rattle.rules.specs.Basics.{each}
+use Rattle.questions.specs.Basics.{each}
 use Rattle.pack.specs.Layout.{count, sizeOf, total}
 
 -- `between low high x`: x is low to high

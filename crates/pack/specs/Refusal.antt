@@ -2,7 +2,7 @@
 use mathlib.Core.List.{List, []}
 use mathlib.Core.Option.{Option, none, some}
 use Prim.Native.Nat.{ℕ}
-use Rattle.rules.specs.Questions.{No, number, ask, orElse, firstNo}
+use Rattle.questions.specs.Questions.{No, number, ask, orElse, firstNo}
 use Rattle.code.specs.Refusal.{codeNo}
 use Rattle.pack.specs.Layout.{count, operationsOf, operandsOf}
 use Rattle.pack.specs.Questions.{question1, question2, question3, question17}

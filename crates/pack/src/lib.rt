@@ -3,14 +3,14 @@ ghost use mathlib.Core.Path.{_≡_};
 ghost use mathlib.Core.Option.{none};
 ghost use Prim.Native.Nat.{_+_, _*_, _≤_, _<_};
 ghost use lib.ListN.{length, take, drop};
-ghost use Rattle.rules.specs.Basics.{each};
-ghost use Rattle.rules.specs.Questions.{firstNo};
-ghost use Rattle.rules.specs.Verdicts.{verdictOf};
+ghost use Rattle.questions.specs.Basics.{each};
+ghost use Rattle.questions.specs.Questions.{firstNo};
+ghost use Rattle.questions.specs.Verdicts.{verdictOf};
 ghost use Rattle.pack.specs.Layout.{count, sizeOf, firstOf, total, operationsAt, operandsAt, operationsOf, operandsOf, operationByte, operandWord};
 ghost use Rattle.pack.specs.Laid.{Laid};
 ghost use Rattle.pack.specs.Questions.{sizeRight};
 ghost use Rattle.pack.specs.Refusal.{layoutNo, workflowNo, packRefusal, openRefusal, opened};
-use rules::Verdict;
+use questions::Verdict;
 
 // The number of instructions of the workflows before `w`.
 pub fn first_of(pack: &[u8], w: usize) -> usize
@@ -50,27 +50,27 @@ fn check_layout(pack: &[u8]) -> Verdict
     ensures { λ r. ⌜ r ≡ verdictOf (layoutNo (now (pack .entry))) ⌝ }
 {
     if pack.len() < 1 {
-        return rules::refused(1, 0, 0);
+        return questions::refused(1, 0, 0);
     }
     let m = pack[0] as usize;
     if m < 1 {
-        return rules::refused(1, 0, 0);
+        return questions::refused(1, 0, 0);
     }
     if 16 < m {
-        return rules::refused(1, 0, 0);
+        return questions::refused(1, 0, 0);
     }
     if pack.len() < 1 + 2 * m {
-        return rules::refused(2, 0, 0);
+        return questions::refused(2, 0, 0);
     }
     if !sizes_in_range(pack, m) {
-        return rules::refused(2, 0, 0);
+        return questions::refused(2, 0, 0);
     }
     let t = first_of(pack, m);
     if 2048 < t {
-        return rules::refused(2, 0, 0);
+        return questions::refused(2, 0, 0);
     }
     if pack.len() != 1 + 2 * m + 5 * t {
-        return rules::refused(3, 0, 0);
+        return questions::refused(3, 0, 0);
     }
     Verdict::Accepted
 }
@@ -170,7 +170,7 @@ pub fn open(pack: &[u8], workflow: u32) -> Verdict
             if workflow < count_of(pack) {
                 Verdict::Accepted
             } else {
-                rules::refused(17, 0, 0)
+                questions::refused(17, 0, 0)
             }
         }
         Verdict::Refused {

@@ -1,6 +1,6 @@
 // Reads cases from standard input and writes the answer to each. A case is: 1 byte 0 (check the pack) or 1 (open a workflow), the
 // workflow (4 bytes), the length of its title (1) and of its pack (2), the title, the pack. `cases.py` has them in readable form.
-use rules::Verdict;
+use questions::Verdict;
 
 fn write_number(n: usize) {
     io::write_all(1, b" ");

@@ -12,10 +12,10 @@ use lib.ListN.{length, getD, take, drop, length-drop}
 use lib.Seq.{length-take-le}
 use denote.Ref.{now}
 use Rattle.rules.specs.Instructions.{RETURN}
-use Rattle.rules.specs.Questions.{No}
-use Rattle.rules.specs.Verdicts.{verdictOf}
-use Rattle.rules.specs.declared.Verdict.{Verdict}
-use Rattle.rules.specs.declared.Verdict.the-variants.{Refused}
+use Rattle.questions.specs.Questions.{No}
+use Rattle.questions.specs.Verdicts.{verdictOf}
+use Rattle.questions.specs.declared.Verdict.{Verdict}
+use Rattle.questions.specs.declared.Verdict.the-variants.{Refused}
 use Rattle.words.specs.Words.{le}
 use Rattle.code.specs.Layout.{wordAt}
 use Rattle.code.specs.Meaning.{decode, codeOf}

@@ -6,10 +6,10 @@ use Prim.Native.Nat.{ℕ, _+_, _*_}
 use lib.Dec.{leb, ltb}
 use lib.ListN.{length, getD, take, drop}
 use denote.Ref.{RefT, now}
-use Rattle.rules.specs.Basics.{if_then_else_}
+use Rattle.questions.specs.Basics.{if_then_else_}
 use Rattle.rules.specs.Instructions.{instructionAt}
-use Rattle.rules.specs.Questions.{No}
-use Rattle.rules.specs.Verdicts.{verdictOf}
+use Rattle.questions.specs.Questions.{No}
+use Rattle.questions.specs.Verdicts.{verdictOf}
 use Rattle.operation.specs.Operations.{return}
 use Rattle.code.specs.Layout.{wordAt}
 use Rattle.code.specs.Meaning.{instructionOf, codeOf}

@@ -3,7 +3,7 @@
 ghost use mathlib.Core.Path.{_≡_};
 ghost use Prim.Native.Nat.{_*_};
 ghost use Rattle.reader.specs.Readers.{partOf, openingOf, operationsFrom, operandsFrom, readerOf, Opened, operationsIn, operandsIn, Read};
-use rules::Verdict;
+use questions::Verdict;
 
 // `operations`, `operands`: where the workflow's operation bytes and operand bytes begin in the pack; `size`: how many instructions it has.
 // Refused, all three are 0, and there is nothing to read.

@@ -11,7 +11,7 @@ use native.Mathlib.Omega.{arith}
 use native.Mathlib.Decide.{decLt}
 use lib.ListN.{length, drop, length-drop, List·getD-eq-default}
 use lib.Seq.{drop-cons, drop-drop}
-use Rattle.rules.specs.Basics.{if_then_else_}
+use Rattle.questions.specs.Basics.{if_then_else_}
 use Rattle.rules.specs.Instructions.{Code, Place, next, Instruction, BEGIN, RETURN, Act, moves, opens, closes, reads, puts, returns}
 use Rattle.rules.specs.Instructions.{act, actAt, instructionAt}
 use Rattle.rules.specs.Shapes.{outside, inside, shape}

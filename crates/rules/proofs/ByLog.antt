@@ -6,7 +6,7 @@ use mathlib.Core.List.{List, [], _∷_, List·Memᴰ, List·Memᴰ·cases-cons, 
 use mathlib.Core.Logic.{_⊎_, inl, inr}
 use mathlib.Core.Option.{Option, none, some, Option·some-injective}
 use Prim.Native.Nat.{ℕ, suc}
-use Rattle.rules.specs.Basics.{update, isSome}
+use Rattle.questions.specs.Basics.{update, isSome}
 use Rattle.rules.specs.Instructions.{Code, Pack, Place}
 use Rattle.rules.specs.Blocks.{Result, Block, runBlock}
 use Rattle.rules.specs.Courses.{Course, Next, goes, does, says, nextOf}
@@ -15,8 +15,8 @@ use Rattle.rules.specs.Logged.{codeOf, start, Stage, at, finished, behin
 use Rattle.rules.specs.Calls.{Agent, State, Outcome, Call, arrival, retry, turn, crash, restart, order, stopped}
 use Rattle.rules.specs.Calls.{withSlot, started, arrive, again, throughBlock, turnOn, turnIn, refusal, rule}
 use Rattle.rules.specs.Plain.{Reply, withAnswer, Tally, Tallies, tallied}
-use Rattle.rules.proofs.Updates.{none-some, false-true, update-same, update-other, update-each}
-use Rattle.rules.proofs.Questions.{ask-none}
+use Rattle.questions.proofs.Updates.{none-some, false-true, update-same, update-other, update-each}
+use Rattle.questions.proofs.Questions.{ask-none}
 use Rattle.rules.proofs.Follow.{row-grows, row-here, follow-stays, follow-next}
 use Rattle.rules.proofs.Logged.{Ends, ends-once, ends-stay, logged-ends}
 use Rattle.rules.proofs.Invariant.{Remains}

@@ -8,7 +8,7 @@ use Prim.Native.Nat.{ℕ, _<_}
 use native.Mathlib.Omega.{arith}
 use lib.Dec.{ltb→lt}
 use lib.ListN.{length}
-use Rattle.rules.specs.Basics.{update, isSome}
+use Rattle.questions.specs.Basics.{update, isSome}
 use Rattle.rules.specs.Instructions.{Pack, Code, Place}
 use Rattle.rules.specs.Blocks.{Result}
 use Rattle.rules.specs.Courses.{Course, Next, goes, does, says, nextOf}
@@ -17,12 +17,12 @@ use Rattle.rules.specs.Logged.{start, at, follow}
 use Rattle.rules.specs.Calls.{codeBy, Agent, State, started, arrive, again, throughBlock, turnOn, turnIn, refusal, rule, Call}
 use Rattle.rules.specs.Calls.{arrival, retry, turn, crash, restart, order, stopped, call}
 use Rattle.rules.specs.Plain.{Reply, Run, Machine, Tallies, booking, accepted, fed, fedArrival, tallied}
-use Rattle.rules.proofs.Updates.{none-some, false-true, true-T, update-same, update-other, update-cases, update-each}
+use Rattle.questions.proofs.Updates.{none-some, false-true, true-T, update-same, update-other, update-cases, update-each}
 use Rattle.rules.proofs.Follow.{same-here}
 use Rattle.rules.proofs.Invariant.{Book, underway, Counterpart, Live, Inv, Remains, slots-stay, slots-set, slots-clear}
 use Rattle.rules.proofs.Core.{counterpart-stays}
 use Rattle.rules.proofs.Turn.{Keeps, unless-keeps, tallyOf, turn-keeps}
-use Rattle.rules.proofs.Questions.{ask-none}
+use Rattle.questions.proofs.Questions.{ask-none}
 
 module _ (pack : Pack) (s : State) (m : Machine) (t : Tallies) (rs : List Reply) (inv : Inv pack s m t rs) where
   -- a booked request starts in a slot

@@ -5,13 +5,13 @@ use mathlib.Core.List.{List, List·Memᴰ}
 use mathlib.Core.Option.{Option, none, some, Option·some-injective}
 use Prim.Native.Nat.{ℕ, _≤_, _<_}
 use native.Mathlib.Omega.{arith}
-use Rattle.rules.specs.Basics.{update}
+use Rattle.questions.specs.Basics.{update}
 use Rattle.rules.specs.Instructions.{Pack}
 use Rattle.rules.specs.Blocks.{Table}
 use Rattle.rules.specs.Store.{Request, Log, Store}
 use Rattle.rules.specs.Logged.{codeOf, Stage, at, finished}
 use Rattle.rules.specs.Plain.{Reply, Run, Machine, firstReplies}
-use Rattle.rules.proofs.Updates.{none-some, le-cases, update-cases}
+use Rattle.questions.proofs.Updates.{none-some, le-cases, update-cases}
 use Rattle.rules.proofs.Follow.{Free, Same, same-free, same-grows, follow-stays, follow-below}
 use Rattle.rules.proofs.Replies.{replyTo}
 use Rattle.rules.proofs.Invariant.{followed, Progress, underway, over, Counterpart, Core, Ahead, AllAhead}

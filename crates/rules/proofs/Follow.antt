@@ -1,17 +1,18 @@
 -- Following a request by its log: what it has done after n moves, if each block among them has its log row.
 -- A follow is a function of the log, so that it is unique; and it stays when rows are added to the log.
 -- Assumes nothing.
-use mathlib.Core.Path.{_≡_, refl, _∙_, ap}
+use mathlib.Core.Path.{_≡_, refl, sym, _∙_, ap}
 use mathlib.Core.Logic.{_⊎_, inl, inr}
 use mathlib.Core.Option.{Option, none, some}
 use Prim.Native.Nat.{ℕ, zero, suc, _≤_, _<_}
 use native.Mathlib.Omega.{arith}
 use native.Mathlib.Nat.{not-suc-le-zero}
-use Rattle.rules.proofs.Updates.{none-some, le-cases, logged-here, logged-cases}
+use Rattle.questions.specs.Basics.{update}
+use Rattle.questions.proofs.Updates.{none-some, le-cases, eqb-same, update-cases}
 use Rattle.rules.specs.Instructions.{Code}
 use Rattle.rules.specs.Blocks.{Result, yields}
 use Rattle.rules.specs.Courses.{Course, Next, goes, does, says, nextOf}
-use Rattle.rules.specs.Store.{Request, Log, sought, found, withRow}
+use Rattle.rules.specs.Store.{Request, Log, sought, found, logged, withRow}
 use Rattle.rules.specs.Logged.{Stage, at, finished, behind, byNext, onward, follow}
 
 -- ── Logs ──
@@ -39,6 +40,32 @@ same-grows log log′ id same p t r e = ap sought (same p t) ∙ e
 
 pub free-none : (log : Log) (p id t : ℕ) → Free log p id t → found log p id t ≡ none
 free-none log p id t f = ap sought f
+
+-- rows by request and step, with one more
+module _ (log : (partition id step : ℕ) → Option ℕ) (p id t v : ℕ) where
+  logged-here : logged log p id t v p id t ≡ some v
+  logged-here = rw (eqb-same p, eqb-same id, eqb-same t) refl
+
+  -- a row of the new log is the row written, or was there before
+  logged-cases : (p′ id′ t′ : ℕ) → ((p′ ≡ p) × (id′ ≡ id) × (t′ ≡ t)) ⊎ (logged log p id t v p′ id′ t′ ≡ log p′ id′ t′)
+  logged-cases p′ id′ t′ = go (update-cases log p log₁ p′) (update-cases (log p) id log₂ id′) (update-cases (log p id) t (some v) t′)
+    where
+      log₂ : ℕ → Option ℕ
+      log₂ = update (log p id) t (some v)
+
+      log₁ : ℕ → ℕ → Option ℕ
+      log₁ = update (log p) id log₂
+
+      go : ((p′ ≡ p) × (update log p log₁ p′ ≡ log₁)) ⊎ ((p′ ≡ p → ⊥) × (update log p log₁ p′ ≡ log p′)) →
+          ((id′ ≡ id) × (update (log p) id log₂ id′ ≡ log₂)) ⊎ ((id′ ≡ id → ⊥) × (update (log p) id log₂ id′ ≡ log p id′)) →
+          ((t′ ≡ t) × (update (log p id) t (some v) t′ ≡ some v)) ⊎ ((t′ ≡ t → ⊥) × (update (log p id) t (some v) t′ ≡ log p id t′)) →
+          ((p′ ≡ p) × (id′ ≡ id) × (t′ ≡ t)) ⊎ (logged log p id t v p′ id′ t′ ≡ log p′ id′ t′)
+      go (inr h) b c = inr (ap (λ f. f id′ t′) (h .1))
+      go (inl h) (inr i) c = inr (ap (λ f. f id′ t′) (h .1) ∙ ap (λ f. f t′) (i .1) ∙ ap (λ r. log r id′ t′) (sym (h .0)))
+      go (inl h) (inl i) (inr j) =
+          inr (ap (λ f. f id′ t′) (h .1) ∙ ap (λ f. f t′) (i .1) ∙ j .1 ∙ ap (λ r. log p r t′) (sym (i .0))
+          ∙ ap (λ r. log r id′ t′) (sym (h .0)))
+      go (inl h) (inl i) (inl j) = inl (h .0, i .0, j .0)
 
 -- one log row more
 module _ (log : Log) (p id t : ℕ) where

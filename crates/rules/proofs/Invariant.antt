@@ -5,14 +5,14 @@ use mathlib.Core.Option.{Option, none, some}
 use Prim.Native.Nat.{ℕ, _≤_, _<_}
 use native.Mathlib.Omega.{arith}
 use lib.ListN.{length}
-use Rattle.rules.specs.Basics.{update}
+use Rattle.questions.specs.Basics.{update}
 use Rattle.rules.specs.Instructions.{Pack}
 use Rattle.rules.specs.Blocks.{Result}
 use Rattle.rules.specs.Store.{Request, Log, Store}
 use Rattle.rules.specs.Logged.{codeOf, Stage, at, finished, follow}
 use Rattle.rules.specs.Calls.{Agent, State}
 use Rattle.rules.specs.Plain.{Reply, Run, Machine, Tally, Tallies, firstReplies}
-use Rattle.rules.proofs.Updates.{none-some, update-same, update-other, update-each}
+use Rattle.questions.proofs.Updates.{none-some, update-same, update-other, update-each}
 use Rattle.rules.proofs.Follow.{Free, Grows, follow-stays}
 use Rattle.rules.proofs.Replies.{replyTo}
 

@@ -1,9 +1,3 @@
-pub mod Tests
-pub mod Updates
-pub mod Questions
-pub mod Chains
-pub mod Each
-pub mod Keys
 pub mod Shapes
 pub mod Follow
 pub mod Replies

@@ -13,7 +13,7 @@ use Rattle.rules.specs.Courses.{Course}
 use Rattle.rules.specs.Store.{Request, Log}
 use Rattle.rules.specs.Checked.{Checked}
 use Rattle.rules.specs.Logged.{codeOf, start, Stage, at, finished, onward, follow, replyOr, replyFrom, replyLogged}
-use Rattle.rules.proofs.Updates.{none-some}
+use Rattle.questions.proofs.Updates.{none-some}
 use Rattle.rules.proofs.Follow.{Grows, follow-stays, follow-before, follow-below}
 use Rattle.rules.proofs.Positions.{follow-position}
 

@@ -7,12 +7,12 @@ use native.Mathlib.Decide.{decLt}
 use native.Mathlib.Omega.{arith}
 use lib.ListN.{length, List·getD-eq-default}
 use lib.Seq.{set-getD, getD-set-same}
-use Rattle.rules.specs.Basics.{if_then_else_, update, isSome}
+use Rattle.questions.specs.Basics.{if_then_else_, update, isSome}
 use Rattle.rules.specs.Instructions.{Code, Instruction, SET, END, GET, RETURN, Place, register, next, becomes, act, actAt}
 use Rattle.rules.specs.Instructions.{instructionAt}
 use Rattle.rules.specs.Blocks.{Table, Work, Block, yields, within, runFrom, runBlock}
 use Rattle.rules.specs.NeverWritten.{movedTo, NeverWritten, OfTheCopy}
-use Rattle.rules.proofs.Updates.{update-same}
+use Rattle.questions.proofs.Updates.{update-same}
 
 -- d becomes what it holds: no register changes
 again : (at : Place) (d : ℕ) → becomes at d (register at d) ≡ next at

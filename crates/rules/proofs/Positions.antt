@@ -17,7 +17,7 @@ use Rattle.rules.specs.Courses.{Course, going, passed, Next, goes, does,
 use Rattle.rules.specs.Store.{Request, Log}
 use Rattle.rules.specs.Logged.{start, at, byNext, follow}
 use Rattle.rules.specs.Checked.{sideBehind, sideFrom, sideAt, Lands, StandsOn, GoesTo, Checked}
-use Rattle.rules.proofs.Updates.{le-cases, false-true}
+use Rattle.questions.proofs.Updates.{le-cases, false-true}
 use Rattle.rules.proofs.Shapes.{GoesOn, Agrees, agrees}
 use Rattle.rules.proofs.Follow.{behind-at, follow-before, follow-next}
 

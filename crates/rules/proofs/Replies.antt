@@ -6,10 +6,10 @@ use mathlib.Core.List.{List, [], _∷_, _++_, List·Memᴰ, List·Memᴰ·head, 
 use mathlib.Core.Option.{Option, none, some}
 use Prim.Native.Nat.{ℕ}
 use lib.Dec.{eqb}
-use Rattle.rules.specs.Basics.{if_then_else_}
+use Rattle.questions.specs.Basics.{if_then_else_}
 use Rattle.rules.specs.Blocks.{Result}
 use Rattle.rules.specs.Plain.{Reply, answered, firstReplies}
-use Rattle.rules.proofs.Updates.{none-some, false-true, eqb-same, eqb-cases}
+use Rattle.questions.proofs.Updates.{none-some, false-true, eqb-same, eqb-cases}
 
 -- the value of the first reply to an id
 abbrev pub replyTo : (id : ℕ) → List Reply → Option Result

@@ -7,7 +7,7 @@ use mathlib.Core.Option.{Option, none, some, Option·some-injective}
 use Prim.Native.Nat.{ℕ, _<_}
 use borrow.Author.Tests.{lt-ltb, eqb-true, eqb-false}
 use lib.Dec.{eqb}
-use Rattle.rules.specs.Questions.{No, number, ask}
+use Rattle.questions.specs.Questions.{No, number, ask}
 use Rattle.rules.specs.Instructions.{Code, Pack, Place}
 use Rattle.rules.specs.Blocks.{Result}
 use Rattle.rules.specs.Courses.{Course, Next, goes, does, says, nextOf}
@@ -16,8 +16,8 @@ use Rattle.rules.specs.Calls.{Agent, State, Call, arrival, retry, turn, 
 use Rattle.rules.specs.Calls.{refusal, rule, arrive, again, throughBlock, turnOn, turnIn, unless, call, History, stateAfter}
 use Rattle.rules.specs.Plain.{machineAfter}
 use Rattle.rules.specs.RequestZero.{zeroNo, RequestZero, NoZero}
-use Rattle.rules.proofs.Updates.{none-some, false-true, update-other}
-use Rattle.rules.proofs.Questions.{ask-none}
+use Rattle.questions.proofs.Updates.{none-some, false-true, update-other}
+use Rattle.questions.proofs.Questions.{ask-none}
 use Rattle.rules.proofs.Replies.{replyTo}
 use Rattle.rules.proofs.Theorem.{invariant}
 

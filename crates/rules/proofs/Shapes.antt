@@ -6,7 +6,7 @@ use mathlib.Core.Logic.{_⊎_, inl, inr}
 use mathlib.Core.Option.{Option, none, some}
 use Prim.Native.Nat.{ℕ, suc}
 use lib.Dec.{ltb, eqb}
-use Rattle.rules.specs.Basics.{if_then_else_}
+use Rattle.questions.specs.Basics.{if_then_else_}
 use Rattle.rules.specs.Instructions.{Place, register, goto, next, Instruction, SET, COPY, ADD, SUB, JLT, JEQ, BEGIN, END, GET, PUT}
 use Rattle.rules.specs.Instructions.{HAS, RETURN, Act, moves, opens, closes, reads, puts, returns, act}
 use Rattle.rules.specs.Shapes.{outside, inside, Shape, shape}

@@ -5,7 +5,7 @@ use mathlib.Core.Option.{Option, some}
 use Prim.Native.Nat.{ℕ, suc, _≤_}
 use native.Mathlib.Omega.{arith}
 use lib.ListN.{length, getD}
-use Rattle.rules.specs.Basics.{update}
+use Rattle.questions.specs.Basics.{update}
 use Rattle.rules.specs.Instructions.{Code, Pack, act, actAt}
 use Rattle.rules.specs.Blocks.{Result, yields}
 use Rattle.rules.specs.Courses.{nextBy, nextOf}

@@ -5,8 +5,8 @@ use mathlib.Core.List.{List, [], _∷_, reverse, List·Memᴰ, List·Memᴰ·not
 use mathlib.Core.Option.{Option, none, some, Option·some-injective}
 use Prim.Native.Nat.{ℕ, suc, _<_}
 use lib.ListN.{length}
-use Rattle.rules.specs.Basics.{if_then_else_, isSome}
-use Rattle.rules.specs.Questions.{No}
+use Rattle.questions.specs.Basics.{if_then_else_, isSome}
+use Rattle.questions.specs.Questions.{No}
 use Rattle.rules.specs.Instructions.{Pack}
 use Rattle.rules.specs.Store.{Request}
 use Rattle.rules.specs.Logged.{codeOf, replyLogged}
@@ -14,13 +14,13 @@ use Rattle.rules.specs.Calls.{State, Agent, Outcome, refusal, rule, unle
 use Rattle.rules.specs.Plain.{Reply, Run, Machine, Tallies, accepted, tallied, machineAfter, talliesAfter, repliesAfter, firstReplies}
 use Rattle.rules.specs.Checked.{Checked, CheckedPack}
 use Rattle.rules.specs.Demand3.{InTime, PlainRun, Demand3, SoundAgent}
-use Rattle.rules.proofs.Updates.{none-some, false-true, update-same}
+use Rattle.questions.proofs.Updates.{none-some, false-true, update-same}
 use Rattle.rules.proofs.Replies.{replyTo}
 use Rattle.rules.proofs.Invariant.{Progress, underway, over, Live, Inv}
 use Rattle.rules.proofs.Logged.{ends-logged}
 use Rattle.rules.proofs.Stands.{turn-is, turn-counted, turns-at-most, last-replies}
 use Rattle.rules.proofs.Turn.{live-stands, tallyOf}
-use Rattle.rules.proofs.Questions.{ask-none}
+use Rattle.questions.proofs.Questions.{ask-none}
 use Rattle.rules.proofs.Calls.{call-keeps}
 use Rattle.rules.proofs.Positions.{follow-position}
 

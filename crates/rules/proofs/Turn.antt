@@ -7,17 +7,17 @@ use mathlib.Core.Option.{Option, none, some, Option·some-injective}
 use Prim.Native.Nat.{ℕ, suc, _≤_, _<_}
 use native.Mathlib.Omega.{arith}
 use lib.Dec.{eqb, ltb, lt→ltb, ltb→lt}
-use Rattle.rules.specs.Basics.{if_then_else_, update, isSome}
+use Rattle.questions.specs.Basics.{if_then_else_, update, isSome}
 use Rattle.rules.specs.Instructions.{Code, Pack, Place}
 use Rattle.rules.specs.Blocks.{Table, Result, Block, runBlock}
 use Rattle.rules.specs.Courses.{Course, Next, goes, does, says, nextOf}
-use Rattle.rules.specs.Questions.{No}
+use Rattle.questions.specs.Questions.{No}
 use Rattle.rules.specs.Store.{Log, Store, found, withRow, written}
 use Rattle.rules.specs.Logged.{codeOf, Stage, at, finished, behind}
 use Rattle.rules.specs.Calls.{Agent, State, Outcome, unless, withSlot, throughBlock, turnOn, turnIn, turn}
 use Rattle.rules.specs.Plain.{Reply, Run, Machine, Tally, Tallies, answered, firstReplies, accepted, withAnswer, ahead, moveOn}
 use Rattle.rules.specs.Plain.{move, fed, fedTurn, fedRun, tallied}
-use Rattle.rules.proofs.Updates.{none-some, false-true, le-cases, T-true, eqb-cases, update-same}
+use Rattle.questions.proofs.Updates.{none-some, false-true, le-cases, T-true, eqb-cases, update-same}
 use Rattle.rules.proofs.Follow.{Free, Same, same-here, Grows, same-grows, free-none, row-grows, row-elsewhere, row-later, row-here}
 use Rattle.rules.proofs.Follow.{follow-stays, follow-below, follow-next}
 use Rattle.rules.proofs.Replies.{replyTo, reply-more, reply-other, reply-new, answered-by, answered-first}

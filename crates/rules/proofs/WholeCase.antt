@@ -3,7 +3,7 @@ use mathlib.Core.Path.{_≡_, refl}
 use mathlib.Core.List.{List, [], _∷_}
 use mathlib.Core.Option.{Option, none, some}
 use Prim.Native.Nat.{ℕ}
-use Rattle.rules.specs.Questions.{number, ask}
+use Rattle.questions.specs.Questions.{number, ask}
 use Rattle.rules.specs.Instructions.{Pack, Code, COPY, BEGIN, GET, SUB, PUT, END, ADD, RETURN, act, actAt}
 use Rattle.rules.specs.Blocks.{Result, yields, within, runFrom, runBlock, afterBlock}
 use Rattle.rules.specs.Courses.{passed, nextBy, nextOf}

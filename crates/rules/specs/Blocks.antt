@@ -6,7 +6,7 @@ use mathlib.Core.Option.{Option, none, some}
 use mathlib.Core.Path.{_≡_}
 use Prim.Native.Nat.{ℕ, zero, suc, _+_, _-_}
 use lib.ListN.{length, set, drop}
-use Rattle.rules.specs.Basics.{if_then_else_, update, isSome}
+use Rattle.questions.specs.Basics.{if_then_else_, update, isSome}
 use Rattle.rules.specs.Instructions.{Code, Instruction, Place, next, Act, moves, opens, closes, reads, puts, returns, actAt}
 use Rattle.rules.specs.Shapes.{Side, outside, inside, shape}
 

@@ -5,8 +5,8 @@ use mathlib.Core.Option.{Option, none, some}
 use Prim.Native.Nat.{ℕ, suc, _+_}
 use lib.Dec.{eqb, ltb, leb}
 use lib.ListN.{length}
-use Rattle.rules.specs.Basics.{update, isSome}
-use Rattle.rules.specs.Questions.{No, number, ask}
+use Rattle.questions.specs.Basics.{update, isSome}
+use Rattle.questions.specs.Questions.{No, number, ask}
 use Rattle.rules.specs.Instructions.{Code, Pack, Place}
 use Rattle.rules.specs.Blocks.{Result, runBlock, rowsNeeded}
 use Rattle.rules.specs.Courses.{Course, Next, goes, does, says, nextOf}

@@ -4,7 +4,7 @@ use mathlib.Core.Option.{Option, Option·getD}
 use Prim.Native.Nat.{ℕ, suc, _+_, _-_, _%_, _^_}
 use lib.Dec.{ltb, eqb}
 use lib.ListN.{getD, set}
-use Rattle.rules.specs.Basics.{if_then_else_, isSome}
+use Rattle.questions.specs.Basics.{if_then_else_, isSome}
 
 -- An instruction with its operands: d and s are the numbers of registers, w is the operand word, a target is an index in the workflow.
 pub data Instruction : Type 0 where

@@ -1,12 +1,8 @@
-pub mod Basics
-pub mod Questions
-pub mod Verdicts
 pub mod Instructions
 pub mod Shapes
 pub mod Blocks
 pub mod Courses
 pub mod Checked
-pub mod Keys
 pub mod Store
 pub mod Logged
 pub mod Calls

@@ -5,7 +5,7 @@ use mathlib.Core.List.{[], _∷_, _++_}
 use mathlib.Core.Option.{Option, none, some}
 use Prim.Native.Nat.{ℕ, zero, suc}
 use lib.ListN.{length, getD}
-use Rattle.rules.specs.Basics.{isSome}
+use Rattle.questions.specs.Basics.{isSome}
 use Rattle.rules.specs.Instructions.{Code, Pack}
 use Rattle.rules.specs.Blocks.{Result}
 use Rattle.rules.specs.Courses.{Course, going, Next, goes, does, says, nextOf}

@@ -3,7 +3,7 @@ use mathlib.Core.Option.{none, some, Option·getD}
 use mathlib.Core.Path.{_≡_}
 use Prim.Native.Nat.{ℕ, suc, _<_}
 use lib.ListN.{length}
-use Rattle.rules.specs.Basics.{if_then_else_, isSome}
+use Rattle.questions.specs.Basics.{if_then_else_, isSome}
 use Rattle.rules.specs.Instructions.{Code, SET, END, GET, PUT, HAS, Place, register, next, becomes, act, instructionAt}
 use Rattle.rules.specs.Blocks.{Table, Work, Block, yields, within, runBlock}
 

@@ -4,7 +4,7 @@ use mathlib.Core.List.{List, [], _∷_, _++_}
 use mathlib.Core.Option.{Option, none, some}
 use Prim.Native.Nat.{ℕ, suc}
 use lib.Dec.{ltb, eqb}
-use Rattle.rules.specs.Basics.{if_then_else_, update}
+use Rattle.questions.specs.Basics.{if_then_else_, update}
 use Rattle.rules.specs.Instructions.{Code, Pack}
 use Rattle.rules.specs.Blocks.{Table, Result, runBlock}
 use Rattle.rules.specs.Courses.{Course, Next, goes, does, says, nextOf}

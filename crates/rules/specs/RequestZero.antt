@@ -6,8 +6,8 @@ use mathlib.Core.Logic.{_⊎_}
 use mathlib.Core.Option.{Option, none, some}
 use Prim.Native.Nat.{ℕ, _<_}
 use lib.Dec.{ltb}
-use Rattle.rules.specs.Basics.{isSome}
-use Rattle.rules.specs.Questions.{No, number, ask}
+use Rattle.questions.specs.Basics.{isSome}
+use Rattle.questions.specs.Questions.{No, number, ask}
 use Rattle.rules.specs.Instructions.{Pack}
 use Rattle.rules.specs.Store.{Request, found}
 use Rattle.rules.specs.Calls.{State, Call, arrival, retry, stopped, refusal, call, History, stateAfter}

@@ -4,7 +4,7 @@ use mathlib.Core.List.{List, [], _∷_}
 use mathlib.Core.Option.{Option, none, some}
 use Prim.Native.Nat.{ℕ, _+_}
 use lib.Dec.{eqb}
-use Rattle.rules.specs.Basics.{update}
+use Rattle.questions.specs.Basics.{update}
 use Rattle.rules.specs.Blocks.{Table, Result, yields, Block, rowsNeeded}
 
 -- what the book has of a request: the workflow number and the arguments

@@ -6,8 +6,8 @@ use mathlib.Core.Path.{_≡_, refl, ap}
 use Prim.Native.Nat.{ℕ, _≤_, _<_}
 use borrow.Author.Tests.{lt-ltb, le-ltb, eq-eqb, ne-eqb}
 use lib.ListN.{length}
-use Rattle.rules.specs.Questions.{number, ask}
-use Rattle.rules.specs.Questions as Questions
+use Rattle.questions.specs.Questions.{number, ask}
+use Rattle.questions.specs.Questions as Questions
 use Rattle.rules.specs.Instructions.{Pack}
 use Rattle.rules.specs.Store.{Request}
 use Rattle.rules.specs.Calls.{Agent, State, gives, done, withSlot, start, again, refusal, rule, arrival, retry, turn, crash, canTurn}

@@ -8,10 +8,10 @@ use native.Mathlib.Decide.{ℕ-discrete}
 use native.Mathlib.Omega.{arith}
 use lib.ListN.{length, set, length-set}
 use lib.Seq.{ext-getD, getD-set-same, getD-set-other}
-use Rattle.rules.specs.Questions.{number}
+use Rattle.questions.specs.Questions.{number}
 use Rattle.rules.specs.Calls.{canTurn, turnIn}
 use Rattle.rules.specs.Calls as Calls
-use Rattle.rules.proofs.Each.{each-at}
+use Rattle.questions.proofs.Each.{each-at}
 use Rattle.pack.specs.Meaning.{packOf}
 use Rattle.store.specs.Rows.{storeOf}
 use Rattle.agents.specs.declared.Agent.{Agent}

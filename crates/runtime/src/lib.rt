@@ -12,7 +12,7 @@ ghost use Rattle.store.specs.Ordered.{InOrder};
 use agents::Agent;
 use agents::Answer;
 use agents::Outcome;
-use rules::Verdict;
+use questions::Verdict;
 use store::rows::Got;
 
 // Crash empties a slot.

@@ -10,13 +10,13 @@ use native.Mathlib.Omega.{arith}
 use borrow.Author.Tests.{eq-eqb}
 use lib.Dec.{leb}
 use lib.ListN.{length, take, replicate}
-use Rattle.rules.specs.Questions.{No, ask}
-use Rattle.rules.specs.Verdicts.{verdictOf}
+use Rattle.questions.specs.Questions.{No, ask}
+use Rattle.questions.specs.Verdicts.{verdictOf}
 use Rattle.rules.specs.Calls.{Call}
-use Rattle.rules.specs.declared.Verdict.{Verdict}
-use Rattle.rules.specs.declared.Verdict.the-variants.{Accepted, Refused}
-use Rattle.rules.proofs.Questions.{ask-none, orElse-none}
-use Rattle.rules.proofs.Tests.{and-right}
+use Rattle.questions.specs.declared.Verdict.{Verdict}
+use Rattle.questions.specs.declared.Verdict.the-variants.{Accepted, Refused}
+use Rattle.questions.proofs.Questions.{ask-none, orElse-none}
+use Rattle.questions.proofs.Tests.{and-right}
 use Rattle.store.specs.Layout.{partsOf, capOf, sizeOf}
 use Rattle.store.specs.Questions.{numbersRight, question9, createRefusal}
 use Rattle.store.specs.Created.{Created}

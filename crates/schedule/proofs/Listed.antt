@@ -9,7 +9,7 @@ use borrow.Author.Tests.{ltb-true, ne-eqb}
 use lib.ListN.{getD}
 use Rattle.words.specs.Words.{le}
 use Rattle.rules.specs.Calls.{Call, arrival, retry, turn, crash, restart}
-use Rattle.rules.proofs.Each.{each-at}
+use Rattle.questions.proofs.Each.{each-at}
 use Rattle.agents.specs.declared.Agent.{Agent}
 use Rattle.agents.specs.declared.Answer.{Answer}
 use Rattle.meaning.specs.Carried.{Carried}

@@ -2,7 +2,7 @@
 use mathlib.Core.List.{List, [], _∷_}
 use Prim.Native.Nat.{ℕ, zero, suc}
 use lib.Dec.{eqb}
-use Rattle.rules.specs.Basics.{if_then_else_}
+use Rattle.questions.specs.Basics.{if_then_else_}
 use Rattle.rules.specs.Calls.{Call, arrival, retry, turn, crash, restart}
 use Rattle.schedule_check.specs.Layout.{idOf, workflowOf, argumentsOf, kindAt, slotAt, indexAt}
 

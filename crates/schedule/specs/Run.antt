@@ -4,7 +4,7 @@ use mathlib.Core.Option.{none, some}
 use mathlib.Core.Path.{_≡_}
 use Prim.Native.Nat.{ℕ}
 use lib.ListN.{length}
-use Rattle.rules.specs.Questions.{No}
+use Rattle.questions.specs.Questions.{No}
 use Rattle.rules.specs.Calls.{Call}
 use Rattle.store.specs.Layout.{partsOf, capOf}
 use Rattle.agents.specs.declared.Agent.{Agent}

@@ -1,6 +1,6 @@
 // The run of a schedule, printed into a buffer that the caller lends, on a store in another.
 use crate::calls::call_event;
-use rules::Verdict;
+use questions::Verdict;
 use schedule_check::check_schedule;
 ghost use mathlib.Core.List.{[]};
 ghost use mathlib.Core.Path.{_≡_};

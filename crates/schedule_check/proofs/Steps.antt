@@ -8,11 +8,11 @@ use native.Mathlib.Omega.{arith}
 use borrow.Author.Tests.{leb-true, eqb-true, le-leb, not-true, not-false}
 use lib.Dec.{leb, eqb}
 use lib.ListN.{length, getD}
-use Rattle.rules.specs.Questions.{No, no, number, ask, orElse}
-use Rattle.rules.specs.Verdicts.{verdictOf}
-use Rattle.rules.specs.declared.Verdict.{Verdict}
-use Rattle.rules.specs.declared.Verdict.the-variants.{Accepted, Refused}
-use Rattle.rules.proofs.Tests.{and-left, and-right}
+use Rattle.questions.specs.Questions.{No, no, number, ask, orElse}
+use Rattle.questions.specs.Verdicts.{verdictOf}
+use Rattle.questions.specs.declared.Verdict.{Verdict}
+use Rattle.questions.specs.declared.Verdict.the-variants.{Accepted, Refused}
+use Rattle.questions.proofs.Tests.{and-left, and-right}
 use Rattle.store.specs.Layout.{partsOf, capOf}
 use Rattle.store.specs.Questions.{numbersRight, question9}
 use Rattle.schedule_check.specs.Layout.{requestCount, eventCount, lengthFor}

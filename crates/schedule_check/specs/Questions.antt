@@ -6,8 +6,8 @@ use mathlib.Core.Path.{_≡_}
 use Prim.Native.Nat.{ℕ, _≤_}
 use lib.Dec.{ltb, leb, eqb}
 use lib.ListN.{length}
-use Rattle.rules.specs.Basics.{if_then_else_, each}
-use Rattle.rules.specs.Questions.{No, number, ask, orElse}
+use Rattle.questions.specs.Basics.{if_then_else_, each}
+use Rattle.questions.specs.Questions.{No, number, ask, orElse}
 use Rattle.pack.specs.Refusal.{packRefusal}
 use Rattle.store.specs.Layout.{partsOf, capOf}
 use Rattle.store.specs.Questions.{numbersRight, question9}

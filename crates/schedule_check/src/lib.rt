@@ -1,7 +1,7 @@
 // Questions 22, 23 and 9, put to any bytes, behind those of the pack.
-use rules::Verdict;
+use questions::Verdict;
 ghost use mathlib.Core.Path.{_≡_};
-ghost use Rattle.rules.specs.Verdicts.{verdictOf};
+ghost use Rattle.questions.specs.Verdicts.{verdictOf};
 ghost use Rattle.schedule_check.specs.Questions.{eventRight, Laid, question22, question23, bytesRefusal, scheduleRefusal};
 
 // Is an event's kind at most 4, and its index right for it? There are `g` requests.
@@ -62,15 +62,15 @@ fn check_bytes(s: &[u8]) -> Verdict
     ensures { λ r. ⌜ r ≡ verdictOf (bytesRefusal (now (s .entry))) ⌝ }
 {
     if !length_right(s) {
-        return rules::refused(22, 0, 0);
+        return questions::refused(22, 0, 0);
     }
     if !events_right(s) {
-        return rules::refused(23, 0, 0);
+        return questions::refused(23, 0, 0);
     }
     if !store::head::numbers_right(store::head::partition_count(s), store::head::capacity(s)) {
-        return rules::refused(9, 0, 0);
+        return questions::refused(9, 0, 0);
     }
-    rules::accepted()
+    questions::accepted()
 }
 
 // 1 to 8 to the pack, then 22, 23 and 9: the first no.
@@ -84,6 +84,6 @@ pub fn check_schedule(pack: &[u8], schedule: &[u8]) -> Verdict
             question,
             workflow,
             instruction,
-        } => rules::refused(question, workflow, instruction),
+        } => questions::refused(question, workflow, instruction),
     }
 }

@@ -13,7 +13,7 @@ use borrow.Author.Tests.{lt-ltb}
 use lib.Dec.{ltb, eqb}
 use lib.ListN.{length}
 use lib.Seq.{ext-getD}
-use Rattle.rules.specs.Basics.{if_then_else_}
+use Rattle.questions.specs.Basics.{if_then_else_}
 use Rattle.words.specs.Words.{le, put, fields}
 use Rattle.agents.specs.declared.Agent.{Agent}
 use Rattle.agents.specs.Slots.{agentAt}

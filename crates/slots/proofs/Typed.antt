@@ -12,7 +12,7 @@ use denote.Array.{Array, each}
 use denote.Struct.Field.{u32-field}
 use denote.Struct.Laws as LL
 use lib.ListN.{length, getD}
-use Rattle.rules.specs.Basics.{if_then_else_}
+use Rattle.questions.specs.Basics.{if_then_else_}
 use Rattle.agents.specs.declared.Agent.{Agent}
 use Rattle.agents.specs.Slots.{agentAt}
 use Rattle.agents.proofs.Typed.{eight-records, eight-registers}

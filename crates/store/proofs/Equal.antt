@@ -13,7 +13,7 @@ use lib.ListN.{length, getD}
 use lib.Seq.{ext-getD}
 use Rattle.words.specs.Words.{le, fields}
 use Rattle.words.proofs.Laws.{le-bytes, fields-bytes, length-fields, getD-fields}
-use Rattle.rules.proofs.Tests.{and-right}
+use Rattle.questions.proofs.Tests.{and-right}
 use Rattle.store.specs.Layout.{AllBytes, partsOf, capOf, keysFrom, valuesFrom, sizeOf, usedAt, keyAt, valueAt, usedOf}
 use Rattle.store.specs.Rows.{Row, Store, keysIn, lookup, rowsOf, storeOf}
 use Rattle.store.specs.Questions.{ahead, rising}

@@ -8,8 +8,8 @@ use borrow.Author.Tests.{eq-eqb, ne-eqb, eqb-true, eqb-false, lt-ltb, le-ltb, lt
 use lib.Dec.{eqb, ltb}
 use lib.ListN.{drop}
 use Rattle.words.specs.Words.{le, fields}
-use Rattle.rules.specs.Basics.{if_then_else_}
-use Rattle.rules.proofs.Tests.{and-left, and-right}
+use Rattle.questions.specs.Basics.{if_then_else_}
+use Rattle.questions.proofs.Tests.{and-left, and-right}
 use Rattle.store.specs.Rows.{Row, keysIn, indexOf, rankOf, firstHas}
 use Rattle.store.specs.Questions.{member, ahead, rising}
 use Rattle.store.specs.Answers.{smaller, foundIn, upTo, Searched, endedAt, rowsFound}

@@ -12,8 +12,8 @@ use borrow.Author.Tests.{eq-eqb, ne-eqb, eqb-true, eqb-false, lt-ltb, le-ltb, lt
 use lib.Dec.{eqb, ltb}
 use lib.ListN.{length, getD, set, drop}
 use Rattle.words.specs.Words.{le, fields}
-use Rattle.rules.specs.Basics.{if_then_else_}
-use Rattle.rules.proofs.Tests.{and-left, and-right, and-both}
+use Rattle.questions.specs.Basics.{if_then_else_}
+use Rattle.questions.proofs.Tests.{and-left, and-right, and-both}
 use Rattle.store.specs.Questions.{keysApart, ahead, rising, keysOk}
 use Rattle.store.specs.Rows.{Row, keysIn, pairs, lookup, placeOf, indexOf, rankOf, rankIn, setValue, insertAt, putRow, newRows, Store, alter}
 

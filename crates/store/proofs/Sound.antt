@@ -12,13 +12,13 @@ use borrow.Author.Tests.{leb-true, eqb-true, eqb-false, le-leb, lt-leb, lt-ltb, 
 use lib.Dec.{eqb, leb, ltb}
 use lib.ListN.{length, getD}
 use Rattle.words.specs.Words.{le}
-use Rattle.rules.specs.Basics.{eachFrom}
-use Rattle.rules.specs.Keys.{logKey, bookKey}
-use Rattle.rules.specs.Questions.{number}
-use Rattle.rules.proofs.Each.{each-at, each-all}
-use Rattle.rules.proofs.Keys.{log-is, log-no-data, book-is}
-use Rattle.rules.proofs.Tests.{yes-no, and-left, and-right, and-both}
-use Rattle.rules.proofs.Questions.{ask-none, ask-yes}
+use Rattle.questions.specs.Basics.{eachFrom}
+use Rattle.keys.specs.Keys.{logKey, bookKey}
+use Rattle.questions.specs.Questions.{number}
+use Rattle.questions.proofs.Each.{each-at, each-all}
+use Rattle.keys.proofs.Keys.{log-is, log-no-data, book-is}
+use Rattle.questions.proofs.Tests.{yes-no, and-left, and-right, and-both}
+use Rattle.questions.proofs.Questions.{ask-none, ask-yes}
 use Rattle.store.specs.Layout.{partsOf, capOf, sizeOf, keyAt, valueAt, usedOf}
 use Rattle.store.specs.Rows.{Row, Store, pairs, keysIn, lookup, rowsOf, storeOf, putRow, putAll, newRows, countNew, alter}
 use Rattle.store.specs.Questions.{numbersRight, question9, question10, isForm, member, unlike, keysApart, ahead, rising, keysOk, blankRow, partOkBy, partOk, question11, allIn, five, bookOk, question12, storeRefusal, createRefusal}

@@ -3,9 +3,9 @@ use mathlib.Core.List.{List, _∷_}
 use mathlib.Core.Path.{_≡_}
 use Prim.Native.Nat.{ℕ, _+_, _*_, _/_, _%_}
 use lib.ListN.{length, replicate}
-use Rattle.rules.specs.Verdicts.{verdictOf}
-use Rattle.rules.specs.declared.Verdict.{Verdict}
-use Rattle.rules.specs.declared.Verdict.the-variants.{Accepted}
+use Rattle.questions.specs.Verdicts.{verdictOf}
+use Rattle.questions.specs.declared.Verdict.{Verdict}
+use Rattle.questions.specs.declared.Verdict.the-variants.{Accepted}
 use Rattle.store.specs.Rows.{storeOf, emptyStore}
 use Rattle.store.specs.Questions.{createRefusal}
 use Rattle.store.specs.Sound.{Sound}

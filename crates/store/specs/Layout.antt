@@ -5,7 +5,7 @@ use Prim.Native.Nat.{ℕ, _+_, _*_, _<_}
 use lib.Dec.{leb}
 use lib.ListN.{getD}
 use Rattle.words.specs.Words.{le}
-use Rattle.rules.specs.Basics.{if_then_else_}
+use Rattle.questions.specs.Basics.{if_then_else_}
 
 -- each is a byte, as in every lent buffer
 abbrev pub AllBytes : List ℕ → Type 0

@@ -6,9 +6,9 @@ use Prim.Native.Nat.{ℕ, _+_, _-_, _/_}
 use lib.Dec.{eqb, leb, ltb}
 use lib.ListN.{length}
 use Rattle.words.specs.Words.{le}
-use Rattle.rules.specs.Basics.{if_then_else_, eachFrom, each}
-use Rattle.rules.specs.Questions.{No, number, ask}
-use Rattle.rules.specs.Keys.{bookKey, isDataKey, isLogKey, isBookKey}
+use Rattle.questions.specs.Basics.{if_then_else_, eachFrom, each}
+use Rattle.questions.specs.Questions.{No, number, ask}
+use Rattle.keys.specs.Keys.{bookKey, isDataKey, isLogKey, isBookKey}
 use Rattle.store.specs.Layout.{partsOf, capOf, sizeOf, keyAt, valueAt, usedOf}
 use Rattle.store.specs.Rows.{keysIn, rowsOf}
 

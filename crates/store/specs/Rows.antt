@@ -5,7 +5,7 @@ use mathlib.Core.Option.{Option, none, some}
 use Prim.Native.Nat.{ℕ, zero, suc, _+_}
 use lib.Dec.{eqb, ltb}
 use Rattle.words.specs.Words.{fields}
-use Rattle.rules.specs.Basics.{if_then_else_}
+use Rattle.questions.specs.Basics.{if_then_else_}
 use Rattle.store.specs.Layout.{partsOf, capOf, keyAt, valueAt, usedOf}
 
 -- a key and its value

@@ -4,12 +4,12 @@ use mathlib.Core.List.{List}
 use mathlib.Core.Option.{Option, none, some}
 use mathlib.Core.Path.{_≡_, refl, _∙_}
 use Prim.Native.Nat.{ℕ}
-use Rattle.rules.specs.Questions.{No, number, ask, orElse}
-use Rattle.rules.specs.Verdicts.{verdictOf}
-use Rattle.rules.specs.declared.Verdict.{Verdict}
-use Rattle.rules.specs.declared.Verdict.the-variants.{Accepted, Refused}
-use Rattle.rules.proofs.Chains.{accepted, or-yes, refused-first}
-use Rattle.rules.proofs.Questions.{ask-none, ask-yes, ask-no}
+use Rattle.questions.specs.Questions.{No, number, ask, orElse}
+use Rattle.questions.specs.Verdicts.{verdictOf}
+use Rattle.questions.specs.declared.Verdict.{Verdict}
+use Rattle.questions.specs.declared.Verdict.the-variants.{Accepted, Refused}
+use Rattle.questions.proofs.Chains.{accepted, or-yes, refused-first}
+use Rattle.questions.proofs.Questions.{ask-none, ask-yes, ask-no}
 use Rattle.store.specs.Questions.{question9, question10, question12}
 use Rattle.store.specs.Sound.{Shape}
 use Rattle.store.proofs.Sound.{shape-ok, shape-passes}

@@ -11,10 +11,10 @@ use lib.Dec.{eqb, ltb}
 use lib.ListN.{length, getD}
 use Rattle.words.specs.Words.{le, fields}
 use Rattle.words.proofs.Laws.{length-fields}
-use Rattle.rules.specs.Basics.{each}
-use Rattle.rules.specs.Keys.{bookKey}
-use Rattle.rules.proofs.Keys.{book-bounds}
-use Rattle.rules.proofs.Tests.{no-yes, and-left, and-right}
+use Rattle.questions.specs.Basics.{each}
+use Rattle.keys.specs.Keys.{bookKey}
+use Rattle.keys.proofs.Keys.{book-bounds}
+use Rattle.questions.proofs.Tests.{no-yes, and-left, and-right}
 use Rattle.store.specs.Questions.{isForm, member, ahead, rising, keysOk, allIn, five, bookOk}
 use Rattle.store.proofs.Sound.{keys-rise, apart-forms, keys-apart, keys-rising, all-at, in-all, book-five, five-all}
 use Rattle.store_check.proofs.Steps.{member-behind, member-in}

@@ -11,7 +11,7 @@ use lib.Dec.{eqb}
 use lib.ListN.{length, getD, set}
 use lib.Seq.{getD-set-same, getD-set-other}
 use Rattle.words.specs.Words.{le, fields}
-use Rattle.rules.proofs.Tests.{and-left, and-right, and-both, and-false}
+use Rattle.questions.proofs.Tests.{and-left, and-right, and-both, and-false}
 use Rattle.store.specs.Questions.{isForm, member, keysApart, allIn}
 use Rattle.store.proofs.Sound.{in-all}
 use Rattle.store_check.proofs.Steps.{keys-step, all-step}

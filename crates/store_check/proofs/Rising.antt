@@ -8,9 +8,9 @@ use native.Mathlib.Omega.{arith}
 use borrow.Author.Tests.{le-leb, lt-leb}
 use lib.Dec.{leb, leb·zero}
 use Rattle.words.specs.Words.{le, fields}
-use Rattle.rules.specs.Keys.{isDataKey}
-use Rattle.rules.proofs.Keys.{data-bounds, log-bounds, book-bounds}
-use Rattle.rules.proofs.Tests.{and-false}
+use Rattle.keys.specs.Keys.{isDataKey}
+use Rattle.keys.proofs.Keys.{data-bounds, log-bounds, book-bounds}
+use Rattle.questions.proofs.Tests.{and-false}
 use Rattle.store.specs.Questions.{isForm, member, keysApart, ahead, rising, keysOk}
 use Rattle.store.proofs.Sound.{rises-unlike}
 

@@ -9,9 +9,9 @@ use lib.Dec.{eqb, leb, ltb, leb·suc-suc}
 use lib.ListN.{length, getD}
 use Rattle.words.specs.Words.{le, fields}
 use Rattle.words.proofs.Laws.{length-fields, getD-fields}
-use Rattle.rules.specs.Basics.{if_then_else_, eachFrom}
-use Rattle.rules.proofs.Each.{each-at}
-use Rattle.rules.proofs.Tests.{and-left, and-false}
+use Rattle.questions.specs.Basics.{if_then_else_, eachFrom}
+use Rattle.questions.proofs.Each.{each-at}
+use Rattle.questions.proofs.Tests.{and-left, and-false}
 use Rattle.store.specs.Layout.{partsOf, capOf, keyAt, valueAt, usedOf}
 use Rattle.store.specs.Rows.{indexOf, keysIn, rowsOf}
 use Rattle.store.specs.Questions.{isForm, member, keysApart, keysOk, blankRow, partOkBy, question11InAnyOrder, allIn, bookOk, question12}

@@ -2,7 +2,7 @@
 use crate::check_shape;
 use crate::filled;
 use crate::form;
-use rules::Verdict;
+use questions::Verdict;
 use store::head::key_place;
 use store::head::partition_count;
 use store::head::used_count;
@@ -12,7 +12,7 @@ ghost use Prim.Native.Nat.{_+_, _-_, _*_, _%_, _^_, _≤_, _<_};
 ghost use lib.Dec.{eqb};
 ghost use lib.ListN.{length, getD};
 ghost use Rattle.words.specs.Words.{fields};
-ghost use Rattle.rules.specs.Verdicts.{verdictOf};
+ghost use Rattle.questions.specs.Verdicts.{verdictOf};
 ghost use Rattle.store.specs.Layout.{partsOf};
 ghost use Rattle.store.specs.Rows.{indexOf};
 ghost use Rattle.store.specs.Questions.{member, keysApart, partOkBy, allIn, five, bookOk, question11InAnyOrder, question12, orderRefusal};
@@ -185,10 +185,10 @@ pub fn check_in_any_order(s: &[u8]) -> Verdict
     match v {
         Verdict::Accepted => {
             if !check_partitions(s) {
-                return rules::refused(11, 0, 0);
+                return questions::refused(11, 0, 0);
             }
             if !check_book(s) {
-                return rules::refused(12, 0, 0);
+                return questions::refused(12, 0, 0);
             }
             v
         }

@@ -1,7 +1,7 @@
 // Questions 9 to 12, put to any bytes. The rows of a partition stand by rising key.
 pub mod any_order;
 
-use rules::Verdict;
+use questions::Verdict;
 use store::head::capacity;
 use store::head::key_place;
 use store::head::numbers_right;
@@ -16,9 +16,9 @@ ghost use Prim.Native.Nat.{_+_, _-_, _*_, _≤_};
 ghost use lib.Dec.{leb};
 ghost use lib.ListN.{length};
 ghost use Rattle.words.specs.Words.{fields};
-ghost use Rattle.rules.specs.Basics.{eachFrom};
-ghost use Rattle.rules.specs.Questions.{number, ask};
-ghost use Rattle.rules.specs.Verdicts.{verdictOf};
+ghost use Rattle.questions.specs.Basics.{eachFrom};
+ghost use Rattle.questions.specs.Questions.{number, ask};
+ghost use Rattle.questions.specs.Verdicts.{verdictOf};
 ghost use Rattle.store.specs.Layout.{partsOf, capOf, usedOf};
 ghost use Rattle.store.specs.Questions.{isForm, keysOk, blankRow, partOk, bookOk};
 ghost use Rattle.store.specs.Questions.{question9, question10, question11, question12, storeRefusal};
@@ -29,17 +29,17 @@ fn check_shape(s: &[u8]) -> Verdict
     ensures { λ r. ⌜ r ≡ verdictOf (ask (number 9) (question9 (now (s .entry))) (ask (number 10) (question10 (now (s .entry))) none)) ⌝ }
 {
     if s.len() < 3 {
-        return rules::refused(9, 0, 0);
+        return questions::refused(9, 0, 0);
     }
     let parts = partition_count(s);
     let cap = capacity(s);
     if !numbers_right(parts, cap) {
-        return rules::refused(9, 0, 0);
+        return questions::refused(9, 0, 0);
     }
     if s.len() != store_size(parts, cap) {
-        return rules::refused(10, 0, 0);
+        return questions::refused(10, 0, 0);
     }
-    rules::accepted()
+    questions::accepted()
 }
 
 // Is `key` of a form of the book, or of another partition?
@@ -184,10 +184,10 @@ pub fn check_store(s: &[u8]) -> Verdict
     match v {
         Verdict::Accepted => {
             if !check_partitions(s) {
-                return rules::refused(11, 0, 0);
+                return questions::refused(11, 0, 0);
             }
             if !check_book(s) {
-                return rules::refused(12, 0, 0);
+                return questions::refused(12, 0, 0);
             }
             v
         }

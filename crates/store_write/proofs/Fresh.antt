@@ -17,11 +17,11 @@ use Rattle.store.specs.Rows.{pairs, keysIn, rowsOf, storeOf, emptyStore}
 use Rattle.store.specs.Questions.{numbersRight, keysApart, rising, keysOk, allIn, bookOk, question12, storeRefusal, createRefusal}
 use Rattle.store.specs.Sound.{KeysGood, Sound}
 use Rattle.store.specs.Created.{freshBytes, Created}
-use Rattle.rules.specs.Questions.{No, number}
-use Rattle.rules.specs.Verdicts.{verdictOf}
-use Rattle.rules.specs.declared.Verdict.{Verdict}
-use Rattle.rules.specs.declared.Verdict.the-variants.{Accepted}
-use Rattle.rules.proofs.Questions.{ask-yes, ask-no}
+use Rattle.questions.specs.Questions.{No, number}
+use Rattle.questions.specs.Verdicts.{verdictOf}
+use Rattle.questions.specs.declared.Verdict.{Verdict}
+use Rattle.questions.specs.declared.Verdict.the-variants.{Accepted}
+use Rattle.questions.proofs.Questions.{ask-yes, ask-no}
 use Rattle.store.proofs.Bytes.{used-here, used-past}
 use Rattle.store.proofs.Sound.{numbers-mean, store-passes}
 

@@ -1,6 +1,6 @@
 // A fresh store.
 use crate::bytes::clear;
-use rules::Verdict;
+use questions::Verdict;
 use store::head::numbers_right;
 use store::head::store_size;
 ghost use Rattle.store.specs.Created.{Created};
@@ -10,13 +10,13 @@ pub fn create(s: &mut [u8], parts: usize, cap: usize) -> Verdict
     ensures { λ r. ⌜ Created (now (s .entry)) (now (s .exit)) parts cap r ⌝ }
 {
     if !numbers_right(parts, cap) {
-        return rules::refused(9, 0, 0);
+        return questions::refused(9, 0, 0);
     }
     if s.len() != store_size(parts, cap) {
-        return rules::refused(10, 0, 0);
+        return questions::refused(10, 0, 0);
     }
     clear(s);
     s[0] = parts as u8;
     words::write16(s, 1, cap as u16);
-    rules::accepted()
+    questions::accepted()
 }

@@ -6,8 +6,8 @@ use mathlib.Core.Path.{_≡_, refl, sym, _∙_, ap, subst}
 use Prim.Native.Nat.{ℕ, suc, _^_, _≤_, _<_}
 use native.Mathlib.Omega.{arith}
 use lib.ListN.{length, getD, drop, length-drop}
-use Rattle.rules.specs.Basics.{if_then_else_}
-use Rattle.rules.specs.Keys.{bookKey}
+use Rattle.questions.specs.Basics.{if_then_else_}
+use Rattle.keys.specs.Keys.{bookKey}
 use Rattle.rules.specs.Instructions.{Code, Place}
 use Rattle.rules.specs.Shapes.{outside}
 use Rattle.rules.specs.Blocks.{yields, isEnd, throughEnd}
@@ -18,7 +18,7 @@ use Rattle.rules.specs.Courses as Courses
 use Rattle.rules.specs.Store.{Request}
 use Rattle.rules.specs.Calls.{codeBy, canTurn, canDo, turnIn, turnOn}
 use Rattle.rules.specs.Calls as Calls
-use Rattle.rules.proofs.Updates.{false-true}
+use Rattle.questions.proofs.Updates.{false-true}
 use Rattle.rules.proofs.Positions.{goes-forward}
 use Rattle.code.specs.Meaning.{codeOf}
 use Rattle.code.specs.Right.{Right}

@@ -15,7 +15,7 @@ use Rattle.rules.specs.Courses as Courses
 use Rattle.rules.specs.Store.{Request, Store, sought}
 use Rattle.rules.specs.Calls.{gives, withSlot, canWrite, throughBlock}
 use Rattle.rules.specs.Calls as Calls
-use Rattle.rules.proofs.Updates.{false-true}
+use Rattle.questions.proofs.Updates.{false-true}
 use Rattle.rules.proofs.Positions.{does-begins}
 use Rattle.code.specs.Meaning.{codeOf}
 use Rattle.code.proofs.Decoded.{decoded-begin, instruction-at}

@@ -4,7 +4,7 @@ use mathlib.Core.List.{List}
 use mathlib.Core.Option.{Option, none, some, Option·getD}
 use mathlib.Core.Path.{_≡_}
 use Prim.Native.Nat.{ℕ, suc}
-use Rattle.rules.specs.Keys.{bookKey}
+use Rattle.keys.specs.Keys.{bookKey}
 use Rattle.rules.specs.Instructions.{Code, Place}
 use Rattle.rules.specs.Blocks.{yields}
 use Rattle.rules.specs.Courses.{passed}

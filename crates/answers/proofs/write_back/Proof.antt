@@ -1,7 +1,7 @@
 -- `answers::write_back` meets its contract. Assumes nothing.
 use borrow.Author.Needs.{needs}
 use mathlib.Core.Path.{refl, sym}
-use Rattle.rules.proofs.Tests.{yes-no}
+use Rattle.questions.proofs.Tests.{yes-no}
 use Rattle.agents.specs.Answers as Answers
 use Rattle.answers.specs.Answers.{slotsAfter}
 use Rattle.answers.proofs.write_back.Statement.{statement}

@@ -4,7 +4,7 @@ use mathlib.Core.Path.{_≡_, _∙_, ap}
 use Prim.Native.Nat.{ℕ}
 use Rattle.store.specs.Rows.{lookup, rowsOf}
 use Rattle.store.specs.Answers.{gotOf}
-use Rattle.rules.specs.Keys.{bookKey}
+use Rattle.keys.specs.Keys.{bookKey}
 use Rattle.meaning.specs.Questions.{bookRows}
 use Rattle.meaning.proofs.Book.{got-value, got-zero}
 use Rattle.booking.proofs.argument.Statement.{statement}

@@ -5,7 +5,7 @@ use mathlib.Core.Path.{_≡_, sym, _∙_, ap}
 use Prim.Native.Nat.{ℕ, _+_}
 use native.Mathlib.Omega.{arith}
 use lib.ListN.{length, getD}
-use Rattle.rules.specs.Keys.{bookKey}
+use Rattle.keys.specs.Keys.{bookKey}
 use Rattle.rules.specs.Store.{Request}
 use Rattle.store.specs.Rows.{rowsOf}
 use Rattle.store.specs.Sound.{Sound}

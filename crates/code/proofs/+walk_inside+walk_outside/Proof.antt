@@ -8,9 +8,9 @@ use native.Mathlib.Omega.{arith}
 use lib.ListN.{length}
 use borrow.Fn.Kinds.{In}
 use borrow.Fn.PlainCycle.{Measures, is, falls, and}
-use Rattle.rules.specs.Questions.{firstNo}
-use Rattle.rules.specs.Verdicts.{verdictOf}
-use Rattle.rules.proofs.Chains.{first-done, first-yes, first-stop}
+use Rattle.questions.specs.Questions.{firstNo}
+use Rattle.questions.specs.Verdicts.{verdictOf}
+use Rattle.questions.proofs.Chains.{first-done, first-yes, first-stop}
 use Rattle.code.specs.Questions.{insideAt, putsBefore}
 use Rattle.code.specs.Refusal.{instructionNo}
 use Rattle.code.proofs.Steps.{stays-outside, stays-inside, puts-next, puts-few, begins, no-puts, ends}

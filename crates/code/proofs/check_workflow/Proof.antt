@@ -3,8 +3,8 @@ use borrow.Author.Needs.{needs}
 use borrow.Author.Tests.{eq-eqb, ne-eqb}
 use mathlib.Core.Path.{refl, sym, _∙_, ap}
 use mathlib.Core.Bool.{true, false}
-use Rattle.rules.specs.Questions.{ask}
-use Rattle.rules.specs.Verdicts.{verdictOf}
+use Rattle.questions.specs.Questions.{ask}
+use Rattle.questions.specs.Verdicts.{verdictOf}
 use Rattle.code.specs.Questions.{insideAt, question8}
 use Rattle.code.proofs.Walked.{code-refused, code-walked}
 use Rattle.code.proofs.check_workflow.Statement.{statement}

@@ -2,8 +2,8 @@
 use borrow.Author.Needs.{needs}
 use mathlib.Core.Path.{_≡_, refl, sym, _∙_}
 use Prim.Native.Nat.{_-_}
-use Rattle.rules.specs.Basics.{eachFrom}
-use Rattle.rules.proofs.Each.{each-none, each-more, each-fails}
+use Rattle.questions.specs.Basics.{eachFrom}
+use Rattle.questions.proofs.Each.{each-none, each-more, each-fails}
 use Rattle.code.specs.Questions.{isNoEnd}
 use Rattle.code.proofs.Judged.{end-here, no-end-here}
 use Rattle.code.proofs.has_no_end.Statement.{statement}

@@ -3,8 +3,8 @@ use borrow.Author.Needs.{needs}
 use borrow.Author.Tests.{not-true, not-false}
 use mathlib.Core.Path.{_≡_, refl, sym, _∙_, ap}
 use mathlib.Core.Bool.{true, false}
-use Rattle.rules.specs.Questions.{ask}
-use Rattle.rules.specs.Verdicts.{verdictOf}
+use Rattle.questions.specs.Questions.{ask}
+use Rattle.questions.specs.Verdicts.{verdictOf}
 use Rattle.operation.specs.Operations.{rowOf}
 use Rattle.code.specs.Layout.{operationAt, wordAt}
 use Rattle.code.specs.Questions.{question4, question5, question6, question7}

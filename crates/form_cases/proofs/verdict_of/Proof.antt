@@ -40,13 +40,13 @@ use denote.Triple.Table.{entered, cited}
 use denote.Triple.Walked.{says, Stays, stay-none, stay-none-slice, walkOf, goes-none, goes-none-slice, Walks, ends-at, walked, walk-meets}
 use denote.Exit.{yes}
 use denote.Triple.Clauses.{ensured, lasts}
-use Rattle.rules.specs.declared.Verdict.{Verdict}
+use Rattle.questions.specs.declared.Verdict.{Verdict}
 use Rattle.reader.specs.Readers.{readerOf}
 use Rattle.reader.specs.declared.Reader.{Reader}
 use Rattle.reader.proofs.Reader as T
 use Rattle.reader.proofs.Reader.Laws as T′
-use Rattle.rules.proofs.Verdict as E
-use Rattle.rules.proofs.Verdict.Laws as E′
+use Rattle.questions.proofs.Verdict as E
+use Rattle.questions.proofs.Verdict.Laws as E′
 use Rattle.reader.proofs.open as callee
 use Rattle.reader.proofs.open.Symbol as callee-def
 use Rattle.reader.proofs.open.Symbol.{name as #reader·open}

@@ -1,6 +1,6 @@
 -- `instruction::put` meets its contract. Assumes nothing.
 use borrow.Author.Needs.{needs}
-use Rattle.rules.proofs.Keys.{data-is}
+use Rattle.keys.proofs.Keys.{data-is}
 use Rattle.instruction.proofs.Steps.{step-put}
 use Rattle.instruction.proofs.put.Statement.{statement}
 use Rattle.instruction.proofs.put.Tie as tie

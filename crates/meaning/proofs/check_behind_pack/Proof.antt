@@ -4,7 +4,7 @@ use mathlib.Core.Bool.{true}
 use mathlib.Core.Option.{none}
 use mathlib.Core.Path.{_≡_, sym, _∙_, ap}
 use borrow.Author.Tests.{not-true, not-false}
-use Rattle.rules.specs.Verdicts.{verdictOf}
+use Rattle.questions.specs.Verdicts.{verdictOf}
 use Rattle.pack.proofs.Laws.{accepted-laid}
 use Rattle.store.specs.Questions.{storeRefusal}
 use Rattle.store.proofs.Sound.{store-ok}

@@ -1,7 +1,7 @@
 -- `meaning::check_lent` meets its contract. Assumes nothing.
 use borrow.Author.Needs.{needs}
 use mathlib.Core.Path.{sym, _∙_, ap}
-use Rattle.rules.specs.Verdicts.{verdictOf}
+use Rattle.questions.specs.Verdicts.{verdictOf}
 use Rattle.agents.proofs.Answers.{accepted-none, refused-some}
 use Rattle.meaning.proofs.Asked.{no-of-pack}
 use Rattle.meaning.proofs.check_lent.Statement.{statement}

@@ -1,8 +1,8 @@
 -- `pack::check` meets its contract: the layout first, then the workflows. Assumes nothing.
 use borrow.Author.Needs.{needs}
 use mathlib.Core.Path.{sym, _∙_, ap}
-use Rattle.rules.specs.Verdicts.{verdictOf}
-use Rattle.rules.proofs.Chains.{accepted}
+use Rattle.questions.specs.Verdicts.{verdictOf}
+use Rattle.questions.proofs.Chains.{accepted}
 use Rattle.pack.proofs.Sizes.{laid}
 use Rattle.pack.proofs.Workflows.{layout-refused, layout-fine}
 use Rattle.pack.proofs.check.Statement.{statement}

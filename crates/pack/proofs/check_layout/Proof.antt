@@ -5,8 +5,8 @@ use mathlib.Core.Path.{_≡_, refl, sym, _∙_, ap}
 use mathlib.Core.Bool.{true, false}
 use native.Mathlib.Omega.{arith}
 use Rattle.pack.specs.Questions.{question1, question2}
-use Rattle.rules.specs.Questions.{ask}
-use Rattle.rules.specs.Verdicts.{verdictOf}
+use Rattle.questions.specs.Questions.{ask}
+use Rattle.questions.specs.Verdicts.{verdictOf}
 use Rattle.pack.proofs.Sizes.{too-low, too-high, is-between, no-count, count-asked, sizes-asked, length-asked, layout-asked}
 use Rattle.pack.proofs.check_layout.Statement.{statement}
 use Rattle.pack.proofs.check_layout.Tie as tie

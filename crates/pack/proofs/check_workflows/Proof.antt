@@ -5,9 +5,9 @@ use mathlib.Core.Path.{_≡_, refl, sym, _∙_, ap}
 use Prim.Native.Nat.{_+_, _*_, _≤_, _-_}
 use native.Mathlib.Omega.{arith}
 use lib.ListN.{length}
-use Rattle.rules.specs.Questions.{firstNo}
-use Rattle.rules.specs.Verdicts.{verdictOf}
-use Rattle.rules.proofs.Chains.{first-done, first-yes, first-stop}
+use Rattle.questions.specs.Questions.{firstNo}
+use Rattle.questions.specs.Verdicts.{verdictOf}
+use Rattle.questions.proofs.Chains.{first-done, first-yes, first-stop}
 use Rattle.code.specs.Refusal.{codeNo}
 use Rattle.pack.specs.Layout.{firstOf, operationsOf, operandsOf}
 use Rattle.pack.specs.Refusal.{workflowNo}

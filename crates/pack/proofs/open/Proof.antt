@@ -4,9 +4,9 @@ use mathlib.Core.Path.{sym, _∙_, ap}
 use mathlib.Core.Bool.{true, false}
 use native.Mathlib.Omega.{arith}
 use Rattle.pack.specs.Laid.{Laid}
-use Rattle.rules.specs.Questions.{ask}
-use Rattle.rules.specs.Verdicts.{verdictOf}
-use Rattle.rules.proofs.Chains.{accepted}
+use Rattle.questions.specs.Questions.{ask}
+use Rattle.questions.specs.Verdicts.{verdictOf}
+use Rattle.questions.proofs.Chains.{accepted}
 use Rattle.pack.proofs.Workflows.{pack-laid, pack-refused, pack-fine, is-below, not-below}
 use Rattle.pack.proofs.open.Statement.{statement}
 use Rattle.pack.proofs.open.Tie as tie

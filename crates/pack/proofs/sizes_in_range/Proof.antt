@@ -4,8 +4,8 @@ use mathlib.Core.Path.{_≡_, sym, _∙_}
 use Prim.Native.Nat.{_≤_, _-_}
 use native.Mathlib.Omega.{arith}
 use native.Mathlib.Nat.{sub-zero}
-use Rattle.rules.specs.Basics.{eachFrom, each}
-use Rattle.rules.proofs.Each.{each-none, each-more, each-fails}
+use Rattle.questions.specs.Basics.{eachFrom, each}
+use Rattle.questions.proofs.Each.{each-none, each-more, each-fails}
 use Rattle.pack.specs.Questions.{sizeRight}
 use Rattle.pack.proofs.Sizes.{size-low, size-high, size-in}
 use Rattle.pack.proofs.sizes_in_range.Statement.{statement}

@@ -48,8 +48,8 @@ use Rattle.reader.proofs.Reader as T
 use Rattle.reader.proofs.Reader.Laws as T′
 use Rattle.reader.proofs.Opening as S
 use Rattle.reader.proofs.Opening.Laws as S′
-use Rattle.rules.proofs.Verdict as E
-use Rattle.rules.proofs.Verdict.Laws as E′
+use Rattle.questions.proofs.Verdict as E
+use Rattle.questions.proofs.Verdict.Laws as E′
 use Rattle.reader.proofs.opening_of as callee
 use Rattle.reader.proofs.opening_of.Symbol as callee-def
 use Rattle.reader.proofs.opening_of.Symbol.{name as #reader·opening-of}

@@ -2,7 +2,7 @@
 use borrow.Author.Needs.{needs}
 use mathlib.Core.Path.{_≡_}
 use mathlib.Core.Option.{none}
-use Rattle.rules.proofs.Chains.{accepted}
+use Rattle.questions.proofs.Chains.{accepted}
 use Rattle.pack.specs.Refusal.{openRefusal}
 use Rattle.pack.proofs.Workflows.{open-laid, open-below}
 use Rattle.reader.proofs.Laws.{found-none, found-there}

@@ -1,6 +1,6 @@
 -- `runtime::order` meets its contract. Assumes nothing.
 use borrow.Author.Needs.{needs}
-use Rattle.rules.proofs.Tests.{no-yes}
+use Rattle.questions.proofs.Tests.{no-yes}
 use Rattle.agents.specs.Answers as Answers
 use Rattle.meaning.proofs.Carry.{order-done, order-refused}
 use Rattle.runtime.proofs.order.Statement.{statement}

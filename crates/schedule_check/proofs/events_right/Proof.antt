@@ -4,8 +4,8 @@ use Prim.Native.Nat.{_-_, _≤_}
 use native.Mathlib.Nat.{sub-zero}
 use native.Mathlib.Omega.{arith}
 use borrow.Author.Needs.{needs}
-use Rattle.rules.specs.Basics.{eachFrom}
-use Rattle.rules.proofs.Each.{each-none, each-more, each-fails}
+use Rattle.questions.specs.Basics.{eachFrom}
+use Rattle.questions.proofs.Each.{each-none, each-more, each-fails}
 use Rattle.schedule_check.specs.Questions.{rightAt, question23}
 use Rattle.schedule_check.proofs.Steps.{event-right, event-wrong}
 use Rattle.schedule_check.proofs.events_right.Statement.{statement}

@@ -3,8 +3,8 @@ use borrow.Author.Needs.{needs}
 use mathlib.Core.Path.{_≡_, refl, sym, _∙_}
 use Prim.Native.Nat.{_-_, _≤_}
 use native.Mathlib.Omega.{arith}
-use Rattle.rules.specs.Basics.{eachFrom}
-use Rattle.rules.proofs.Each.{each-none, each-more, each-fails}
+use Rattle.questions.specs.Basics.{eachFrom}
+use Rattle.questions.proofs.Each.{each-none, each-more, each-fails}
 use Rattle.store.specs.Layout.{keyAt, valueAt}
 use Rattle.store.specs.Questions.{blankRow}
 use Rattle.store.proofs.Bytes.{key-within, value-within}

@@ -5,8 +5,8 @@ use Prim.Native.Nat.{ℕ, _+_, _-_, _≤_}
 use native.Mathlib.Nat.{sub-zero}
 use native.Mathlib.Omega.{arith}
 use borrow.Author.Tests.{not-true, not-false}
-use Rattle.rules.specs.Basics.{eachFrom, each}
-use Rattle.rules.proofs.Each.{each-none, each-more, each-fails}
+use Rattle.questions.specs.Basics.{eachFrom, each}
+use Rattle.questions.proofs.Each.{each-none, each-more, each-fails}
 use Rattle.store.specs.Questions.{partOk, question11}
 use Rattle.store_check.proofs.check_partitions.Statement.{statement}
 use Rattle.store_check.proofs.check_partitions.Tie as tie

@@ -4,7 +4,7 @@ use mathlib.Core.Bool.{true}
 use mathlib.Core.Path.{_≡_, sym, ap, ap₂, _∙_}
 use native.Mathlib.Omega.{arith}
 use borrow.Author.Tests.{not-true, not-false}
-use Rattle.rules.specs.Verdicts.{verdictOf}
+use Rattle.questions.specs.Verdicts.{verdictOf}
 use Rattle.store.specs.Layout.{partsOf, capOf, sizeOf}
 use Rattle.store.specs.Questions.{numbersRight}
 use Rattle.store.proofs.Sound.{numbers-mean, nine-short, nine-numbers, ten-no, shape-of}

@@ -4,7 +4,7 @@ use mathlib.Core.Path.{refl, sym}
 use Prim.Native.Nat.{_^_, _≤_}
 use native.Mathlib.Omega.{arith}
 use borrow.Author.Tests.{lt-ltb, le-ltb, le-leb, lt-leb}
-use Rattle.rules.specs.Keys as Keys
+use Rattle.keys.specs.Keys as Keys
 use Rattle.store.specs.Questions.{isForm}
 use Rattle.store_check.proofs.form.Statement.{statement}
 use Rattle.store_check.proofs.form.Tie as tie

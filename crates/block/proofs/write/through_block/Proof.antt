@@ -3,7 +3,7 @@ use mathlib.Core.Option.{some}
 use mathlib.Core.Path.{refl, sym, ap, _∙_}
 use native.Mathlib.Omega.{arith}
 use borrow.Author.Needs.{needs}
-use Rattle.rules.specs.Keys.{logKey}
+use Rattle.keys.specs.Keys.{logKey}
 use Rattle.store.specs.Rows.{rowsOf}
 use Rattle.store.proofs.Search.{at-row}
 use Rattle.block.proofs.Writes.{log-none, log-some, through-logged}

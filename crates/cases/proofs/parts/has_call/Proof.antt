@@ -1,5 +1,5 @@
 -- `cases::parts::has_call` meets its contract. Assumes nothing.
-use Rattle.rules.proofs.Tests.{no-yes}
+use Rattle.questions.proofs.Tests.{no-yes}
 use borrow.Author.Needs.{needs}
 use Rattle.cases.proofs.parts.has_call.Statement.{statement}
 use Rattle.cases.proofs.parts.has_call.Tie as tie

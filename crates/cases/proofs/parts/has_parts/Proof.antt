@@ -1,5 +1,5 @@
 -- `cases::parts::has_parts` meets its contract. Assumes nothing.
-use Rattle.rules.proofs.Tests.{no-yes}
+use Rattle.questions.proofs.Tests.{no-yes}
 use borrow.Author.Needs.{needs}
 use Rattle.cases.proofs.parts.has_parts.Statement.{statement}
 use Rattle.cases.proofs.parts.has_parts.Tie as tie

@@ -6,8 +6,8 @@ use native.Mathlib.Nat.{sub-zero}
 use native.Mathlib.Omega.{arith}
 use lib.ListN.{length}
 use borrow.Author.Tests.{not-true, not-false}
-use Rattle.rules.specs.Basics.{eachFrom, each}
-use Rattle.rules.proofs.Each.{each-none, each-more, each-fails}
+use Rattle.questions.specs.Basics.{eachFrom, each}
+use Rattle.questions.proofs.Each.{each-none, each-more, each-fails}
 use Rattle.store.specs.Questions.{keysApart, partOkBy, question11InAnyOrder}
 use Rattle.store_check.proofs.any_order.check_each.Statement.{statement}
 use Rattle.store_check.proofs.any_order.check_each.Tie as tie

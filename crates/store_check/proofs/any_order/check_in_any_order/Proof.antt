@@ -3,7 +3,7 @@ use borrow.Author.Needs.{needs}
 use mathlib.Core.Bool.{true}
 use mathlib.Core.Path.{_≡_, sym, ap, _∙_}
 use borrow.Author.Tests.{not-true, not-false}
-use Rattle.rules.specs.Verdicts.{verdictOf}
+use Rattle.questions.specs.Verdicts.{verdictOf}
 use Rattle.store.specs.Questions.{question11InAnyOrder, orderRefusal}
 use Rattle.store.specs.Sound.{Shape}
 use Rattle.store_check.proofs.Asked.{no-shape, no-11, no-12, all-yes, shape-accepted}

@@ -7,9 +7,9 @@ use Prim.Native.Nat.{ℕ, _-_, _≤_}
 use native.Mathlib.Omega.{arith}
 use borrow.Author.Tests.{not-true, not-false}
 use Rattle.words.specs.Words.{fields}
-use Rattle.rules.specs.Basics.{eachFrom, each}
-use Rattle.rules.specs.Keys.{bookKey}
-use Rattle.rules.proofs.Each.{each-none, each-more, each-fails}
+use Rattle.questions.specs.Basics.{eachFrom, each}
+use Rattle.keys.specs.Keys.{bookKey}
+use Rattle.questions.proofs.Each.{each-none, each-more, each-fails}
 use Rattle.store.specs.Questions.{member, five}
 use Rattle.store_check.proofs.any_order.five_rows.Statement.{statement}
 use Rattle.store_check.proofs.any_order.five_rows.Tie as tie

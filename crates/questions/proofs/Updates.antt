@@ -1,4 +1,4 @@
--- Functions that are changed at one number, and logs with one row more. Assumes nothing.
+-- Functions that are changed at one number. Assumes nothing.
 use mathlib.Core.Bool.{Bool, true, false}
 use mathlib.Core.Path.{_≡_, refl, sym, _∙_, ap}
 use mathlib.Core.Logic.{_⊎_, inl, inr}
@@ -6,8 +6,7 @@ use mathlib.Core.Option.{Option, none, some}
 use Prim.Native.Nat.{ℕ, _≤_, _<_}
 use native.Mathlib.Omega.{arith}
 use lib.Dec.{T, eqb, ltb, eqb→eq, eqb-refl, ltb→lt, nltb→le}
-use Rattle.rules.specs.Basics.{if_then_else_, update}
-use Rattle.rules.specs.Store.{logged}
+use Rattle.questions.specs.Basics.{if_then_else_, update}
 
 pub none-some {ℓ} : {A : Type 0} {B : Type ℓ} {o : Option A} (x : A) → o ≡ none → o ≡ some x → B
 none-some {o} x e e′ = absurd (let z : _≡_ {A = ℕ} 0 1 = cc in omega arith)
@@ -76,28 +75,3 @@ update-after g f k v j = go (eqb j k)
     go : (b : Bool) → g (if_then_else_ b v (f j)) ≡ if_then_else_ b (g v) (g (f j))
     go true = refl
     go false = refl
-
-module _ (log : (partition id step : ℕ) → Option ℕ) (p id t v : ℕ) where
-  pub logged-here : logged log p id t v p id t ≡ some v
-  logged-here = rw (eqb-same p, eqb-same id, eqb-same t) refl
-
-  -- a row of the new log is the row written, or was there before
-  pub logged-cases : (p′ id′ t′ : ℕ) → ((p′ ≡ p) × (id′ ≡ id) × (t′ ≡ t)) ⊎ (logged log p id t v p′ id′ t′ ≡ log p′ id′ t′)
-  logged-cases p′ id′ t′ = go (update-cases log p log₁ p′) (update-cases (log p) id log₂ id′) (update-cases (log p id) t (some v) t′)
-    where
-      log₂ : ℕ → Option ℕ
-      log₂ = update (log p id) t (some v)
-
-      log₁ : ℕ → ℕ → Option ℕ
-      log₁ = update (log p) id log₂
-
-      go : ((p′ ≡ p) × (update log p log₁ p′ ≡ log₁)) ⊎ ((p′ ≡ p → ⊥) × (update log p log₁ p′ ≡ log p′)) →
-          ((id′ ≡ id) × (update (log p) id log₂ id′ ≡ log₂)) ⊎ ((id′ ≡ id → ⊥) × (update (log p) id log₂ id′ ≡ log p id′)) →
-          ((t′ ≡ t) × (update (log p id) t (some v) t′ ≡ some v)) ⊎ ((t′ ≡ t → ⊥) × (update (log p id) t (some v) t′ ≡ log p id t′)) →
-          ((p′ ≡ p) × (id′ ≡ id) × (t′ ≡ t)) ⊎ (logged log p id t v p′ id′ t′ ≡ log p′ id′ t′)
-      go (inr h) b c = inr (ap (λ f. f id′ t′) (h .1))
-      go (inl h) (inr i) c = inr (ap (λ f. f id′ t′) (h .1) ∙ ap (λ f. f t′) (i .1) ∙ ap (λ r. log r id′ t′) (sym (h .0)))
-      go (inl h) (inl i) (inr j) =
-          inr (ap (λ f. f id′ t′) (h .1) ∙ ap (λ f. f t′) (i .1) ∙ j .1 ∙ ap (λ r. log p r t′) (sym (i .0))
-          ∙ ap (λ r. log r id′ t′) (sym (h .0)))
-      go (inl h) (inl i) (inl j) = inl (h .0, i .0, j .0)

@@ -2,8 +2,8 @@
 use mathlib.Core.Bool.{Bool, true, false}
 use mathlib.Core.Path.{_≡_, refl}
 use mathlib.Core.Option.{Option, none, some}
-use Rattle.rules.specs.Questions.{No, ask, orElse}
-use Rattle.rules.proofs.Updates.{none-some}
+use Rattle.questions.specs.Questions.{No, ask, orElse}
+use Rattle.questions.proofs.Updates.{none-some}
 
 -- after a yes the rest is asked
 pub ask-yes : (n : No) (b : Bool) (rest : Option No) → b ≡ true → ask n b rest ≡ rest

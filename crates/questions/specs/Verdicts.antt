@@ -1,8 +1,8 @@
 -- The code's verdict on questions, in the document's numbers. Assumes nothing: these are definitions.
 use mathlib.Core.Option.{Option, none, some}
-use Rattle.rules.specs.Questions.{No, no}
-use Rattle.rules.specs.declared.Verdict.{Verdict}
-use Rattle.rules.specs.declared.Verdict.the-variants.{Accepted, Refused}
+use Rattle.questions.specs.Questions.{No, no}
+use Rattle.questions.specs.declared.Verdict.{Verdict}
+use Rattle.questions.specs.declared.Verdict.the-variants.{Accepted, Refused}
 
 -- the verdict of a row of questions: the first no, with its number, workflow and instruction
 abbrev pub verdictOf : Option No → Verdict

@@ -6,8 +6,8 @@ use mathlib.Core.Logic.{⊎-elim}
 use Prim.Native.Nat.{ℕ, zero, suc, _+_, _-_, _≤_, _<_}
 use native.Mathlib.Nat.{eq-or-lt-of-le}
 use native.Mathlib.Omega.{arith}
-use Rattle.rules.specs.Basics.{if_then_else_}
-use Rattle.rules.specs.Basics.{eachFrom}
+use Rattle.questions.specs.Basics.{if_then_else_}
+use Rattle.questions.specs.Basics.{eachFrom}
 
 module _ (f : ℕ → Bool) where
   pub each-none : (n i : ℕ) → n ≤ i → eachFrom f (n - i) i ≡ true

@@ -5,11 +5,11 @@ use Prim.Native.Nat.{ℕ, zero, suc, _+_, _-_, _≤_, _<_}
 use native.Mathlib.Nat.{add-zero, add-suc, suc-add, le-of-suc-le-suc, not-suc-le-zero}
 use native.Mathlib.Omega.{arith}
 use native.Mathlib.Numerals.{add-one}
-use Rattle.rules.specs.declared.Verdict.{Verdict}
-use Rattle.rules.specs.declared.Verdict.the-variants.{Accepted, Refused}
-use Rattle.rules.specs.Questions.{No, orElse, firstNo}
-use Rattle.rules.specs.Verdicts.{verdictOf}
-use Rattle.rules.proofs.Questions.{orElse-none}
+use Rattle.questions.specs.declared.Verdict.{Verdict}
+use Rattle.questions.specs.declared.Verdict.the-variants.{Accepted, Refused}
+use Rattle.questions.specs.Questions.{No, orElse, firstNo}
+use Rattle.questions.specs.Verdicts.{verdictOf}
+use Rattle.questions.proofs.Questions.{orElse-none}
 
 -- after a row of questions that were answered yes the rest is asked
 pub or-yes : (o rest : Option No) → o ≡ none → orElse o rest ≡ rest

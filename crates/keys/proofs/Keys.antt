@@ -8,10 +8,10 @@ use Prim.Native.Nat.{ℕ, _+_, _*_, _%_, _^_, _≤_, _<_}
 use native.Mathlib.Omega.{arith}
 use borrow.Author.Tests.{lt-ltb, le-leb, lt-leb, leb-true, ltb-true}
 use lib.Dec.{eqb, ltb, leb, ltb→lt, lt→ltb, nltb→le}
-use Rattle.rules.specs.Basics.{if_then_else_, update}
-use Rattle.rules.specs.Keys.{dataKey, logKey, bookKey, isDataKey, isLogKey, isBookKey, tableOf, logOf}
-use Rattle.rules.proofs.Tests.{and-left, and-right}
-use Rattle.rules.proofs.Updates.{eqb-cases, T-true, true-T, update-same, update-other}
+use Rattle.questions.specs.Basics.{if_then_else_, update}
+use Rattle.keys.specs.Keys.{dataKey, logKey, bookKey, isDataKey, isLogKey, isBookKey, tableOf, logOf}
+use Rattle.questions.proofs.Tests.{and-left, and-right}
+use Rattle.questions.proofs.Updates.{eqb-cases, T-true, true-T, update-same, update-other}
 
 -- ── Each form passes its test ──
 

@@ -1,0 +1,1 @@
+// Stored keys: made, recognised and taken apart.

@@ -1,0 +1,5 @@
+pub mod Tests
+pub mod Updates
+pub mod Questions
+pub mod Chains
+pub mod Each
