@@ -3,8 +3,8 @@
 
 Each edge below is its words, a case, the answer that documents 01 and 02 give to it, and the store that it leaves where this isn't the
 store that was given; written by hand from the documents and not from any program. The sections follow the questions. Behind the answer of
-a call that is given a store, or of a list of calls, its bytes are printed. Where a search ends (W-204) is tried at every place: those
-edges are made from tables, which have the results by hand.
+an opening the parts that it hands out are printed; behind that of a call that is given a store, or of a list of calls, its bytes. Where a
+search ends (W-204) is tried at every place: those edges are made from tables, which have the results by hand.
 """
 import os
 import struct
@@ -13,6 +13,7 @@ CHECK, OPEN, CREATE, ARRIVAL, RETRY, TURN, CRASH, RESTART = range(8)
 ORDER = 9
 RETURN = (0xB0, 0)
 SET = (0x00, 0)
+COPY = (0x10, 0)
 BEGIN = (0x60, 0)
 END = (0x70, 0)
 PUT = (0x91, 2)  # the value at register 1's key becomes register 2
@@ -93,6 +94,17 @@ def check(p):
     return call(CHECK, pack=p)
 
 
+def opens(workflow, p):
+    return call(OPEN, [workflow], p)
+
+
+def parts(*code):
+    """The parts that an opening hands out, of the workflow that it opened; of none where it is refused."""
+    operations = bytes(b for b, _ in code)
+    operands = b"".join(struct.pack("<I", w) for _, w in code)
+    return "ops %s\noperands %s\n" % (operations.hex() or "-", operands.hex() or "-")
+
+
 def data(k):
     return 2**63 + k
 
@@ -102,7 +114,9 @@ def log(id, step):
 
 
 ONE = pack([RETURN])
-MOVE = pack([(0x14, 0), (0x60, 0), (0x85, 4), (0x35, 2), (0x94, 5), (0x75, 0), (0x60, 1), (0x85, 1), (0x25, 2), (0x91, 5), (0x75, 0), (0xB0, 0)])
+MOVING = [(0x14, 0), (0x60, 0), (0x85, 4), (0x35, 2), (0x94, 5), (0x75, 0),
+          (0x60, 1), (0x85, 1), (0x25, 2), (0x91, 5), (0x75, 0), (0xB0, 0)]
+MOVE = pack(MOVING)
 SEVEN = [7, 0, 100, 200, 30, 0]
 EIGHT = [8, 0, 100, 200, 30, 0]
 BOOKED = [(7, 0, [100, 200, 30, 0])]
@@ -333,41 +347,97 @@ log 1 7 1 30
     ("16 workflows", check(pack(*[[RETURN]] * 16)), DONE),
     ("17 workflows", check(pack(*[[RETURN]] * 17)), refused(1)),
     # 2
+    ("no size", check(b"\x01"), refused(2)),
+    ("half a size", check(b"\x01\x01"), refused(2)),
     ("a size is not there", check(b"\x02\x01\0"), refused(2)),
     ("size 0", check(b"\x01\0\0"), refused(2)),
+    ("size 0 behind a right one", check(pack([RETURN], [])), refused(2)),
     ("2,048 instructions", check(pack(*[[SET] * 255 + [RETURN]] * 8)), DONE),
     ("2,049 instructions", check(pack(*[[SET] * 255 + [RETURN]] * 8, [RETURN])), refused(2)),
     # 3
     ("one byte too many", check(pack([RETURN], more=b"\0")), refused(3)),
     ("one byte too few", check(ONE[:-1]), refused(3)),
+    ("sizes alone", check(b"\x01\x01\0"), refused(3)),
+    # one instruction, and MOVE
+    ("01 01 00 B0 00 00 00 00", check(ONE), DONE),
+    ("the same with 00 for B0", check(pack([SET])), refused(8)),
+    ("the same with B8 for B0", check(pack([(0xB8, 0)])), refused(4)),
+    ("the same with 50 for B0", check(pack([(0x50, 0)])), refused(5)),
+    ("MOVE", check(MOVE), DONE),
     # 4
     ("operation C", check(pack([RETURN], [SET, (0xC0, 0), RETURN])), refused(4, 1, 1)),
+    ("operation C in the one workflow", check(pack([COPY, (0xC0, 0), RETURN])), refused(4, 0, 1)),
+    ("operation F", check(pack([(0xF0, 0), RETURN])), refused(4)),
     ("bit 3 set", check(pack([(0x18, 0), RETURN])), refused(4)),
+    ("bit 3 set in workflow 1", check(pack([RETURN], [COPY, (0x1F, 0), RETURN])), refused(4, 1, 1)),
     # 5
+    ("SET of the greatest word", check(pack([(0x07, 2**32 - 1), RETURN])), DONE),
     ("COPY from register 8", check(pack([(0x10, 8), RETURN])), refused(5)),
+    ("COPY with the highest byte of its word set", check(pack([(0x10, 2**24), RETURN])), refused(5)),
+    ("PUT from register 8", check(pack([BEGIN, (0x90, 8), END, RETURN])), refused(5, 0, 1)),
     ("a jump to its own place", check(pack([SET, (0x40, 16 * 1), RETURN])), refused(5, 0, 1)),
+    ("JEQ to its own place", check(pack([COPY, (0x50, 16 * 1), RETURN])), refused(5, 0, 1)),
+    ("a jump back", check(pack([COPY, (0x50, 16 * 0), RETURN])), refused(5, 0, 1)),
     ("a jump behind the end", check(pack([(0x40, 16 * 2), RETURN])), refused(5)),
+    ("JEQ behind the end", check(pack([(0x50, 16 * 2), RETURN])), refused(5)),
+    ("JEQ behind the end, where another workflow is", check(pack([(0x50, 16 * 2), RETURN], [RETURN])), refused(5)),
+    ("a jump to the last", check(pack([(0x50, 16 * 1), RETURN])), DONE),
+    ("a jump with register 7", check(pack([(0x40, 16 * 1 + 7), RETURN])), DONE),
     ("a jump with register 8", check(pack([(0x40, 16 * 1 + 8), RETURN])), refused(5)),
+    ("BEGIN with partition 7", check(pack([(0x60, 7), END, RETURN])), DONE),
     ("BEGIN with partition 8", check(pack([(0x60, 8), END, RETURN])), refused(5)),
     ("BEGIN with d = 1", check(pack([(0x61, 0), END, RETURN])), refused(5)),
+    ("END and RETURN with d = 7", check(pack([BEGIN, (0x77, 0), (0xB7, 0)])), DONE),
     ("END with w = 1", check(pack([BEGIN, (0x70, 1), RETURN])), refused(5, 0, 1)),
     ("RETURN with w = 1", check(pack([(0xB0, 1)])), refused(5)),
     # 6
     ("GET outside a block", check(pack([(0x80, 0), RETURN])), refused(6)),
+    ("PUT outside a block", check(pack([(0x90, 0), RETURN])), refused(6)),
+    ("HAS outside a block", check(pack([(0xA0, 0), RETURN])), refused(6)),
     ("END outside a block", check(pack([END, RETURN])), refused(6)),
     ("RETURN inside a block", check(pack([BEGIN, RETURN])), refused(6, 0, 1)),
+    ("RETURN inside a block, END behind it", check(pack([BEGIN, RETURN, END, RETURN])), refused(6, 0, 1)),
     ("BEGIN inside a block", check(pack([BEGIN, BEGIN, END, RETURN])), refused(6, 0, 1)),
+    ("SET, COPY, ADD, SUB and HAS inside a block",
+     check(pack([BEGIN, (0x00, 1), (0x10, 1), (0x20, 1), (0x30, 1), (0xA0, 1), END, RETURN])), DONE),
     ("a jump into a block", check(pack([(0x40, 16 * 2), BEGIN, SET, END, RETURN])), refused(6)),
+    ("a jump into a block, to its END", check(pack([(0x40, 16 * 2), BEGIN, END, RETURN])), refused(6)),
     ("a jump out of a block", check(pack([BEGIN, (0x40, 16 * 3), END, RETURN])), refused(6, 0, 1)),
+    ("a jump out of a block into a later one", check(pack([BEGIN, (0x40, 16 * 4), END, BEGIN, COPY, END, RETURN])), refused(6, 0, 1)),
     ("a jump over a block", check(pack([(0x40, 16 * 3), BEGIN, END, RETURN])), DONE),
+    ("a jump to BEGIN", check(pack([(0x40, 16 * 1), BEGIN, END, RETURN])), DONE),
     ("a jump to END", check(pack([BEGIN, (0x40, 16 * 2), END, RETURN])), DONE),
+    ("a jump to END over an instruction", check(pack([BEGIN, (0x40, 16 * 3), COPY, END, RETURN])), DONE),
+    ("a jump over a byte that would be BEGIN but for bit 3", check(pack([(0x40, 16 * 2), (0x68, 0), COPY, RETURN])), refused(6)),
+    ("a jump over a byte that would be END but for bit 3", check(pack([BEGIN, (0x40, 16 * 3), (0x78, 0), COPY, END, RETURN])),
+     refused(6, 0, 1)),
+    # 7
+    ("16 PUTs in each of two blocks", check(pack(([BEGIN] + [PUT] * 16 + [END]) * 2 + [RETURN])), DONE),
     # 8
     ("the last is not RETURN", check(pack([RETURN], [RETURN, SET])), refused(8, 1, 1)),
+    ("the last is COPY", check(pack([RETURN, COPY])), refused(8, 0, 1)),
+    ("the last is END", check(pack([BEGIN, END])), refused(8, 0, 1)),
+    ("the last is BEGIN, in workflow 1", check(pack([RETURN], [COPY, BEGIN])), refused(8, 1, 1)),
     ("a block is left open", check(pack([BEGIN, SET])), refused(8, 0, 1)),
-    # 17 of an opening
-    ("the second of two workflows is opened", call(OPEN, [1], pack([RETURN], [SET, RETURN])), DONE),
-    ("the third of two workflows is opened", call(OPEN, [2], pack([RETURN], [SET, RETURN])), refused(17)),
-    ("a workflow of a wrong pack is opened", call(OPEN, [0], pack([SET])), refused(8)),
+    # their order
+    ("4 is asked before 5", check(pack([(0x69, 8), RETURN])), refused(4)),
+    ("5 is asked before 6", check(pack([BEGIN, (0x60, 8), END, RETURN])), refused(5, 0, 1)),
+    ("6 of an instruction is asked before 4 of the next", check(pack([(0x80, 0), (0xC0, 0), RETURN])), refused(6)),
+    ("8 of workflow 0 is asked before 4 of workflow 1", check(pack([COPY], [(0xC0, 0)])), refused(8)),
+    # 17 of an opening, and the parts that one hands out
+    ("the second of two workflows is opened", opens(1, pack([RETURN], [SET, RETURN])), DONE + parts(SET, RETURN)),
+    ("the third of two workflows is opened", opens(2, pack([RETURN], [SET, RETURN])), refused(17) + parts()),
+    ("a workflow of a wrong pack is opened", opens(0, pack([SET])), refused(8) + parts()),
+    ("MOVE is opened", opens(0, MOVE), DONE + parts(*MOVING)),
+    ("the second of three workflows is opened", opens(1, pack(MOVING, [(0x01, 0x01020304), (0xB1, 0)], [RETURN])),
+     DONE + parts((0x01, 0x01020304), (0xB1, 0))),
+    ("the last of three workflows is opened", opens(2, pack(MOVING, [COPY, COPY, RETURN], [RETURN])), DONE + parts(RETURN)),
+    ("workflow 1 of one is opened", opens(1, MOVE), refused(17) + parts()),
+    ("workflow 65536 of one is opened", opens(65536, MOVE), refused(17) + parts()),
+    ("workflow 2^32 - 1 of one is opened", opens(2**32 - 1, MOVE), refused(17) + parts()),
+    ("workflow 0 is opened where workflow 1 is wrong", opens(0, pack([COPY, RETURN], [COPY])), refused(8, 1, 0) + parts()),
+    ("workflow 5 of a wrong pack is opened", opens(5, pack([(0xB8, 0)])), refused(4) + parts()),
+    ("workflow 0 of no bytes is opened", opens(0, b""), refused(1) + parts()),
     # 9 and 10
     ("create", call(CREATE, [1, 5], store=b"\xff" * 127), DONE, bytes([1, 5, 0] + [0] * 124)),
     ("create with no partition", call(CREATE, [0, 5], store=bytes(127)), refused(9)),

@@ -1,4 +1,4 @@
--- Verdicts taken apart: what the questions came to. Assumes nothing.
+-- Verdicts taken apart: what the questions came to.
 use mathlib.Core.Option.{Option, none, some}
 use mathlib.Core.Path.{_≡_, refl}
 use Prim.Native.Nat.{ℕ}

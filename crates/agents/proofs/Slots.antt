@@ -1,4 +1,4 @@
--- Records and slots, each from the other. Assumes nothing.
+-- Records and slots, each from the other.
 use mathlib.Core.Bool.{Bool, true, false}
 use mathlib.Core.List.{List, []}
 use mathlib.Core.Logic.{_⊎_, inl, inr}
@@ -44,7 +44,7 @@ record-from f zero i k h = absurd (omega arith)
 record-from f (suc n) i zero h = ap (λ j. recordOf (f j)) (sym (add-zero i))
 record-from f (suc n) i (suc k) h = record-from f n (suc i) k (omega arith) ∙ ap (λ j. recordOf (f j)) (omega arith)
 
-pub length-records : (f : ℕ → Option Rules.Agent) → length (recordsOf f) ≡ 8
+length-records : (f : ℕ → Option Rules.Agent) → length (recordsOf f) ≡ 8
 length-records f = length-from f 8 0
 
 pub record-at : (f : ℕ → Option Rules.Agent) (i : ℕ) → i < 8 → agentAt (recordsOf f) i ≡ recordOf (f i)
@@ -57,7 +57,8 @@ slots-back f h = fun-ext {f = slotsOf (recordsOf f)} {g = f} (λ i. go i (decLt 
   where
     go : (i : ℕ) → Dec (i < 8) → agentOf (agentAt (recordsOf f) i) ≡ f i
     go i (yes l) = ap agentOf (record-at f i l) ∙ record-back (f i)
-    go i (no n) = unfold agentOf in ap agentOf (List·getD-eq-default (recordsOf f) past {n = i} (omega (arith, length-records f))) ∙ sym (h i (omega arith))
+    go i (no n) = unfold agentOf in
+        ap agentOf (List·getD-eq-default (recordsOf f) past {n = i} (omega (arith, length-records f))) ∙ sym (h i (omega arith))
 
 -- past the records there is no agent
 pub slots-past : (rs : List Agent) (i : ℕ) → length rs ≤ i → slotsOf rs i ≡ none
@@ -69,14 +70,17 @@ pub records-back : (rs : List Agent) → Tidy rs → recordsOf (slotsOf rs) ≡ 
 unfolding slotsOf
 records-back rs t =
     ext-getD past (recordsOf (slotsOf rs)) rs (length-records (slotsOf rs) ∙ sym (t .eight))
-    (λ i h. let l : i < 8 = omega (arith, length-records (slotsOf rs)) in record-at (slotsOf rs) i l ∙ agent-back (agentAt rs i) (t .whole i l))
+    (λ i h. let l : i < 8 = omega (arith, length-records (slotsOf rs)) in
+    record-at (slotsOf rs) i l ∙ agent-back (agentAt rs i) (t .whole i l))
 
 -- another thing in one slot is another record there
-pub records-with : (f : ℕ → Option Rules.Agent) (slot : ℕ) (o : Option Rules.Agent) → slot < 8 → recordsOf (update f slot o) ≡ set (recordsOf f) slot (recordOf o)
+pub records-with : (f : ℕ → Option Rules.Agent) (slot : ℕ) (o : Option Rules.Agent) → slot < 8 →
+    recordsOf (update f slot o) ≡ set (recordsOf f) slot (recordOf o)
 records-with f slot o h =
     ext-getD past (recordsOf (update f slot o)) (set (recordsOf f) slot (recordOf o))
     (length-records (update f slot o) ∙ sym (length-set (recordsOf f) slot (recordOf o) ∙ length-records f))
-    (λ i l. let l′ : i < 8 = omega (arith, length-records (update f slot o)) in record-at (update f slot o) i l′ ∙ go i l′ (update-cases f slot o i))
+    (λ i l. let l′ : i < 8 = omega (arith, length-records (update f slot o)) in
+    record-at (update f slot o) i l′ ∙ go i l′ (update-cases f slot o i))
   where
     go : (i : ℕ) → i < 8 → ((i ≡ slot) × (update f slot o i ≡ o)) ⊎ ((i ≡ slot → ⊥) × (update f slot o i ≡ f i)) →
         recordOf (update f slot o i) ≡ agentAt (set (recordsOf f) slot (recordOf o)) i

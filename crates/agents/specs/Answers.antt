@@ -1,4 +1,4 @@
--- The code's answers in the document's words: number and values for each case. Assumes nothing: these are definitions.
+-- The code's answers in the document's words: number and values for each case.
 use mathlib.Core.List.{List}
 use Rattle.questions.specs.Questions.{no}
 use Rattle.rules.specs.Blocks.{yields}

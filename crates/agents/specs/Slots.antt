@@ -1,12 +1,15 @@
--- What agent records mean as the slots of the rules, and the records of given slots. Assumes nothing: these are definitions.
-use mathlib.Core.Bool.{true, false}
+-- What agent records mean as the slots of the rules, and the records of given slots.
+use mathlib.Core.Bool.{true, false, Bool, _&&_}
 use mathlib.Core.List.{List, [], _∷_}
 use mathlib.Core.Logic.{_⊎_}
 use mathlib.Core.Option.{Option, none, some}
 use mathlib.Core.Path.{_≡_}
 use Prim.Native.Nat.{ℕ, zero, suc, _<_}
 use lib.ListN.{length, getD, replicate}
-use Rattle.questions.specs.Basics.{if_then_else_}
+use lib.Dec.{eqb}
+use Rattle.rules.specs.Instructions.{Place}
+use Rattle.rules.specs.Store.{Request}
+use Rattle.questions.specs.Basics.{if_then_else_, each}
 use Rattle.rules.specs.Courses.{going}
 use Rattle.rules.specs.Calls as Rules
 use Rattle.agents.specs.declared.Agent.{Agent}
@@ -55,7 +58,18 @@ pub record Tidy (records : List Agent) : Type 0 where
   pub eight : length records ≡ 8
   pub whole : (slot : ℕ) → slot < 8 → Whole (agentAt records slot)
 
--- A started agent has position 0, step 0, the arguments in registers 0 to 3, zero in 4 to 7.
-abbrev pub startedWith : (id a0 a1 a2 a3 : ℕ) → Agent
-startedWith id a0 a1 a2 a3 =
-    record { «in_use» = true; id = id; position = 0; step = 0; registers = a0 ∷ a1 ∷ a2 ∷ a3 ∷ 0 ∷ 0 ∷ 0 ∷ 0 ∷ [] }
+-- the record of an agent that is started: position 0, step 0, the arguments in registers 0 to 3, zero in 4 to 7
+abbrev pub startedWith : (id : ℕ) → Request → Agent
+startedWith id q = recordOf (some (record { id = id; course = Rules.start q; step = 0 }))
+
+-- an agent's record at another place and step
+abbrev pub placed : Agent → Place → (step : ℕ) → Agent
+placed a to t = record { «in_use» = true; id = a .id; position = to .position; step = t; registers = to .registers }
+
+-- Is it all zero but for the flag? An empty slot is all zero.
+unfoldable pub isBlank : Agent → Bool
+isBlank r =
+    eqb (r .id) 0
+    && (eqb (r .position) 0
+    && (eqb (r .step) 0
+    && each 8 (λ i. eqb (getD (r .registers) i 0) 0)))

@@ -1,9 +1,19 @@
-// The records of agents, by value, eight in an array; the answers of the calls.
+// Requests as they arrive; the records of agents, by value, eight in an array; the answers of the calls.
 ghost use mathlib.Core.Path.{_≡_};
 ghost use Prim.Native.Nat.{_<_};
 ghost use lib.ListN.{set, replicate};
-ghost use Rattle.agents.specs.Slots.{noAgent, startedWith};
+ghost use Rattle.agents.specs.Requests.{asked};
+ghost use Rattle.agents.specs.Slots.{noAgent, startedWith, placed, isBlank};
 ghost use Rattle.agents.specs.Answers.{outcome};
+
+// A request: the number of its workflow and its four arguments.
+pub struct Request {
+    pub workflow: u32,
+    pub a0: u32,
+    pub a1: u32,
+    pub a2: u32,
+    pub a3: u32,
+}
 
 // An agent record: in use, id, position, step number, eight registers. An empty slot is all zero.
 pub struct Agent {
@@ -57,16 +67,53 @@ pub fn no_agents() -> [Agent; 8]
 }
 
 // A started agent: position 0, step 0, the arguments in registers 0 to 3, zero in 4 to 7.
-pub fn started(id: u32, a0: u32, a1: u32, a2: u32, a3: u32) -> Agent
-    ensures { λ r. ⌜ r ≡ startedWith id a0 a1 a2 a3 ⌝ }
+pub fn started(id: u32, q: Request) -> Agent
+    ensures { λ r. ⌜ r ≡ startedWith id (asked q) ⌝ }
 {
     Agent {
         in_use: true,
         id,
         position: 0,
         step: 0,
-        registers: [a0, a1, a2, a3, 0, 0, 0, 0],
+        registers: [q.a0, q.a1, q.a2, q.a3, 0, 0, 0, 0],
     }
+}
+
+// The agent at another place and step.
+pub fn placed(a: Agent, position: u16, registers: [u32; 8], step: u16) -> Agent
+    ensures { λ r. ⌜ r ≡ placed a (record { position = position; registers = registers }) step ⌝ }
+{
+    Agent {
+        in_use: true,
+        id: a.id,
+        position,
+        step,
+        registers,
+    }
+}
+
+// Is a record that is not in use all zero?
+pub fn is_blank(a: Agent) -> bool
+    ensures { λ r. ⌜ r ≡ isBlank a ⌝ }
+{
+    if a.id != 0 {
+        return false;
+    }
+    if a.position != 0 {
+        return false;
+    }
+    if a.step != 0 {
+        return false;
+    }
+    let registers = a.registers;
+    let mut i = 0;
+    while i < 8 {
+        if registers[i] != 0 {
+            return false;
+        }
+        i += 1;
+    }
+    true
 }
 
 // Another record in one slot.

@@ -1,4 +1,4 @@
--- Answers in numbers and words. Assumes nothing.
+-- Answers in numbers and words.
 use mathlib.Core.List.{List, [], _∷_}
 use mathlib.Core.Option.{Option}
 use mathlib.Core.Path.{_≡_, _∙_, ap}
@@ -22,9 +22,12 @@ low-words answer x y z =
     ap (λ (l : List ℕ). put 4 l 8 (z % 2 ^ 32)) (put-mod 4 (put 4 answer 0 x) 4 y) ∙ put-mod 4 (put 4 (put 4 answer 0 x) 4 y) 8 z
 
 pub low-parts : (answer : List ℕ) (x y z u : ℕ)
-    → put 4 (put 4 (put 4 (put 4 answer 12 (x % 2 ^ 32)) 16 (y % 2 ^ 32)) 20 (z % 2 ^ 32)) 24 (u % 2 ^ 32) ≡ puts 4 answer 12 (x ∷ y ∷ z ∷ u ∷ []) 4
+    → put 4 (put 4 (put 4 (put 4 answer 12 (x % 2 ^ 32)) 16 (y % 2 ^ 32)) 20 (z % 2 ^ 32)) 24 (u % 2 ^ 32) ≡ puts 4 answer 12
+    (x ∷ y ∷ z ∷ u ∷ []) 4
 unfolding Records.puts
-low-parts answer x y z u = rw (put-mod 4 answer 12 x, put-mod 4 (put 4 answer 12 x) 16 y, put-mod 4 (put 4 (put 4 answer 12 x) 16 y) 20 z) (put-mod 4 (put 4 (put 4 (put 4 answer 12 x) 16 y) 20 z) 24 u)
+low-parts answer x y z u =
+    rw (put-mod 4 answer 12 x, put-mod 4 (put 4 answer 12 x) 16 y, put-mod 4 (put 4 (put 4 answer 12 x) 16 y) 20 z)
+    (put-mod 4 (put 4 (put 4 (put 4 answer 12 x) 16 y) 20 z) 24 u)
 
 -- a verdict as an answer
 pub judged-accepted : (v : Verdict) (o : Option No) → v ≡ Accepted → v ≡ verdictOf o → judged o ≡ done

@@ -1,4 +1,4 @@
--- What a program in another language is told: a number, and words in the answer buffer. Assumes nothing: these are definitions.
+-- What a program in another language is told: a number, and words in the answer buffer.
 use mathlib.Core.List.{List, [], _∷_}
 use mathlib.Core.Option.{Option, none, some}
 use Prim.Native.Nat.{ℕ}

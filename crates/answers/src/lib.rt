@@ -92,7 +92,7 @@ pub fn judge(v: Verdict) -> Answer
 }
 
 // The records that a call left go back to their bytes. A refused call has left them alone, and bytes that are no record stay so.
-fn write_back(slots: &mut [u8], a: Answer, agents: [Agent; 8])
+pub fn write_back(slots: &mut [u8], a: Answer, agents: [Agent; 8])
     requires { ⌜ length (now slots) ≡ 384 ⌝ }
     ensures { λ _. ⌜ now (slots .exit) ≡ slotsAfter (answerOf a) (now (slots .entry)) agents ⌝ }
     ensures { λ _. ⌜ (accepted (answerOf a) ≡ true → slotsIn (now (slots .exit)) ≡ agents) ⌝ }

@@ -1,4 +1,4 @@
--- An instruction of a workflow that is right and stands inside a block: what the questions say of it. Assumes nothing.
+-- An instruction of a workflow that is right and stands inside a block: what the questions say of it.
 use mathlib.Core.Bool.{Bool, true, false}
 use mathlib.Core.List.{List}
 use mathlib.Core.Path.{_≡_, refl, sym, ap, _∙_, subst}
@@ -16,7 +16,6 @@ use Rattle.questions.proofs.Each.{each-at}
 use Rattle.operation.specs.declared.Operand.the-variants.{Jump}
 use Rattle.operation.specs.Parts.{targetOf}
 use Rattle.operation.specs.Operations.{end, put, operandOf}
-use Rattle.operation.specs.Operations as Operations
 use Rattle.code.specs.Layout.{operationAt, wordAt}
 use Rattle.code.specs.Questions.{insideAt, putsBefore, isNoEnd}
 use Rattle.code.specs.Questions as Questions
@@ -40,7 +39,8 @@ module _ (ops ws : List ℕ) (right : Right ops ws) where
 
     module _ (n : operationAt ops i ≡ end → ⊥) where
       pub inside-next : insideAt ops (suc i) ≡ true
-      inside-next = subst (λ (j : ℕ). insideAt ops j ≡ true) (add-one i) (stays-inside (right .workflow) ops ws i Accepted accepted refl s n)
+      inside-next = subst (λ (j : ℕ). insideAt ops j ≡ true) (add-one i)
+          (stays-inside (right .workflow) ops ws i Accepted accepted refl s n)
 
       pub puts-behind : putsBefore ops (suc i) ≡ putsBefore ops i + putsOf (operationAt ops i)
       puts-behind =
@@ -53,14 +53,17 @@ module _ (ops ws : List ℕ) (right : Right ops ws) where
           go false = sym (add-zero (putsBefore ops i))
 
   -- a stretch with no END stays inside, and has no fewer PUTs behind it
-  pub stretch : (n j : ℕ) → j + n ≤ length ops → insideAt ops j ≡ true → ((k : ℕ) → j ≤ k → k < j + n → isNoEnd ops k ≡ true) → (insideAt ops (j + n) ≡ true) × (putsBefore ops j ≤ putsBefore ops (j + n))
+  pub stretch : (n j : ℕ) → j + n ≤ length ops → insideAt ops j ≡ true → ((k : ℕ) → j ≤ k → k < j + n → isNoEnd ops k ≡ true) →
+      (insideAt ops (j + n) ≡ true) × (putsBefore ops j ≤ putsBefore ops (j + n))
   unfolding Questions.isNoEnd
   stretch zero j h s e = rw (add-zero j) (s, omega arith)
   stretch (suc n) j h s e =
       let m = eqb-false (operationAt ops j) end (not-true (eqb (operationAt ops j) end) (e j (omega arith) (omega arith))) in
       let r = stretch n (suc j) (omega arith) (inside-next j (omega arith) s m) (λ k l l′. e k (omega arith) (omega arith)) in
-      let q : suc j + n ≡ j + suc n = omega arith in
-      (subst (λ (k : ℕ). insideAt ops k ≡ true) q (r .0), subst (λ (k : ℕ). putsBefore ops j ≤ putsBefore ops k) q (omega (arith, r .1, puts-behind j (omega arith) s m)))
+      let q : suc j + n ≡ j + suc n = omega arith in (
+        subst (λ (k : ℕ). insideAt ops k ≡ true) q (r .0),
+        subst (λ (k : ℕ). putsBefore ops j ≤ putsBefore ops k) q (omega (arith, r .1, puts-behind j (omega arith) s m)),
+      )
 
   -- a jump from inside a block passes no END
   pub jump-no-end : (i : ℕ) → i < length ops → insideAt ops i ≡ true → operandOf (operationAt ops i) ≡ Jump →
@@ -71,7 +74,8 @@ module _ (ops ws : List ℕ) (right : Right ops ws) where
       each-at (isNoEnd ops) (targetOf (wordAt ws i) - (i + 1)) (i + 1) q k (omega arith) (omega arith)
 
   -- what the code's step asks for
-  pub fits-here : (x : Running) (w : ℕ) → x .place .position < length ops → Inside ops x → (operationAt ops (x .place .position) ≡ end → ⊥) → w ≡ wordAt ws (x .place .position) → Fits (getD ops (x .place .position) 0) w x
+  pub fits-here : (x : Running) (w : ℕ) → x .place .position < length ops → Inside ops x →
+      (operationAt ops (x .place .position) ≡ end → ⊥) → w ≡ wordAt ws (x .place .position) → Fits (getD ops (x .place .position) 0) w x
   fits-here x w h on n e =
       record {
         known = omega (arith, known-at ops ws right (x .place .position) h, no-return ops ws right (x .place .position) h (on .inside));

@@ -1,5 +1,5 @@
 -- A run inside a block of a workflow that is right: it goes forward, stays inside, has room for its PUTs, and the rules' run goes on as it
--- does. Assumes nothing.
+-- does.
 use mathlib.Core.Bool.{true}
 use mathlib.Core.List.{List, []}
 use mathlib.Core.Logic.{_⊎_, inl, inr}
@@ -10,6 +10,7 @@ use native.Mathlib.Numerals.{add-one}
 use native.Mathlib.Omega.{arith}
 use borrow.Author.Tests.{eqb-true}
 use lib.ListN.{length, getD}
+use Rattle.contents.specs.Contents.{valueIn}
 use Rattle.rules.specs.Instructions.{Instruction, Act, moves, opens, closes, reads, puts, returns, act}
 use Rattle.rules.specs.Shapes.{outside, shape}
 use Rattle.rules.specs.Blocks.{yields, closing, Work, Block, close, within, runFrom, runBlock}
@@ -25,7 +26,6 @@ use Rattle.operation.specs.declared.Operand.{Operand}
 use Rattle.operation.specs.declared.Operand.the-variants.{Any, Below8, Jump, Zero}
 use Rattle.operation.specs.Parts.{targetOf}
 use Rattle.operation.specs.Operations.{begin, end, operandOf}
-use Rattle.operation.specs.Operations as Operations
 use Rattle.code.specs.Layout.{operationAt, wordAt, registerAt}
 use Rattle.code.specs.Questions.{insideAt, putsBefore}
 use Rattle.code.specs.Meaning.{decode, instructionOf, codeOf}
@@ -38,7 +38,6 @@ use Rattle.instruction.specs.Pending.{over, seen, rowsIn, newIn, Kept}
 use Rattle.instruction.specs.Step.{placeOf, workOf, Stepped, putsOf}
 use Rattle.code.specs.Right.{Right}
 use Rattle.block.specs.Run.{blockOf, runOf, Inside}
-use Rattle.block.specs.Through.{tableIn}
 use Rattle.instruction.specs.declared.pending.Pending.{Pending}
 use Rattle.instruction.specs.declared.Running.{Running}
 use Rattle.block.specs.declared.run.Ran.{Ran}
@@ -77,13 +76,18 @@ module _ (d w : ℕ) (rs : List Row) (x : Running) where
 -- ---- one step of the loop
 
 module _ (ops ws : List ℕ) (right : Right ops ws) where
-  module _ (rs : List Row) (x y : Running) (h : x .place .position < length ops) (on : Inside ops x) (n : operationAt ops (x .place .position) ≡ end → ⊥)
-      (t : Stepped (act (instructionOf (getD ops (x .place .position) 0) (wordAt ws (x .place .position))) (placeOf (x .place))) rs x y (putsOf (operationAt ops (x .place .position)))) where
-    lands-at : Lands (registerAt ops (x .place .position)) (wordAt ws (x .place .position)) rs x (operationAt ops (x .place .position)) (y .place .position)
+  module _ (rs : List Row) (x y : Running) (h : x .place .position < length ops) (on : Inside ops x)
+      (n : operationAt ops (x .place .position) ≡ end → ⊥)
+      (t : Stepped (act (instructionOf (getD ops (x .place .position) 0) (wordAt ws (x .place .position))) (placeOf (x .place))) rs x y
+      (putsOf (operationAt ops (x .place .position)))) where
+    lands-at : Lands (registerAt ops (x .place .position)) (wordAt ws (x .place .position)) rs x (operationAt ops (x .place .position))
+        (y .place .position)
     unfolding probe
     lands-at =
-        leads (registerAt ops (x .place .position)) (wordAt ws (x .place .position)) rs x (operationAt ops (x .place .position)) (known-at ops ws right (x .place .position) h)
-        (not-outside ops ws right (x .place .position) h (on .inside) (registerAt ops (x .place .position)) (wordAt ws (x .place .position))) n (y .place .position)
+        leads (registerAt ops (x .place .position)) (wordAt ws (x .place .position)) rs x (operationAt ops (x .place .position))
+        (known-at ops ws right (x .place .position) h)
+        (not-outside ops ws right (x .place .position) h (on .inside) (registerAt ops (x .place .position))
+        (wordAt ws (x .place .position))) n (y .place .position)
         (ap (λ (b : Block). b .newKeys) (t .goes (probe (registerAt ops (x .place .position)) (wordAt ws (x .place .position)) rs x)))
 
     pub record Further : Type 0 where
@@ -99,17 +103,22 @@ module _ (ops ws : List ℕ) (right : Right ops ws) where
         next-few : y .pending .count ≤ putsBefore ops (suc (x .place .position))
         next-few = omega (arith, t .few, on .few, puts-behind ops ws right (x .place .position) h (on .inside) n)
 
-        go : Lands (registerAt ops (x .place .position)) (wordAt ws (x .place .position)) rs x (operationAt ops (x .place .position)) (y .place .position) → Further
+        go : Lands (registerAt ops (x .place .position)) (wordAt ws (x .place .position)) rs x (operationAt ops (x .place .position))
+            (y .place .position) → Further
         go (inl e) =
             record {
               further = omega arith;
               inside = record { inside = rw e next-inside; kept = t .kept; few = rw e next-few };
             }
         go (inr (j, e)) =
-            let a = target-ahead (operandOf (operationAt ops (x .place .position))) (length ops) (x .place .position) (wordAt ws (x .place .position)) j (ranged-at ops ws right (x .place .position) h) in
-            let b = target-below (operandOf (operationAt ops (x .place .position))) (length ops) (x .place .position) (wordAt ws (x .place .position)) j (ranged-at ops ws right (x .place .position) h) in
-            let r = stretch ops ws right (targetOf (wordAt ws (x .place .position)) - suc (x .place .position)) (suc (x .place .position)) (omega arith) next-inside (λ k l l′. jump-no-end ops ws right (x .place .position) h (on .inside) j k l (omega arith)) in
-            let q : suc (x .place .position) + (targetOf (wordAt ws (x .place .position)) - suc (x .place .position)) ≡ y .place .position = omega arith in
+            let a = target-ahead (operandOf (operationAt ops (x .place .position))) (length ops) (x .place .position)
+            (wordAt ws (x .place .position)) j (ranged-at ops ws right (x .place .position) h) in
+            let b = target-below (operandOf (operationAt ops (x .place .position))) (length ops) (x .place .position)
+            (wordAt ws (x .place .position)) j (ranged-at ops ws right (x .place .position) h) in
+            let r = stretch ops ws right (targetOf (wordAt ws (x .place .position)) - suc (x .place .position)) (suc (x .place .position))
+            (omega arith) next-inside (λ k l l′. jump-no-end ops ws right (x .place .position) h (on .inside) j k l (omega arith)) in
+            let q : suc (x .place .position) + (targetOf (wordAt ws (x .place .position)) - suc (x .place .position))
+            ≡ y .place .position = omega arith in
             record {
               further = omega arith;
               inside =
@@ -128,10 +137,12 @@ module _ (ops ws : List ℕ) (right : Right ops ws) where
         let k = length-code ops ws in
         let q : length ops - y .place .position + (m - (length ops - y .place .position)) ≡ m = omega (arith, goes-further .further) in
         ap (λ (a : ℕ). runFrom (codeOf ops ws) a (workOf rs x)) e
-        ∙ ap (λ (i : Instruction). within (act i (placeOf (x .place))) (workOf rs x) (runFrom (codeOf ops ws) m)) (instruction-at ops ws (x .place .position) h)
+        ∙ ap (λ (i : Instruction). within (act i (placeOf (x .place))) (workOf rs x) (runFrom (codeOf ops ws) m))
+        (instruction-at ops ws (x .place .position) h)
         ∙ t .goes (runFrom (codeOf ops ws) m)
         ∙ ap (λ (a : ℕ). runFrom (codeOf ops ws) a (workOf rs y)) (sym q)
-        ∙ sym (enough (codeOf ops ws) (right-checked ops ws right (omega arith)) (length ops - y .place .position) (m - (length ops - y .place .position)) (workOf rs y) (omega arith))
+        ∙ sym (enough (codeOf ops ws) (right-checked ops ws right (omega arith)) (length ops - y .place .position)
+        (m - (length ops - y .place .position)) (workOf rs y) (omega arith))
 
   -- ---- where the loop ends
 
@@ -140,31 +151,37 @@ module _ (ops ws : List ℕ) (right : Right ops ws) where
     closed v e = λ i. record { table = tableOf (seen (rowsIn (pending i)) rs); newKeys = newIn (pending i) rs; result = yields (e i) }
 
     -- at END
-    pub run-ends : x .place .position < length ops → operationAt ops (x .place .position) ≡ end → (d : ℕ) → d ≡ registerAt ops (x .place .position) → r .result ≡ getD (x .place .registers) d 0 → blockOf rs r ≡ runOf ops ws rs x
+    pub run-ends : x .place .position < length ops → operationAt ops (x .place .position) ≡ end → (d : ℕ) →
+        d ≡ registerAt ops (x .place .position) → r .result ≡ getD (x .place .registers) d 0 → blockOf rs r ≡ runOf ops ws rs x
     unfolding Blocks.runFrom Instructions.actAt Instructions.act Blocks.within Meaning.decode
     run-ends h o d p e =
         let q : length ops - x .place .position ≡ suc (length ops - suc (x .place .position)) = omega arith in
         closed (getD (x .place .registers) d 0) e
         ∙ sym
         (ap (λ (a : ℕ). runFrom (codeOf ops ws) a (workOf rs x)) q
-        ∙ ap (λ (i : Instruction). within (act i (placeOf (x .place))) (workOf rs x) (runFrom (codeOf ops ws) (length ops - suc (x .place .position)))) (instruction-at ops ws (x .place .position) h)
+        ∙ ap (λ (i : Instruction). within (act i (placeOf (x .place))) (workOf rs x)
+        (runFrom (codeOf ops ws) (length ops - suc (x .place .position)))) (instruction-at ops ws (x .place .position) h)
         ∙ rw (o, ← p) refl)
 
     -- past the last instruction
     pub run-none : length ops ≤ x .place .position → r .result ≡ 0 → blockOf rs r ≡ runOf ops ws rs x
-    run-none h e = closed 0 e ∙ sym (past (codeOf ops ws) (workOf rs x) (length ops - x .place .position) (omega (arith, length-code ops ws)))
+    run-none h e = closed 0 e
+        ∙ sym (past (codeOf ops ws) (workOf rs x) (length ops - x .place .position) (omega (arith, length-code ops ws)))
 
 -- ---- where the loop starts
 
-module _ (ops ws : List ℕ) (rs : List Row) (first : ℕ) (registers : List ℕ) (p : Pending) (kept : Kept p) (none-yet : rowsIn p ≡ []) (zero-yet : p .count ≡ 0) where
+module _ (ops ws : List ℕ) (rs : List Row) (first : ℕ) (registers : List ℕ) (p : Pending) (kept : Kept p) (none-yet : rowsIn p ≡ [])
+    (zero-yet : p .count ≡ 0) where
   abbrev pub started : Running
   started = record { place = record { position = first + 1; registers = registers }; pending = p }
 
   pub starts-inside : operationAt ops first ≡ begin → Inside ops started
   starts-inside e = record { inside = begins ops first e; kept = kept; few = omega (arith, zero-yet) }
 
-  pub starts : runOf ops ws rs started ≡ runBlock (codeOf ops ws) (record { position = first; registers = registers }) (tableIn rs)
+  pub starts : runOf ops ws rs started ≡ runBlock (codeOf ops ws) (record { position = first; registers = registers })
+      (tableOf (valueIn rs))
   unfolding Blocks.runBlock over Rows.lookup Rows.countNew Rows.keysIn
   starts =
-      ap (λ (ps : List Row). runFrom (codeOf ops ws) (length ops - (first + 1)) (record { place = placeOf (started .place); table = tableOf (seen ps rs); newKeys = countNew (keysIn ps) rs })) none-yet
+      ap (λ (ps : List Row). runFrom (codeOf ops ws) (length ops - (first + 1))
+      (record { place = placeOf (started .place); table = tableOf (seen ps rs); newKeys = countNew (keysIn ps) rs })) none-yet
       ∙ rw (add-one first, ← length-code ops ws) refl

@@ -1,4 +1,4 @@
--- The writes of a block: its pending rows and its log row. Assumes nothing.
+-- The writes of a block: its pending rows and its log row.
 use mathlib.Core.Bool.{Bool, true, false}
 use mathlib.Core.List.{List, [], _∷_}
 use mathlib.Core.Option.{Option, none, some}
@@ -8,15 +8,16 @@ use native.Mathlib.Omega.{arith}
 use borrow.Author.Tests.{eq-eqb, ne-eqb, eqb-true, eqb-false, ltb-true, lt-ltb, le-leb, lt-leb}
 use lib.Dec.{eqb, ltb}
 use lib.ListN.{length, getD, take}
+use Rattle.contents.specs.Contents.{valueIn}
 use Rattle.questions.specs.Basics.{if_then_else_, update}
 use Rattle.rules.specs.Blocks.{Block, rowsNeeded}
-use Rattle.keys.specs.Keys.{logKey, isDataKey, isLogKey, tableOf, logOf}
+use Rattle.keys.specs.Keys.{logKey, isDataKey, isLogKey, tableOf, logOf, isForm}
 use Rattle.questions.proofs.Tests.{yes-no, and-left, and-right, and-both}
 use Rattle.keys.proofs.Keys.{log-is, data-bounds, log-bounds, log-no-data, log-put, log-put-data}
 use Rattle.store.specs.Rows.{Row, pairs, lookup, insertAt, putRow, putAll, newRows, countNew, rowsOf, keysIn}
 use Rattle.store.specs.Rows as Rows
 use Rattle.store.specs.Layout.{partsOf, capOf}
-use Rattle.store.specs.Questions.{isForm, ahead, rising, allIn, keysOk}
+use Rattle.store.specs.Questions.{ahead, rising, allIn, keysOk}
 use Rattle.store.specs.Sound.{Stored, StoredIfRoom, Sound}
 use Rattle.store.specs.Answers.{foundIn}
 use Rattle.store.specs.declared.rows.Found.the-variants.{At, Belongs}
@@ -27,7 +28,7 @@ use Rattle.store.proofs.Search.{at-lookup, no-lookup, changed-parts, changed-ca
 use Rattle.store.proofs.Sound.{length-put-all, log-form}
 use Rattle.instruction.specs.Pending.{over, seen, rowsIn, newIn, Sized, Kept}
 use Rattle.block.specs.Run.{blockOf}
-use Rattle.block.specs.Through.{logIn, hasRoom, Committed, Through}
+use Rattle.block.specs.Through.{hasRoom, Committed, Through}
 use Rattle.instruction.specs.declared.pending.Pending.{Pending}
 use Rattle.block.specs.declared.run.Ran.{Ran}
 use Rattle.block.specs.declared.write.BlockOutcome.{BlockOutcome}
@@ -48,7 +49,8 @@ put-all-seen (r ∷ ps) rs j u =
     go true e =
         let q : r .0 ≡ j = eqb-true (r .0) j e in
         let none-there : lookup j ps ≡ none = ap (λ (k : ℕ). lookup k ps) (sym q) ∙ rises-none (r .0) ps u in
-        let new-there : lookup j (putRow (r .0) (r .1) rs) ≡ some (r .1) = ap (λ (k : ℕ). lookup k (putRow (r .0) (r .1) rs)) (sym q) ∙ lookup-put-same (r .0) (r .1) rs in
+        let new-there : lookup j (putRow (r .0) (r .1) rs) ≡ some (r .1) =
+        ap (λ (k : ℕ). lookup k (putRow (r .0) (r .1) rs)) (sym q) ∙ lookup-put-same (r .0) (r .1) rs in
         rw (e, none-there, new-there) refl
     go false e = rw (e, lookup-put-other (r .0) (r .1) j rs (λ (q : j ≡ r .0). eqb-false (r .0) j e (sym q))) refl
 
@@ -77,18 +79,20 @@ log-ahead k [] l a u = refl
 log-ahead k (x ∷ ks) l a u =
     and-both (ltb k x) _ (lt-ltb k x (omega (arith, log-bounds k l, data-bounds x (and-left (isDataKey x) _ a)))) u
 
-log-at : (rs : List Row) (id t : ℕ) → id < 2 ^ 32 → t < 65536 → logIn rs id t ≡ lookup (logKey id t) rs
+log-at : (rs : List Row) (id t : ℕ) → id < 2 ^ 32 → t < 65536 → logOf (valueIn rs) id t ≡ lookup (logKey id t) rs
 log-at rs id t h g = rw (lt-ltb id (2 ^ 32) h, lt-ltb t 65536 g) refl
 
 -- the log row by the search for it
-pub log-none : (rs : List Row) (id t i : ℕ) → id < 2 ^ 32 → t < 65536 → foundIn (logKey id t) (keysIn rs) ≡ Belongs i → logIn rs id t ≡ none
+pub log-none : (rs : List Row) (id t i : ℕ) → id < 2 ^ 32 → t < 65536 → foundIn (logKey id t) (keysIn rs) ≡ Belongs i →
+    logOf (valueIn rs) id t ≡ none
 log-none rs id t i h g e = log-at rs id t h g ∙ no-lookup (logKey id t) rs i e
 
-pub log-some : (rs : List Row) (id t i : ℕ) → id < 2 ^ 32 → t < 65536 → foundIn (logKey id t) (keysIn rs) ≡ At i → logIn rs id t ≡ some (getD rs i (0, 0) .1)
+pub log-some : (rs : List Row) (id t i : ℕ) → id < 2 ^ 32 → t < 65536 → foundIn (logKey id t) (keysIn rs) ≡ At i →
+    logOf (valueIn rs) id t ≡ some (getD rs i (0, 0) .1)
 log-some rs id t i h g e = log-at rs id t h g ∙ at-lookup (logKey id t) rs i e
 
 -- the pending rows hide no log row
-log-same : (q : Pending) → Kept q → (rs : List Row) (id t : ℕ) → logOf (seen (rowsIn q) rs) id t ≡ logIn rs id t
+log-same : (q : Pending) → Kept q → (rs : List Row) (id t : ℕ) → logOf (seen (rowsIn q) rs) id t ≡ logOf (valueIn rs) id t
 unfolding over
 log-same q kept rs id t = go (ltb id (2 ^ 32)) (ltb t 65536) refl refl
   where
@@ -146,7 +150,7 @@ module _ (r : Ran) (kept : Kept (r .pending)) (id t v : ℕ) (h : id < 2 ^ 32) (
       put-all-seen (rowsIn q) rs j (rw (keys-here q sized) keys-rise)
       ∙ ap (λ (ps : List Row). seen ps rs j) rows-are ∙ first-seen (logKey id t) v (rowsIn (r .pending)) rs j
 
-  pub length-out : (rs : List Row) → keysOk false (keysIn rs) ≡ true → logIn rs id t ≡ none
+  pub length-out : (rs : List Row) → keysOk false (keysIn rs) ≡ true → logOf (valueIn rs) id t ≡ none
       → length (putAll out rs) ≡ length rs + (1 + newIn (r .pending) rs)
   unfolding Rows.countNew Rows.newRows
   length-out rs good new =
@@ -168,13 +172,15 @@ module _ (xs ys : List ℕ) (p : ℕ) (r : Ran) (kept : Kept (r .pending)) (id t
       fun-ext {f = λ j. lookup j (rowsOf ys p)} {g = update after (logKey id t) (some (r .result))}
       (λ j. ap (lookup j) (changed-here xs ys p _ (s .is)) ∙ seen-out r kept id t (r .result) h g q sized e (rowsOf xs p) j)
 
-  log-whole : logOf after ≡ logIn (rowsOf xs p)
-  log-whole = fun-ext {f = logOf after} {g = logIn (rowsOf xs p)} (λ i. fun-ext {f = logOf after i} {g = logIn (rowsOf xs p) i} (λ u. log-same (r .pending) kept (rowsOf xs p) i u))
+  log-whole : logOf after ≡ logOf (valueIn (rowsOf xs p))
+  log-whole = fun-ext {f = logOf after} {g = logOf (valueIn (rowsOf xs p))}
+      (λ i. fun-ext {f = logOf after i} {g = logOf (valueIn (rowsOf xs p)) i} (λ u. log-same (r .pending) kept (rowsOf xs p) i u))
 
   abbrev with-row : (ℕ → ℕ → Option ℕ) → ℕ → ℕ → Option ℕ
   with-row l = update l id (update (l id) t (some (r .result)))
 
-  pub committed : keysOk false (keysIn (rowsOf xs p)) ≡ true → logIn (rowsOf xs p) id t ≡ none → Committed xs ys p id t (blockOf (rowsOf xs p) r)
+  pub committed : keysOk false (keysIn (rowsOf xs p)) ≡ true → logOf (valueIn (rowsOf xs p)) id t ≡ none →
+      Committed xs ys p id t (blockOf (rowsOf xs p) r)
   committed good new =
       record {
         sound = s .sound;
@@ -186,7 +192,9 @@ module _ (xs ys : List ℕ) (p : ℕ) (r : Ran) (kept : Kept (r .pending)) (id t
             (log-put-data after (r .result) id t h g);
         log =
             ap logOf looked
-            ∙ fun-ext {f = logOf (update after (logKey id t) (some (r .result)))} {g = with-row (logOf after)} (λ i. fun-ext {f = logOf (update after (logKey id t) (some (r .result))) i} {g = with-row (logOf after) i} (λ u. log-put after (r .result) id t h g i u))
+            ∙ fun-ext {f = logOf (update after (logKey id t) (some (r .result)))} {g = with-row (logOf after)}
+            (λ i. fun-ext {f = logOf (update after (logKey id t) (some (r .result))) i} {g = with-row (logOf after) i}
+            (λ u. log-put after (r .result) id t h g i u))
             ∙ ap with-row log-whole;
         used = ap length (changed-here xs ys p _ (s .is)) ∙ length-out r kept id t (r .result) h g q sized e (rowsOf xs p) good new;
         others = λ o n. changed-there xs ys p _ (s .is) o n;
@@ -197,26 +205,33 @@ module _ (xs ys : List ℕ) (p : ℕ) (r : Ran) (kept : Kept (r .pending)) (id t
 -- A block's rows, by the answer of their write: written if question 21 says yes, else nothing is changed.
 module _ (xs ys : List ℕ) (p : ℕ) (r : Ran) (kept : Kept (r .pending)) (id t : ℕ) (h : id < 2 ^ 32) (g : t < 65536) (q : Pending)
     (sized : Sized q) (e : rowsIn q ≡ insertAt (rowsIn (r .pending)) 0 (logKey id t, r .result))
-    (good : keysOk false (keysIn (rowsOf xs p)) ≡ true) (new : logIn (rowsOf xs p) id t ≡ none) where
-  count : length (putAll (pairs (take (q .count) (q .keys)) (take (q .count) (q .values))) (rowsOf xs p)) ≡ length (rowsOf xs p) + rowsNeeded (blockOf (rowsOf xs p) r)
+    (good : keysOk false (keysIn (rowsOf xs p)) ≡ true) (new : logOf (valueIn (rowsOf xs p)) id t ≡ none) where
+  count : length (putAll (pairs (take (q .count) (q .keys)) (take (q .count) (q .values))) (rowsOf xs p)) ≡ length
+      (rowsOf xs p) + rowsNeeded (blockOf (rowsOf xs p) r)
   count = length-out r kept id t (r .result) h g q sized e (rowsOf xs p) good new
 
-  pub written : StoredIfRoom xs ys p (putAll (pairs (take (q .count) (q .keys)) (take (q .count) (q .values)))) true → Through xs ys p id t (blockOf (rowsOf xs p) r) (Result (r .result)) none
+  pub written : StoredIfRoom xs ys p (putAll (pairs (take (q .count) (q .keys)) (take (q .count) (q .values)))) true →
+      Through xs ys p id t (blockOf (rowsOf xs p) r) (Result (r .result)) none
   unfolding Sounds.StoredIfRoom Through
   written s =
-      let yes : hasRoom xs p (blockOf (rowsOf xs p) r) ≡ true = le-leb (length (rowsOf xs p) + rowsNeeded (blockOf (rowsOf xs p) r)) (capOf xs) (omega (arith, s .0, count)) in
+      let yes : hasRoom xs p (blockOf (rowsOf xs p) r) ≡ true =
+      le-leb (length (rowsOf xs p) + rowsNeeded (blockOf (rowsOf xs p) r)) (capOf xs) (omega (arith, s .0, count)) in
       rw yes (refl, committed xs ys p r kept id t h g q sized e (s .1) good new)
 
-  pub no-room : StoredIfRoom xs ys p (putAll (pairs (take (q .count) (q .keys)) (take (q .count) (q .values)))) false → Through xs ys p id t (blockOf (rowsOf xs p) r) NoRoom none
+  pub no-room : StoredIfRoom xs ys p (putAll (pairs (take (q .count) (q .keys)) (take (q .count) (q .values)))) false →
+      Through xs ys p id t (blockOf (rowsOf xs p) r) NoRoom none
   unfolding Sounds.StoredIfRoom Through
   no-room s =
-      let full : hasRoom xs p (blockOf (rowsOf xs p) r) ≡ false = lt-leb (length (rowsOf xs p) + rowsNeeded (blockOf (rowsOf xs p) r)) (capOf xs) (omega (arith, s .0, count)) in
+      let full : hasRoom xs p (blockOf (rowsOf xs p) r) ≡ false =
+      lt-leb (length (rowsOf xs p) + rowsNeeded (blockOf (rowsOf xs p) r)) (capOf xs) (omega (arith, s .0, count)) in
       rw full (refl, s .1)
 
 -- what is shown of the block that the code ran holds of the rules' block
-pub same-block : (xs ys : List ℕ) (p id t : ℕ) (b b′ : Block) (r : BlockOutcome) → b ≡ b′ → Through xs ys p id t b r none → Through xs ys p id t b′ r none
+pub same-block : (xs ys : List ℕ) (p id t : ℕ) (b b′ : Block) (r : BlockOutcome) → b ≡ b′ → Through xs ys p id t b r none →
+    Through xs ys p id t b′ r none
 same-block xs ys p id t b b′ r e = subst (λ (a : Block). Through xs ys p id t a r none) e
 
-pub through-logged : (xs ys : List ℕ) (p id t : ℕ) (b : Block) (o : Option ℕ) (v : ℕ) → o ≡ some v → ys ≡ xs → Through xs ys p id t b (Result v) o
+pub through-logged : (xs ys : List ℕ) (p id t : ℕ) (b : Block) (o : Option ℕ) (v : ℕ) → o ≡ some v → ys ≡ xs →
+    Through xs ys p id t b (Result v) o
 unfolding Through
 through-logged xs ys p id t b o v q c = rw q (refl, c)

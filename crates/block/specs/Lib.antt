@@ -1,3 +1,2 @@
 pub mod Run
 pub mod Through
-pub mod Store

@@ -1,4 +1,4 @@
--- The run of a block from where it stands to END, as the rules have it. Assumes nothing: these are definitions.
+-- The run of a block from where it stands to END, as the rules have it.
 use mathlib.Core.Bool.{true}
 use mathlib.Core.List.{List}
 use mathlib.Core.Path.{_≡_}

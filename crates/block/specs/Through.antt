@@ -1,5 +1,5 @@
--- What a block comes to, and what it leaves of the store's bytes. Assumes nothing: these are definitions.
-use mathlib.Core.Bool.{Bool}
+-- What a block comes to, and what it leaves of the store's bytes.
+use mathlib.Core.Bool.{Bool, true, false}
 use mathlib.Core.List.{List}
 use mathlib.Core.Logic.{_≢_}
 use mathlib.Core.Option.{Option, none, some}
@@ -7,11 +7,12 @@ use mathlib.Core.Path.{_≡_}
 use Prim.Native.Nat.{ℕ, _+_, _<_}
 use lib.Dec.{leb}
 use lib.ListN.{length}
+use Rattle.contents.specs.Contents.{valueIn}
 use Rattle.questions.specs.Basics.{if_then_else_, update}
-use Rattle.rules.specs.Blocks.{Table, Block, yields, runBlock, rowsNeeded}
+use Rattle.rules.specs.Blocks.{Block, yields, runBlock, rowsNeeded}
 use Rattle.rules.specs.Blocks as Rules
 use Rattle.keys.specs.Keys.{tableOf, logOf}
-use Rattle.store.specs.Rows.{Row, lookup, rowsOf}
+use Rattle.store.specs.Rows.{rowsOf}
 use Rattle.store.specs.Layout.{partsOf, capOf}
 use Rattle.store.specs.Sound.{Sound}
 use Rattle.operation.specs.Operations as Operations
@@ -28,14 +29,6 @@ outcomeOf (yields v) = Result v
 abbrev pub loggedValue : Rules.Result → ℕ
 loggedValue (yields v) = v
 
--- the table of data that a partition's rows stand for
-abbrev pub tableIn : (rs : List Row) → Table
-tableIn rs = tableOf (λ j. lookup j rs)
-
--- the log that they stand for
-abbrev pub logIn : (rs : List Row) → (id step : ℕ) → Option ℕ
-logIn rs = logOf (λ j. lookup j rs)
-
 -- BEGIN at `begin` opens a block of partition p, in a workflow that is right, over a sound store
 pub record Ready (ops ws xs : List ℕ) (p begin : ℕ) : Type 0 where
   pub right : Right ops ws
@@ -47,7 +40,7 @@ pub record Ready (ops ws xs : List ℕ) (p begin : ℕ) : Type 0 where
 -- the rules' run of that block, on the table of partition p
 abbrev pub blockAt : (ops ws xs : List ℕ) (p begin : ℕ) → (registers : List ℕ) → Block
 blockAt ops ws xs p begin registers =
-    runBlock (codeOf ops ws) (record { position = begin; registers = registers }) (tableIn (rowsOf xs p))
+    runBlock (codeOf ops ws) (record { position = begin; registers = registers }) (tableOf (valueIn (rowsOf xs p)))
 
 -- 21. Has a block that isn't logged enough free rows: one, plus one per different new key it PUTs?
 abbrev pub hasRoom : (xs : List ℕ) (p : ℕ) → Block → Bool
@@ -58,8 +51,9 @@ pub record Committed (xs ys : List ℕ) (p id t : ℕ) (b : Block) : Type 0 wher
   pub sound : Sound ys
   pub parts : partsOf ys ≡ partsOf xs
   pub cap : capOf ys ≡ capOf xs
-  pub table : tableIn (rowsOf ys p) ≡ b .table
-  pub log : logIn (rowsOf ys p) ≡ update (logIn (rowsOf xs p)) id (update (logIn (rowsOf xs p) id) t (some (loggedValue (b .result))))
+  pub table : tableOf (valueIn (rowsOf ys p)) ≡ b .table
+  pub log : logOf (valueIn (rowsOf ys p)) ≡ update (logOf (valueIn (rowsOf xs p))) id
+      (update (logOf (valueIn (rowsOf xs p)) id) t (some (loggedValue (b .result))))
   pub used : length (rowsOf ys p) ≡ length (rowsOf xs p) + rowsNeeded b
   pub others : (q : ℕ) → q ≢ p → rowsOf ys q ≡ rowsOf xs q
 
@@ -69,3 +63,8 @@ unfoldable pub Through : (xs ys : List ℕ) (p id t : ℕ) → Block → BlockOu
 Through xs ys p id t b r (some v) = (r ≡ Result v) × (ys ≡ xs)
 Through xs ys p id t b r none =
     if hasRoom xs p b then ((r ≡ outcomeOf (b .result)) × Committed xs ys p id t b) else ((r ≡ NoRoom) × (ys ≡ xs))
+
+-- had the block room, by what it came to?
+abbrev pub hadRoom : BlockOutcome → Bool
+hadRoom (Result v) = true
+hadRoom NoRoom = false

@@ -20,7 +20,7 @@ pub struct Ran {
     pub pending: Pending,
 }
 
-// From a place inside a block until END. A workflow that passes the check yes-no runs past its last instruction.
+// From a place inside a block until END. A workflow that passes the check never runs past its last instruction.
 fn run_on(ops: &[u8], operands: &[u8], store: &[u8], partition: usize, start: Running) -> Ran
     requires { ⌜ Right (now ops) (now operands) × Sound (now store) × (partition ≤ partsOf (now store)) × Inside (now ops) start ⌝ }
     ensures { λ r. ⌜ Kept (r .pending) × (blockOf (rowsOf (now (store .entry)) partition) r ≡ runOf (now (ops .entry)) (now (operands .entry)) (rowsOf (now (store .entry)) partition) start) ⌝ }

@@ -2,7 +2,8 @@
 ghost use mathlib.Core.Option.{none};
 ghost use mathlib.Core.Path.{_≡_};
 ghost use Prim.Native.Nat.{_<_};
-ghost use Rattle.keys.specs.Keys.{logKey};
+ghost use Rattle.contents.specs.Contents.{valueIn};
+ghost use Rattle.keys.specs.Keys.{logKey, logOf};
 ghost use Rattle.store.specs.Layout.{partsOf};
 ghost use Rattle.store.specs.Rows.{rowsOf, keysIn};
 ghost use Rattle.store.specs.Answers.{foundIn};
@@ -10,8 +11,7 @@ ghost use Rattle.store.specs.Sound.{Sound};
 ghost use Rattle.store.specs.declared.rows.Found.the-variants.{Belongs};
 ghost use Rattle.instruction.specs.Pending.{Kept};
 ghost use Rattle.block.specs.Run.{blockOf};
-ghost use Rattle.block.specs.Through.{logIn, Ready, blockAt, Through};
-use crate::log::log_key;
+ghost use Rattle.block.specs.Through.{Ready, blockAt, Through};
 use crate::log::log_row;
 use crate::run::Ran;
 use crate::run::run;
@@ -37,7 +37,7 @@ fn commit(
     requires { ⌜ Sound (now store) × (partition < partsOf (now store)) × Kept (ran .pending) × (foundIn (logKey id step) (keysIn (rowsOf (now store) partition)) ≡ Belongs place) ⌝ }
     ensures { λ r. ⌜ Through (now (store .entry)) (now (store .exit)) partition id step (blockOf (rowsOf (now (store .entry)) partition) ran) r none ⌝ }
 {
-    let log = log_key(id, step);
+    let log = keys::log_key(id, step);
     let pending = ran.pending;
     let rows = insert_row(pending, 0, log, ran.result);
     let n = rows.count;
@@ -81,7 +81,7 @@ pub fn through_block(
     step: u16,
 ) -> BlockOutcome
     requires { ⌜ Ready (now ops) (now operands) (now store) partition begin ⌝ }
-    ensures { λ r. ⌜ Through (now (store .entry)) (now (store .exit)) partition id step (blockAt (now (ops .entry)) (now (operands .entry)) (now (store .entry)) partition begin registers) r (logIn (rowsOf (now (store .entry)) partition) id step) ⌝ }
+    ensures { λ r. ⌜ Through (now (store .entry)) (now (store .exit)) partition id step (blockAt (now (ops .entry)) (now (operands .entry)) (now (store .entry)) partition begin registers) r (logOf (valueIn (rowsOf (now (store .entry)) partition)) id step) ⌝ }
 {
     let f = log_row(store, partition, id, step);
     match f {

@@ -1,32 +1,30 @@
--- A request booked: what the book's rows are then, and what they mean. Assumes nothing.
-use mathlib.Core.Bool.{Bool, true, false, _&&_, _||_}
+-- A request booked: what the book's rows are then, and what they mean.
+use mathlib.Core.Bool.{Bool, true, false, _&&_}
 use mathlib.Core.List.{List, [], _∷_}
 use mathlib.Core.Logic.{_≢_}
 use mathlib.Core.Option.{Option, none, some, Option·getD}
-use mathlib.Core.Path.{_≡_, refl, sym, _∙_, ap, ap₂, subst, fun-ext}
-use Prim.Native.Nat.{ℕ, zero, suc, _+_, _*_, _/_, _^_, _≤_, _<_}
-use native.Mathlib.Nat.{add-zero}
+use mathlib.Core.Path.{_≡_, refl, sym, _∙_, ap, subst, fun-ext, ap₂}
+use Prim.Native.Nat.{ℕ, zero, suc, _+_, _/_, _^_, _≤_, _<_}
 use native.Mathlib.Decide.{ℕ-discrete}
 use native.Mathlib.Omega.{arith}
 use borrow.Author.Tests.{lt-ltb, le-leb, lt-leb, eq-eqb, ne-eqb, eqb-true}
 use lib.Dec.{eqb, ltb}
 use lib.ListN.{length, getD}
+use Rattle.contents.specs.Wrote.{Wrote}
+use Rattle.contents.specs.Contents.{contentsOf, valueIn, argumentsOf, requestOf, bookOf, bookRows}
 use Rattle.questions.specs.Basics.{if_then_else_, update, isSome}
-use Rattle.keys.specs.Keys.{bookKey}
+use Rattle.keys.specs.Keys.{bookKey, isForm, bookKeys}
 use Rattle.questions.specs.Questions.{No, number}
 use Rattle.questions.specs.Questions as Questions
 use Rattle.questions.specs.Verdicts.{verdictOf}
 use Rattle.questions.specs.declared.Verdict.{Verdict}
-use Rattle.questions.specs.declared.Verdict.the-variants.{Refused}
-use Rattle.rules.specs.Store.{Request, Store, booked, sameArguments, sameRequest}
-use Rattle.rules.specs.Calls.{gives, withSlot, start}
+use Rattle.rules.specs.Store.{Request, Store, booked, sameArguments, sameRequest, withBook}
 use Rattle.rules.specs.Calls as Calls
 use Rattle.questions.proofs.Updates.{update-same, update-other, none-some, false-true}
 use Rattle.questions.proofs.Tests.{and-left, and-right}
-use Rattle.questions.proofs.Questions.{ask-none}
 use Rattle.store.specs.Rows.{Row, lookup, pairs, putAll, newRows, countNew, rowsOf, storeOf, keysIn}
 use Rattle.store.specs.Layout.{partsOf, capOf}
-use Rattle.store.specs.Questions.{member, unlike, ahead, rising, five, allIn, bookOk, isForm, storeRefusal, keysOk}
+use Rattle.store.specs.Questions.{member, unlike, ahead, rising, five, allIn, bookOk, storeRefusal, keysOk}
 use Rattle.store.specs.Sound as Sounds
 use Rattle.store.specs.Sound.{Sound, Stored, StoredIfRoom}
 use Rattle.store.specs.Answers.{foundIn}
@@ -35,34 +33,20 @@ use Rattle.store.specs.Questions as StoreQuestions
 use Rattle.store.proofs.Lists.{lookup-put-same, lookup-put-other}
 use Rattle.store.proofs.Sound.{book-five, length-put-all, book-form, store-ok, store-passes, all-members, five-all}
 use Rattle.store.proofs.Search.{at-lookup, no-lookup, changed-parts, changed-cap, changed-here}
-use Rattle.pack.specs.Meaning.{packOf}
-use Rattle.agents.specs.declared.Agent.{Agent}
-use Rattle.agents.specs.declared.Outcome.{Outcome}
 use Rattle.agents.specs.declared.Answer.the-variants as Answers
-use Rattle.agents.specs.Answers.{answerOf, outcome}
-use Rattle.agents.proofs.Answers.{refused-some}
-use Rattle.meaning.specs.State.{contentsOf, stateOf, valueIn, argumentsOf, requestOf, bookOf}
-use Rattle.meaning.specs.Questions.{bookRows, lentFor}
-use Rattle.meaning.specs.Carried.{Wrote, Carried}
-use Rattle.meaning.proofs.Book.{book-row}
-use Rattle.meaning.proofs.Contents.{contents-book}
-use Rattle.store.proofs.Order.{rising-unlike}
-use Rattle.meaning.proofs.Equal.{only-bytes}
-use Rattle.meaning.proofs.Carry.{wrote-nothing, carried-refused, refused-by}
-use Rattle.booking.specs.Booking.{bookKeys, bookValues, withRequest, bookRefusal, ensured, Booked}
+use Rattle.contents.proofs.Book.{book-row}
+use Rattle.contents.proofs.Contents.{contents-book}
+use Rattle.store.proofs.Order.{rising-unlike, member-is}
+use Rattle.contents.proofs.Equal.{only-bytes, wrote-nothing}
+use Rattle.booking.specs.Booking.{withRequest, bookRefusal, ensured, Booked}
 
--- ── members and rows ──
+-- ── the rows of a request ──
 
-pub member-is : (k : ℕ) (rows : List Row) → member k (keysIn rows) ≡ isSome (lookup k rows)
-unfolding member keysIn lookup
-member-is k [] = refl
-member-is k (r ∷ rows) = go (eqb (r .0) k) (member-is k rows)
-  where
-    go : (b : Bool) → member k (keysIn rows) ≡ isSome (lookup k rows) → (b || member k (keysIn rows)) ≡ isSome (if_then_else_ b (some (r .1)) (lookup k rows))
-    go true e = refl
-    go false e = e
+-- a request of four arguments
+abbrev request : (w a0 a1 a2 a3 : ℕ) → Request
+request w a0 a1 a2 a3 = record { workflow = w; arguments = a0 ∷ a1 ∷ a2 ∷ a3 ∷ [] }
 
-keys-rise : (id : ℕ) → rising (bookKeys id) ≡ true
+pub keys-rise : (id : ℕ) → rising (bookKeys id) ≡ true
 unfolding rising ahead
 keys-rise id =
     rw (
@@ -91,23 +75,26 @@ keys-formed id h =
 -- the book's keys are book keys
 pub book-keys : (xs : List ℕ) → Sound xs → keysOk true (keysIn (bookRows xs)) ≡ true
 unfolding Sounds.KeysGood
-book-keys xs s = subst (λ (b : Bool). keysOk b (keysIn (bookRows xs)) ≡ true) (eq-eqb (partsOf xs) (partsOf xs) refl) (s .keys (partsOf xs) (omega arith))
+book-keys xs s = subst (λ (b : Bool). keysOk b (keysIn (bookRows xs)) ≡ true) (eq-eqb (partsOf xs) (partsOf xs) refl)
+    (s .keys (partsOf xs) (omega arith))
 
 module _ (id w a0 a1 a2 a3 : ℕ) (rows : List Row) where
   abbrev after : List Row
-  after = withRequest id w a0 a1 a2 a3 rows
+  after = withRequest id (request w a0 a1 a2 a3) rows
 
   -- the five rows, and all others
   pub row-0 : lookup (bookKey id 0) after ≡ some w
   unfolding pairs putAll
   row-0 =
-      lookup-put-other _ _ _ _ (λ e. omega arith) ∙ lookup-put-other _ _ _ _ (λ e. omega arith) ∙ lookup-put-other _ _ _ _ (λ e. omega arith)
+      lookup-put-other _ _ _ _ (λ e. omega arith) ∙ lookup-put-other _ _ _ _ (λ e. omega arith)
+      ∙ lookup-put-other _ _ _ _ (λ e. omega arith)
       ∙ lookup-put-other _ _ _ _ (λ e. omega arith) ∙ lookup-put-same _ _ _
 
   pub row-1 : lookup (bookKey id 1) after ≡ some a0
   unfolding pairs putAll
   row-1 =
-      lookup-put-other _ _ _ _ (λ e. omega arith) ∙ lookup-put-other _ _ _ _ (λ e. omega arith) ∙ lookup-put-other _ _ _ _ (λ e. omega arith) ∙ lookup-put-same _ _ _
+      lookup-put-other _ _ _ _ (λ e. omega arith) ∙ lookup-put-other _ _ _ _ (λ e. omega arith)
+      ∙ lookup-put-other _ _ _ _ (λ e. omega arith) ∙ lookup-put-same _ _ _
 
   pub row-2 : lookup (bookKey id 2) after ≡ some a1
   unfolding pairs putAll
@@ -124,11 +111,13 @@ module _ (id w a0 a1 a2 a3 : ℕ) (rows : List Row) where
   pub row-other : (k : ℕ) → k / 8 ≢ id → lookup k after ≡ lookup k rows
   unfolding pairs putAll
   row-other k n =
-      lookup-put-other _ _ _ _ (λ e. n (omega arith)) ∙ lookup-put-other _ _ _ _ (λ e. n (omega arith)) ∙ lookup-put-other _ _ _ _ (λ e. n (omega arith))
+      lookup-put-other _ _ _ _ (λ e. n (omega arith)) ∙ lookup-put-other _ _ _ _ (λ e. n (omega arith))
+      ∙ lookup-put-other _ _ _ _ (λ e. n (omega arith))
       ∙ lookup-put-other _ _ _ _ (λ e. n (omega arith)) ∙ lookup-put-other _ _ _ _ (λ e. n (omega arith))
 
   -- the book has one request more
-  pub book-after : id < 2 ^ 32 → bookOf (valueIn after) ≡ update (bookOf (valueIn rows)) id (some (record { workflow = w; arguments = a0 ∷ a1 ∷ a2 ∷ a3 ∷ [] }))
+  pub book-after : id < 2 ^ 32 →
+      bookOf (valueIn after) ≡ update (bookOf (valueIn rows)) id (some (record { workflow = w; arguments = a0 ∷ a1 ∷ a2 ∷ a3 ∷ [] }))
   unfolding bookOf requestOf
   book-after h = fun-ext {f = bookOf (valueIn after)} {g = update (bookOf (valueIn rows)) id q} (λ i. go i (ℕ-discrete i id))
     where
@@ -137,11 +126,14 @@ module _ (id w a0 a1 a2 a3 : ℕ) (rows : List Row) where
 
       here : bookOf (valueIn after) id ≡ q
       here =
-          ap (λ (b : Bool). if_then_else_ b (requestOf (lookup (bookKey id 0) after) (argumentsOf (valueIn after) id)) none) (lt-ltb id (2 ^ 32) h)
-          ∙ (λ i. requestOf (row-0 i) (Option·getD (row-1 i) 0 ∷ Option·getD (row-2 i) 0 ∷ Option·getD (row-3 i) 0 ∷ Option·getD (row-4 i) 0 ∷ []))
+          ap (λ (b : Bool). if_then_else_ b (requestOf (lookup (bookKey id 0) after) (argumentsOf (valueIn after) id)) none)
+          (lt-ltb id (2 ^ 32) h)
+          ∙ (λ i. requestOf (row-0 i)
+          (Option·getD (row-1 i) 0 ∷ Option·getD (row-2 i) 0 ∷ Option·getD (row-3 i) 0 ∷ Option·getD (row-4 i) 0 ∷ []))
 
       go : (i : ℕ) → Dec (i ≡ id) → bookOf (valueIn after) i ≡ update (bookOf (valueIn rows)) id q i
-      go i (yes e) = ap (bookOf (valueIn after)) e ∙ here ∙ sym (update-same (bookOf (valueIn rows)) id q) ∙ ap (update (bookOf (valueIn rows)) id q) (sym e)
+      go i (yes e) = ap (bookOf (valueIn after)) e ∙ here ∙ sym (update-same (bookOf (valueIn rows)) id q)
+          ∙ ap (update (bookOf (valueIn rows)) id q) (sym e)
       go i (no n) =
           (λ t.
           if_then_else_ (ltb i (2 ^ 32))
@@ -174,7 +166,8 @@ module _ (id w a0 a1 a2 a3 : ℕ) (rows : List Row) where
             let mr : member k (keysIn rows) ≡ true = member-is k rows ∙ ap isSome (sym (row-other k n)) ∙ sym (member-is k after) ∙ m in
             five-all (keysIn after) (k / 8)
             (λ j h.
-            member-is (bookKey (k / 8) j) after ∙ ap isSome (row-other (bookKey (k / 8) j) (λ e. n (omega arith))) ∙ sym (member-is (bookKey (k / 8) j) rows)
+            member-is (bookKey (k / 8) j) after ∙ ap isSome (row-other (bookKey (k / 8) j) (λ e. n (omega arith)))
+            ∙ sym (member-is (bookKey (k / 8) j) rows)
             ∙ book-five (keysIn rows) k j whole mr h)
 
     pub absent : lookup (bookKey id 0) rows ≡ none → (j : ℕ) → j < 5 → lookup (bookKey id j) rows ≡ none
@@ -192,47 +185,39 @@ module _ (id w a0 a1 a2 a3 : ℕ) (rows : List Row) where
     pub length-after : id < 2 ^ 32 → keysOk true (keysIn rows) ≡ true → lookup (bookKey id 0) rows ≡ none → length after ≡ length rows + 5
     unfolding countNew newRows
     length-after h formed e =
-        length-put-all true (bookKeys id) (bookValues w a0 a1 a2 a3) rows refl (keys-unlike id) (keys-formed id h) formed
+        length-put-all true (bookKeys id) (w ∷ a0 ∷ a1 ∷ a2 ∷ a3 ∷ []) rows refl (keys-unlike id) (keys-formed id h) formed
         ∙ ap (λ (n : ℕ). length rows + n)
         (λ i.
         newRows (absent e 0 (omega arith) i)
-        + (newRows (absent e 1 (omega arith) i) + (newRows (absent e 2 (omega arith) i) + (newRows (absent e 3 (omega arith) i) + (newRows (absent e 4 (omega arith) i) + 0)))))
+        + (newRows (absent e 1 (omega arith) i) + (newRows
+        (absent e 2 (omega arith) i) + (newRows (absent e 3 (omega arith) i) + (newRows (absent e 4 (omega arith) i) + 0)))))
 
--- ── the keys as the code makes them ──
+-- ── the five rows, written ──
 
-abbrev pub codeKeys : (id : ℕ) → List ℕ
-codeKeys id = id * 8 ∷ bookKey id 1 ∷ bookKey id 2 ∷ bookKey id 3 ∷ bookKey id 4 ∷ []
+module _ (xs : List ℕ) (p id : ℕ) (q : Request) (e : p ≡ partsOf xs) where
+  pub keys-right : id < 2 ^ 32 → allIn (isForm (eqb p (partsOf xs))) (bookKeys id) ≡ true
+  keys-right h = subst (λ (b : Bool). allIn (isForm b) (bookKeys id) ≡ true) (sym (eq-eqb p (partsOf xs) e)) (keys-formed id h)
 
-keys-as : (id : ℕ) → codeKeys id ≡ bookKeys id
-keys-as id = ap (λ (k : ℕ). k ∷ bookKey id 1 ∷ bookKey id 2 ∷ bookKey id 3 ∷ bookKey id 4 ∷ []) (sym (add-zero (id * 8)))
+  pub first-belongs : (i : ℕ) → foundIn (bookKey id 0) (keysIn (bookRows xs)) ≡ Belongs i →
+      foundIn (bookKey id 0) (keysIn (rowsOf xs p)) ≡ Belongs i
+  first-belongs i f = ap (λ (p′ : ℕ). foundIn (bookKey id 0) (keysIn (rowsOf xs p′))) e ∙ f
 
-pub code-rising : (id : ℕ) → rising (codeKeys id) ≡ true
-code-rising id = subst (λ (ks : List ℕ). rising ks ≡ true) (sym (keys-as id)) (keys-rise id)
-
-module _ (xs : List ℕ) (p id w a0 a1 a2 a3 : ℕ) (e : p ≡ partsOf xs) where
-  pub code-formed : id < 2 ^ 32 → allIn (isForm (eqb p (partsOf xs))) (codeKeys id) ≡ true
-  code-formed h =
-      subst (λ (ks : List ℕ). allIn (isForm (eqb p (partsOf xs))) ks ≡ true) (sym (keys-as id))
-      (subst (λ (b : Bool). allIn (isForm b) (bookKeys id) ≡ true) (sym (eq-eqb p (partsOf xs) e)) (keys-formed id h))
-
-  pub code-first : (i : ℕ) → foundIn (bookKey id 0) (keysIn (bookRows xs)) ≡ Belongs i → foundIn (id * 8) (keysIn (rowsOf xs p)) ≡ Belongs i
-  code-first i f = ap₂ (λ (k q : ℕ). foundIn k (keysIn (rowsOf xs q))) (sym (add-zero (id * 8))) e ∙ f
-
-  pub code-stored : (ys : List ℕ) (answer : Bool) → length (withRequest id w a0 a1 a2 a3 (bookRows xs)) ≤ capOf xs →
-      StoredIfRoom xs ys p (putAll (pairs (codeKeys id) (bookValues w a0 a1 a2 a3))) answer → Stored xs ys (partsOf xs) (withRequest id w a0 a1 a2 a3)
-  code-stored ys answer room s =
+  pub five-stored : (ks ys : List ℕ) (answer : Bool) → ks ≡ bookKeys id → length (withRequest id q (bookRows xs)) ≤ capOf xs →
+      StoredIfRoom xs ys p (putAll (pairs ks (q .workflow ∷ q .arguments))) answer → Stored xs ys (partsOf xs) (withRequest id q)
+  five-stored ks ys answer k room s =
       go answer
-      (subst (λ (q : ℕ). StoredIfRoom xs ys q (withRequest id w a0 a1 a2 a3) answer) e
-      (subst (λ (ks : List ℕ). StoredIfRoom xs ys p (putAll (pairs ks (bookValues w a0 a1 a2 a3))) answer) (keys-as id) s))
+      (subst (λ (p′ : ℕ). StoredIfRoom xs ys p′ (withRequest id q) answer) e
+      (subst (λ (l : List ℕ). StoredIfRoom xs ys p (putAll (pairs l (q .workflow ∷ q .arguments))) answer) k s))
     where
-      go : (answer : Bool) → StoredIfRoom xs ys (partsOf xs) (withRequest id w a0 a1 a2 a3) answer → Stored xs ys (partsOf xs) (withRequest id w a0 a1 a2 a3)
+      go : (answer : Bool) → StoredIfRoom xs ys (partsOf xs) (withRequest id q) answer → Stored xs ys (partsOf xs) (withRequest id q)
       go true t = unfold Sounds.StoredIfRoom in t .1
       go false t = absurd (unfold Sounds.StoredIfRoom in omega (arith, room, t .0))
 
 -- ── what the book has of an id, by the search for its first row ──
 
 module _ (rows : List Row) (id i : ℕ) (h : id < 2 ^ 32) where
-  pub found-some : foundIn (bookKey id 0) (keysIn rows) ≡ At i → bookOf (valueIn rows) id ≡ some (record { workflow = getD rows i (0, 0) .1; arguments = argumentsOf (valueIn rows) id })
+  pub found-some : foundIn (bookKey id 0) (keysIn rows) ≡ At i →
+      bookOf (valueIn rows) id ≡ some (record { workflow = getD rows i (0, 0) .1; arguments = argumentsOf (valueIn rows) id })
   unfolding requestOf
   found-some f = book-row rows id h ∙ ap (λ o. requestOf o (argumentsOf (valueIn rows) id)) (at-lookup (bookKey id 0) rows i f)
 
@@ -250,19 +235,22 @@ module _ (store store′ : List ℕ) (id w a0 a1 a2 a3 : ℕ) where
   s = contentsOf (storeOf store)
 
   abbrev g : List Row → List Row
-  g = withRequest id w a0 a1 a2 a3
+  g = withRequest id (request w a0 a1 a2 a3)
 
-  module _ (e : storeRefusal store ≡ none) (h : id < 2 ^ 32) (none-there : lookup (bookKey id 0) (bookRows store) ≡ none) (st : Stored store store′ (partsOf store) g) where
+  module _ (e : storeRefusal store ≡ none) (h : id < 2 ^ 32) (none-there : lookup (bookKey id 0) (bookRows store) ≡ none)
+      (st : Stored store store′ (partsOf store) g) where
     whole : bookOk (keysIn (bookRows store)) ≡ true
     unfolding StoreQuestions.question12
     whole = store-ok store e .1
 
     rows-after : bookRows store′ ≡ g (bookRows store)
-    rows-after = ap (rowsOf store′) (changed-parts store store′ (partsOf store) g (st .is)) ∙ changed-here store store′ (partsOf store) g (st .is)
+    rows-after = ap (rowsOf store′) (changed-parts store store′ (partsOf store) g (st .is))
+        ∙ changed-here store store′ (partsOf store) g (st .is)
 
     passes : storeRefusal store′ ≡ none
     unfolding StoreQuestions.question12
-    passes = store-passes store′ (st .sound) (subst (λ (r : List Row). bookOk (keysIn r) ≡ true) (sym rows-after) (whole-after id w a0 a1 a2 a3 (bookRows store) whole))
+    passes = store-passes store′ (st .sound)
+        (subst (λ (r : List Row). bookOk (keysIn r) ≡ true) (sym rows-after) (whole-after id w a0 a1 a2 a3 (bookRows store) whole))
 
     more : length (g (bookRows store)) ≡ length (bookRows store) + 5
     more = length-after id w a0 a1 a2 a3 (bookRows store) whole h (book-keys store (store-ok store e .0)) none-there
@@ -271,15 +259,7 @@ module _ (store store′ : List ℕ) (id w a0 a1 a2 a3 : ℕ) where
     unfolding contentsOf
     contents =
         ap contentsOf (st .is) ∙ contents-book (storeOf store) g
-        ∙ (λ i.
-        record {
-          room = s .room;
-          used = s .used;
-          rows = s .rows;
-          log = s .log;
-          bookUsed = more i;
-          book = book-after id w a0 a1 a2 a3 (bookRows store) h i;
-        })
+        ∙ ap₂ (withBook s) more (book-after id w a0 a1 a2 a3 (bookRows store) h)
 
     pub wrote-request : Wrote store store′ (booked s id asks)
     unfolding contentsOf
@@ -290,7 +270,8 @@ module _ (store store′ : List ℕ) (id w a0 a1 a2 a3 : ℕ) where
           sound = λ _. passes;
           holds = contents;
           only = only-bytes store store′ (booked s id asks) (changed-parts store store′ (partsOf store) g (st .is)) contents;
-          bytes = λ e p. absurd (let z : length (bookRows store) ≡ length (bookRows store) + 5 = ap (λ (x : Store). x .bookUsed) p in omega arith);
+          bytes = λ e p. absurd
+              (let z : length (bookRows store) ≡ length (bookRows store) + 5 = ap (λ (x : Store). x .bookUsed) p in omega arith);
         }
 
 -- ── question 18 ──
@@ -345,48 +326,28 @@ module _ (store : List ℕ) (id : ℕ) (q : Request) where
   kept-by : (n : No) (r : Verdict) → bookRefusal here id q ≡ some n → r ≡ verdictOf (some n) → Booked store store id q r
   kept-by n r e a = record { answer = a ∙ ap verdictOf (sym e); kept = λ m p. refl; written = λ p. none-some n p e }
 
-  taken : (store′ : List ℕ) (r : Verdict) → bookRefusal here id q ≡ none → r ≡ verdictOf none → Wrote store store′ (ensured here id q (here .book id)) → Booked store store′ id q r
+  taken : (store′ : List ℕ) (r : Verdict) → bookRefusal here id q ≡ none → r ≡ verdictOf none →
+      Wrote store store′ (ensured here id q (here .book id)) → Booked store store′ id q r
   taken store′ r e a w = record { answer = a ∙ ap verdictOf (sym e); kept = λ n p. none-some n e p; written = λ p. w }
 
   module _ (r : Verdict) where
-    pub booked-18 : (known : Request) → here .book id ≡ some known → sameRequest q known ≡ false → r ≡ verdictOf (some (number 18)) → Booked store store id q r
+    pub booked-18 : (known : Request) → here .book id ≡ some known → sameRequest q known ≡ false → r ≡ verdictOf (some (number 18)) →
+        Booked store store id q r
     booked-18 known b t a = kept-by (number 18) r (refused-18 known b t) a
 
     pub booked-19 : here .book id ≡ none → here .room < here .bookUsed + 5 → r ≡ verdictOf (some (number 19)) → Booked store store id q r
     booked-19 b t a = kept-by (number 19) r (refused-19 b t) a
 
-    pub booked-known : (known : Request) → here .book id ≡ some known → sameRequest q known ≡ true → r ≡ verdictOf none → Booked store store id q r
+    pub booked-known : (known : Request) → here .book id ≡ some known → sameRequest q known ≡ true → r ≡ verdictOf none →
+        Booked store store id q r
     unfolding ensured
     booked-known known b t a =
-        taken store r (known-yes known b t) a (subst (λ (o : Option Request). Wrote store store (ensured here id q o)) (sym b) (wrote-nothing store))
+        taken store r (known-yes known b t) a
+        (subst (λ (o : Option Request). Wrote store store (ensured here id q o)) (sym b) (wrote-nothing store))
 
-    pub booked-new : (store′ : List ℕ) → here .book id ≡ none → here .bookUsed + 5 ≤ here .room → Wrote store store′ (booked here id q) → r ≡ verdictOf none →
+    pub booked-new : (store′ : List ℕ) → here .book id ≡ none → here .bookUsed + 5 ≤ here .room → Wrote store store′ (booked here id q) →
+        r ≡ verdictOf none →
         Booked store store′ id q r
     unfolding ensured
-    booked-new store′ b t w a = taken store′ r (new-yes b t) a (subst (λ (o : Option Request). Wrote store store′ (ensured here id q o)) (sym b) w)
-
--- ── arrival's rule ──
-
--- The agent that an arrival starts has the arguments given, new or known.
-pub arrives : (s : Calls.State) (slot id : ℕ) (q : Request) (o : Option Request) → Calls.asBooked q o ≡ true →
-    Calls.arrive s slot id q o ≡ gives Calls.done (withSlot (record { store = ensured (s .store) id q o; slots = s .slots }) slot (some (record { id = id; course = start q; step = 0 })))
-unfolding Calls.arrive ensured
-arrives s slot id q none e = refl
-arrives s slot id q (some known) e =
-    ap (λ (x : Request). gives Calls.done (withSlot s slot (some (record { id = id; course = start x; step = 0 })))) (sym (same-asked q known e))
-
--- behind questions 18 and 19
-pub as-booked : (s : Store) (id : ℕ) (q : Request) → bookRefusal s id q ≡ none → Calls.asBooked q (s .book id) ≡ true
-unfolding bookRefusal
-as-booked s id q e = ask-none _ _ _ e .0
-
--- refused by 18 or 19
-pub is-unbooked : (pack store store′ : List ℕ) (records : List Agent) (c : Calls.Call) (r : Outcome) (id : ℕ) (q : Request) (v : Verdict) → Booked store store′ id q v →
-    lentFor c pack store records ≡ none → Calls.refusal (packOf pack) (stateOf store records) c ≡ bookRefusal (contentsOf (storeOf store)) id q →
-    (n w i : ℕ) → v ≡ Refused n w i → r ≡ outcome (Answers.Refused n w i) records → Carried pack store records c (r .answer) (r .agents) store′
-unfolding answerOf
-is-unbooked pack store store′ records c r id q v b e p n w i u a =
-    let f = refused-some v _ n w i (b .answer) u in
-    subst (λ (x : List ℕ). Carried pack store records c (r .answer) (r .agents) x) (sym (b .kept (Questions.no n w i) f))
-    (subst (λ (x : Outcome). Carried pack store records c (x .answer) (x .agents) store) (sym a)
-    (carried-refused pack store records c (Questions.no n w i) (Answers.Refused n w i) (refused-by pack store records c (some (Questions.no n w i)) e (p ∙ f)) refl))
+    booked-new store′ b t w a =
+        taken store′ r (new-yes b t) a (subst (λ (o : Option Request). Wrote store store′ (ensured here id q o)) (sym b) w)

@@ -1,5 +1,5 @@
 // What is written to standard output, a line or a piece of a line at a time.
-use crate::lines;
+use crate::case_lines;
 use crate::rows;
 use agents::Answer;
 use libc::STDOUT_FILENO;
@@ -18,26 +18,26 @@ fn write_line(line: &[u8], n: usize)
 // malformed case NUMBER
 pub fn print_malformed(number: u64) {
     let mut line = [0u8; 48];
-    let n = lines::malformed_line(&mut line, number);
+    let n = case_lines::malformed_line(&mut line, number);
     write_line(&line, n);
 }
 
 // answer ANSWER
 pub fn print_answer(answer: Answer) {
-    let mut line = [0u8; 96];
-    let n = lines::answer_line(&mut line, answer);
+    let mut line = [0u8; 97];
+    let n = case_lines::answer_line(&mut line, answer);
     write_line(&line, n);
 }
 
 fn print_used(partition: usize, count: usize) {
     let mut line = [0u8; 64];
-    let n = lines::used_line(&mut line, partition as u64, count as u64);
+    let n = case_lines::used_line(&mut line, partition as u64, count as u64);
     write_line(&line, n);
 }
 
 fn print_row(partition: usize, key: u64, value: u32) {
-    let mut line = [0u8; 80];
-    let n = lines::row_line(&mut line, partition as u64, key, value as u64);
+    let mut line = [0u8; 88];
+    let n = lines::row_line(&mut line, 0, partition as u64, key, value as u64);
     write_line(&line, n);
 }
 
@@ -45,7 +45,7 @@ fn print_agent(slot: usize, agent: &[u8])
     requires { ⌜ 48 ≤ length (now agent) ⌝ }
 {
     let mut line = [0u8; 300];
-    let n = lines::agent_line(&mut line, slot as u64, agent);
+    let n = case_lines::agent_line(&mut line, slot as u64, agent);
     write_line(&line, n);
 }
 
@@ -54,7 +54,7 @@ fn print_piece(src: &[u8])
     requires { ⌜ length (now src) ≤ 512 ⌝ }
 {
     let mut piece = [0u8; 1024];
-    let n = lines::append_hex(&mut piece, 0, src);
+    let n = case_lines::append_hex(&mut piece, 0, src);
     write_line(&piece, n);
 }
 

@@ -1,4 +1,4 @@
--- The parts of a case, by its bytes. Assumes nothing: these are definitions.
+-- The parts of a case, by its bytes.
 use mathlib.Core.List.{List}
 use Prim.Native.Nat.{ℕ, _+_, _≤_}
 use lib.ListN.{length}

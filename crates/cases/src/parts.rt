@@ -3,9 +3,8 @@
 // are (1), and for each its call byte and seven words.
 ghost use mathlib.Core.Bool.{true};
 ghost use mathlib.Core.Path.{_≡_};
-ghost use Prim.Native.Nat.{_+_, _*_, _≤_, _<_};
+ghost use Prim.Native.Nat.{_+_, _≤_, _<_};
 ghost use lib.ListN.{length};
-ghost use Rattle.words.specs.Words.{le};
 ghost use Rattle.cases.specs.Parts.{packEnd, partsEnd, callEnd, HasParts, HasCall};
 
 // Where the pack ends; it begins at 9.
@@ -90,7 +89,7 @@ pub fn call_words(c: &[u8]) -> [u32; 7]
 }
 
 // A byte, as a count.
-fn wide(b: u8) -> usize
+pub fn wide(b: u8) -> usize
     ensures { λ r. ⌜ (r ≡ b) × (r < 256) ⌝ }
 {
     b as usize

@@ -8,15 +8,13 @@ ghost use Prim.Native.Nat.{_≤_};
 ghost use lib.ListN.{length};
 ghost use Rattle.cases.specs.Parts.{HasParts, HasCall};
 
-// What goes with the answer of a call, behind it: with its state, of an opening the parts, of a call that may change them store and
-// records; without, of these the store's bytes alone.
+// What goes with the answer of a call, behind it: of an opening the parts; of a call that may change them store and records, or without
+// its state the store's bytes alone.
 fn print_left(pack: &[u8], store: &[u8], records: &[u8], call: u8, w: [u32; 7], with_state: bool)
     requires { ⌜ 384 ≤ length (now records) ⌝ }
 {
     if call == 1 {
-        if with_state {
-            print::print_opened(pack, w[0]);
-        }
+        print::print_opened(pack, w[0]);
     }
     if 1 < call {
         print_after(store, records, with_state);
@@ -92,24 +90,10 @@ fn print_list(pack: &[u8], store: &[u8], list: &[u8], with_state: bool, buffer: 
     print_after(&buffer[0..n], &records, with_state);
 }
 
-// The longest store, 3 + 2 × 9 + 12 × 256 × 9.
-fn store_buffer() -> [u8; 27_669]
-    ensures { λ r. ⌜ 27669 ≡ length r ⌝ }
-{
-    [0; 27_669]
-}
-
-// Room for all that a schedule can print.
-fn text_buffer() -> [u8; 524_288]
-    ensures { λ r. ⌜ 524288 ≡ length r ⌝ }
-{
-    [0; 524_288]
-}
-
 // A schedule: what the schedule program prints.
 fn print_schedule(pack: &[u8], schedule: &[u8]) {
-    let mut store = store_buffer();
-    let mut text = text_buffer();
+    let mut store = schedule::run::store_buffer();
+    let mut text = schedule::run::text_buffer();
     let n = schedule::run::run(pack, schedule, &mut store, &mut text);
     io::write_all(STDOUT_FILENO, &text[..n]);
 }

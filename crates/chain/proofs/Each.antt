@@ -1,4 +1,4 @@
--- Demands 1 and 2: what the promise of a call comes to. Assumes nothing.
+-- Demands 1 and 2: what the promise of a call comes to.
 use mathlib.Core.Bool.{true}
 use mathlib.Core.List.{List}
 use mathlib.Core.Option.{Option, none, some}
@@ -11,10 +11,9 @@ use Rattle.rules.specs.Plain.{accepted}
 use Rattle.rules.proofs.Calls.{rule-accepted}
 use Rattle.questions.proofs.Updates.{false-true}
 use Rattle.pack.specs.Meaning.{packOf}
-use Rattle.agents.specs.declared.Agent.{Agent}
 use Rattle.agents.specs.declared.Answer.{Answer}
 use Rattle.agents.specs.Answers.{answerOf}
-use Rattle.meaning.specs.State.{stateOf}
+use Rattle.meaning.specs.State.{stateOf, Lent}
 use Rattle.meaning.specs.Questions.{refusalFor}
 use Rattle.meaning.specs.Carried.{Carried}
 use Rattle.chain.specs.Demands.{Demand1, Demand2}
@@ -22,26 +21,26 @@ use Rattle.chain.specs.Demands.{Demand1, Demand2}
 same-no : (n m : No) → Calls.refused n ≡ Calls.refused m → n ≡ m
 same-no n m e = cc
 
-module _ (pack store : List ℕ) (records : List Agent) (c : Call) (answer : Answer) (records′ : List Agent) (store′ : List ℕ)
-    (h : Carried pack store records c answer records′ store′) where
+module _ (pack : List ℕ) (lent : Lent) (c : Call) (answer : Answer) (lent′ : Lent)
+    (h : Carried pack lent c answer lent′) where
   -- where no question says no, the call is accepted
-  pub answers-yes : refusalFor pack store records c ≡ none → accepted (answerOf answer) ≡ true
-  answers-yes e = ap accepted (h .carried e .0) ∙ rule-accepted (packOf pack) (stateOf store records) c
+  pub answers-yes : refusalFor pack lent c ≡ none → accepted (answerOf answer) ≡ true
+  answers-yes e = ap accepted (h .carried e .0) ∙ rule-accepted (packOf pack) (stateOf lent) c
 
   -- and an accepted call met no no
-  pub met-none : accepted (answerOf answer) ≡ true → refusalFor pack store records c ≡ none
-  met-none t = go (refusalFor pack store records c) refl
+  pub met-none : accepted (answerOf answer) ≡ true → refusalFor pack lent c ≡ none
+  met-none t = go (refusalFor pack lent c) refl
     where
-      go : (o : Option No) → refusalFor pack store records c ≡ o → refusalFor pack store records c ≡ none
+      go : (o : Option No) → refusalFor pack lent c ≡ o → refusalFor pack lent c ≡ none
       go none e = e
       go (some n) e = false-true (ap accepted (h .refused n e .0)) t
 
-  pub demand1 : Demand1 pack store records c answer records′ store′
-  demand1 = record { says-no = h .refused; says-why = λ n e. go n e (refusalFor pack store records c) refl }
+  pub demand1 : Demand1 pack lent c answer lent′
+  demand1 = record { says-no = h .refused; says-why = λ n e. go n e (refusalFor pack lent c) refl }
     where
-      go : (n : No) → answerOf answer ≡ Calls.refused n → (o : Option No) → refusalFor pack store records c ≡ o → refusalFor pack store records c ≡ some n
+      go : (n : No) → answerOf answer ≡ Calls.refused n → (o : Option No) → refusalFor pack lent c ≡ o → refusalFor pack lent c ≡ some n
       go n e none q = false-true (ap accepted e) (answers-yes q)
       go n e (some m) q = q ∙ ap some (same-no m n (sym (h .refused m q .0) ∙ e))
 
-  pub demand2 : Demand2 pack store records c answer records′ store′
+  pub demand2 : Demand2 pack lent c answer lent′
   demand2 = record { accepts = answers-yes; rules = λ t. h .carried (met-none t) }

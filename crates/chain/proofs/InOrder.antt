@@ -1,4 +1,4 @@
--- In a list of calls rows stay in order, and so contents settle the bytes. Assumes nothing.
+-- In a list of calls rows stay in order, and so contents settle the bytes.
 use mathlib.Core.List.{List}
 use mathlib.Core.Option.{Option, none}
 use mathlib.Core.Path.{_≡_, refl, sym, ap, _∙_}
@@ -10,7 +10,7 @@ use Rattle.store.proofs.Order.{order-passes}
 use Rattle.rules.specs.Calls as Calls
 use Rattle.meaning.specs.State as States
 use Rattle.meaning.specs.Questions as Questions
-use Rattle.meaning.proofs.Equal.{equal-contents}
+use Rattle.contents.proofs.Equal.{equal-contents}
 use Rattle.chain.specs.InOrder.{KeptInOrder}
 use Rattle.chain.proofs.Theorem.{sized}
 
@@ -19,15 +19,15 @@ unfolding States.stateOf Calls.rule Calls.refusal Questions.lentFor Questions.re
 in-order pack P C =
     record {
       idle =
-          λ events store records chain answer records′ store′ h.
-          let passes = sized pack P C events store records chain .passes in
-          let c = h .carried (orElse-both (orderRefusal store) none (order-passes store passes) refl) in
+          λ events lent chain answer lent′ h.
+          let passes = sized pack P C events lent chain .passes in
+          let c = h .carried (orElse-both (orderRefusal (lent .store)) none (order-passes (lent .store) passes) refl) in
           (ap accepted (c .0), c .1 .written .bytes passes refl);
       same =
-          λ events store records chain pack″ events″ store″ records″ chain″ b b″ e.
-          let s = sized pack P C events store records chain in
-          let s″ = sized pack″ P C events″ store″ records″ chain″ in
-          equal-contents store store″ b b″ (s .passes) (s″ .passes) (s .parts ∙ sym (s″ .parts)) e;
+          λ events lent chain pack″ events″ lent″ chain″ b b″ e.
+          let s = sized pack P C events lent chain in
+          let s″ = sized pack″ P C events″ lent″ chain″ in
+          equal-contents (lent .store) (lent″ .store) b b″ (s .passes) (s″ .passes) (s .parts ∙ sym (s″ .parts)) e;
     }
   where
     orElse-both : (o o′ : Option No) → o ≡ none → o′ ≡ none → orElse o o′ ≡ none

@@ -1,30 +1,32 @@
--- A list of calls on bytes is a list of calls of the rules: a refused call is the rules' `stopped`. Assumes nothing.
+-- A list of calls on bytes is a list of calls of the rules: a refused call is the rules' `stopped`, which answers and feeds the same.
 use mathlib.Core.Bool.{Bool, true, false}
 use mathlib.Core.List.{List, [], _∷_}
 use mathlib.Core.Option.{Option, none, some}
-use mathlib.Core.Path.{_≡_, refl, sym, _∙_, ap, ap₂}
+use mathlib.Core.Path.{_≡_, refl, sym, _∙_, ap}
 use Prim.Native.Nat.{ℕ, _^_}
 use lib.Dec.{ltb}
 use lib.ListN.{replicate}
+use Rattle.rules.proofs.States.{same-state}
+use Rattle.contents.specs.Contents.{contentsOf, bookOf, requestOf}
 use Rattle.questions.specs.Basics.{if_then_else_}
 use Rattle.questions.specs.Questions.{No}
 use Rattle.rules.specs.Calls.{Call, stopped, Outcome, State, History, fresh, refusal, call, unless, stateAfter, answerTo}
 use Rattle.rules.specs.Calls as Calls
-use Rattle.rules.specs.Plain.{tallied, fed, accepted, talliesAfter, machineAfter, repliesAfter, withAnswer}
+use Rattle.rules.specs.Plain.{Event, feedOf, talliesOf, machineOf, repliesOf, eventsAfter, talliesAfter, machineAfter, repliesAfter}
+use Rattle.rules.proofs.Alike.{Alike, none-yet, one-more, same-tallies, same-machine, same-replies}
 use Rattle.questions.proofs.Questions.{orElse-none}
 use Rattle.pack.specs.Meaning.{packOf}
 use Rattle.store.specs.Rows.{emptyStore, lookup}
 use Rattle.questions.specs.declared.Verdict.the-variants.{Accepted}
 use Rattle.store.specs.Created.{Created}
-use Rattle.agents.specs.declared.Agent.{Agent}
 use Rattle.agents.specs.declared.Answer.{Answer}
 use Rattle.agents.specs.Slots.{noAgent}
 use Rattle.agents.specs.Answers.{answerOf}
 use Rattle.agents.proofs.Slots.{slots-none}
-use Rattle.meaning.specs.State.{contentsOf, stateOf, bookOf, requestOf}
+use Rattle.meaning.specs.State.{stateOf, Lent}
 use Rattle.meaning.specs.Questions.{refusalFor}
-use Rattle.meaning.specs.Carried.{Kept, Carried, ruled}
-use Rattle.chain.specs.Chain.{Event, Chain, begins, goes-on, talliesOf, machineOf, repliesOf}
+use Rattle.meaning.specs.Carried.{Carried, ruled}
+use Rattle.chain.specs.Chain.{Chain, begins, goes-on}
 
 -- ── a fresh store ──
 
@@ -55,81 +57,82 @@ fresh-contents P C =
 -- ── the mirror ──
 
 -- the calls of the rules that come to the same as these on bytes
-pub record Mirror (pack : List ℕ) (C : ℕ) (events : List Event) (store : List ℕ) (records : List Agent) : Type 0 where
+pub record Mirror (pack : List ℕ) (C : ℕ) (events : List Event) (lent : Lent) : Type 0 where
   pub calls : History
-  pub state : stateOf store records ≡ stateAfter (packOf pack) C calls
-  pub tallies : talliesOf events ≡ talliesAfter (packOf pack) C calls
-  pub machine : machineOf (packOf pack) events ≡ machineAfter (packOf pack) C calls
-  pub replies : repliesOf events ≡ repliesAfter (packOf pack) C calls
+  pub state : stateOf lent ≡ stateAfter (packOf pack) C calls
+  -- the events are theirs, but that a refused call is `stopped` there
+  pub told : Alike events (eventsAfter (packOf pack) C calls)
 
-pub mirror-start : (pack buffer store : List ℕ) (P C : ℕ) → Created buffer store P C Accepted → Mirror pack C [] store (replicate 8 noAgent)
-unfolding stateOf stateAfter talliesOf machineOf repliesOf talliesAfter machineAfter repliesAfter
+module _ {pack : List ℕ} {C : ℕ} {events : List Event} {lent : Lent} (m : Mirror pack C events lent) where
+  pub tallies-as : talliesOf events ≡ talliesAfter (packOf pack) C (m .calls)
+  tallies-as = same-tallies _ _ (m .told)
+
+  pub machine-as : machineOf (packOf pack) events ≡ machineAfter (packOf pack) C (m .calls)
+  machine-as = same-machine (packOf pack) _ _ (m .told)
+
+  pub replies-as : repliesOf events ≡ repliesAfter (packOf pack) C (m .calls)
+  replies-as = same-replies _ _ (m .told)
+
+pub mirror-start : (pack buffer store : List ℕ) (P C : ℕ) → Created buffer store P C Accepted →
+    Mirror pack C [] (record { store = store; records = replicate 8 noAgent })
+unfolding stateOf stateAfter eventsAfter
 mirror-start pack buffer store P C h =
     let e = ap contentsOf (h .made refl .1) ∙ fresh-contents P C in
-    record {
-      calls = [];
-      state = λ i. record { store = e i; slots = slots-none i };
-      tallies = refl;
-      machine = refl;
-      replies = refl;
-    }
+    record { calls = []; state = same-state e slots-none; told = none-yet }
 
-module _ (pack : List ℕ) (C : ℕ) (events : List Event) (store : List ℕ) (records : List Agent) (m : Mirror pack C events store records)
-    (c : Call) (answer : Answer) (records′ : List Agent) (store′ : List ℕ) where
+module _ (pack : List ℕ) (C : ℕ) (events : List Event) (lent : Lent) (m : Mirror pack C events lent)
+    (c : Call) (answer : Answer) (lent′ : Lent) where
   abbrev event : Event
-  event = record { made = c; answer = answer }
+  event = record { made = c; answer = answerOf answer }
 
   -- a call that the rules make too
-  mirrored : answerOf answer ≡ answerTo (packOf pack) C (m .calls) c → stateOf store′ records′ ≡ (call (packOf pack) (stateAfter (packOf pack) C (m .calls)) c) .state →
-      Mirror pack C (event ∷ events) store′ records′
-  unfolding stateAfter talliesOf machineOf repliesOf talliesAfter machineAfter repliesAfter
+  mirrored : answerOf answer ≡ answerTo (packOf pack) C (m .calls) c →
+      stateOf lent′ ≡ (call (packOf pack) (stateAfter (packOf pack) C (m .calls)) c) .state →
+      Mirror pack C (event ∷ events) lent′
+  unfolding stateAfter eventsAfter
   mirrored e s =
       record {
         calls = c ∷ m .calls;
         state = s;
-        tallies = λ i. if_then_else_ (accepted (e i)) (tallied (m .tallies i) c) (m .tallies i);
-        machine = λ i. if_then_else_ (accepted (e i)) (fed (packOf pack) (m .machine i) (m .tallies i) c) (m .machine i);
-        replies = λ i. withAnswer (e i) (m .replies i);
+        told = one-more _ _ _ _ (ap (λ (x : Calls.Answer). feedOf (record { made = c; answer = x })) e) e (m .told);
       }
 
   -- a call that is refused
-  mirror-stopped : (n : No) → answerOf answer ≡ Calls.refused n → stateOf store′ records′ ≡ stateOf store records → Mirror pack C (event ∷ events) store′ records′
-  unfolding stateAfter talliesOf machineOf repliesOf talliesAfter machineAfter repliesAfter Calls.call Calls.refusal Calls.unless
+  mirror-stopped : (n : No) → answerOf answer ≡ Calls.refused n → stateOf lent′ ≡ stateOf lent → Mirror pack C (event ∷ events) lent′
+  unfolding stateAfter eventsAfter Calls.call Calls.refusal Calls.unless
   mirror-stopped n e s =
       record {
         calls = stopped n ∷ m .calls;
         state = s ∙ m .state;
-        tallies = λ i. if_then_else_ (accepted (e i)) (tallied (m .tallies i) c) (m .tallies i);
-        machine = λ i. if_then_else_ (accepted (e i)) (fed (packOf pack) (m .machine i) (m .tallies i) c) (m .machine i);
-        replies = λ i. withAnswer (e i) (m .replies i);
+        told = one-more _ _ _ _ (ap (λ (x : Calls.Answer). feedOf (record { made = c; answer = x })) e) e (m .told);
       }
 
-  kept-state : Kept store records store′ records′ → stateOf store′ records′ ≡ stateOf store records
-  kept-state k = ap₂ stateOf (k .bytes) (k .slots)
+  kept-state : lent′ ≡ lent → stateOf lent′ ≡ stateOf lent
+  kept-state k = ap stateOf k
 
   -- where no question says no, the rule on the bytes is the call after those of the mirror
-  pub same-outcome : refusalFor pack store records c ≡ none → ruled pack store records c ≡ call (packOf pack) (stateAfter (packOf pack) C (m .calls)) c
+  pub same-outcome : refusalFor pack lent c ≡ none → ruled pack lent c ≡ call (packOf pack) (stateAfter (packOf pack) C (m .calls)) c
   unfolding refusalFor Calls.call Calls.unless
   same-outcome e =
-      ap (λ (o : Option No). unless o (stateOf store records) (ruled pack store records c)) (sym (orElse-none _ _ e .1))
+      ap (λ (o : Option No). unless o (stateOf lent) (ruled pack lent c)) (sym (orElse-none _ _ e .1))
       ∙ ap (λ (s : State). call (packOf pack) s c) (m .state)
 
-  module _ (h : Carried pack store records c answer records′ store′) where
-    pub answered-as : refusalFor pack store records c ≡ none → answerOf answer ≡ answerTo (packOf pack) C (m .calls) c
+  module _ (h : Carried pack lent c answer lent′) where
+    pub answered-as : refusalFor pack lent c ≡ none → answerOf answer ≡ answerTo (packOf pack) C (m .calls) c
     answered-as e = h .carried e .0 ∙ ap (λ (o : Outcome). o .answer) (same-outcome e)
 
-    left-state : refusalFor pack store records c ≡ none → stateOf store′ records′ ≡ ruled pack store records c .state
+    left-state : refusalFor pack lent c ≡ none → stateOf lent′ ≡ ruled pack lent c .state
     unfolding stateOf
-    left-state e = let l = h .carried e .1 in λ i. record { store = l .written .holds i; slots = l .slots i }
+    left-state e = let l = h .carried e .1 in same-state (l .written .holds) (l .slots)
 
-    pub mirror-next : Mirror pack C (event ∷ events) store′ records′
-    mirror-next = go (refusalFor pack store records c) refl
+    pub mirror-next : Mirror pack C (event ∷ events) lent′
+    mirror-next = go (refusalFor pack lent c) refl
       where
-        go : (o : Option No) → refusalFor pack store records c ≡ o → Mirror pack C (event ∷ events) store′ records′
+        go : (o : Option No) → refusalFor pack lent c ≡ o → Mirror pack C (event ∷ events) lent′
         go none e = mirrored (answered-as e) (left-state e ∙ ap (λ (o : Outcome). o .state) (same-outcome e))
         go (some n) e = mirror-stopped n (h .refused n e .0) (kept-state (h .refused n e .1))
 
-pub mirror : (pack : List ℕ) (P C : ℕ) (events : List Event) (store : List ℕ) (records : List Agent) → Chain pack P C events store records → Mirror pack C events store records
-mirror pack P C events store records (begins buffer store₀ h) = mirror-start pack buffer store₀ P C h
-mirror pack P C events store records (goes-on events₀ store₀ records₀ c answer records′ store′ chain h) =
-    mirror-next pack C events₀ store₀ records₀ (mirror pack P C events₀ store₀ records₀ chain) c answer records′ store′ h
+pub mirror : (pack : List ℕ) (P C : ℕ) (events : List Event) (lent : Lent) → Chain pack P C events lent → Mirror pack C events lent
+mirror pack P C events lent (begins buffer store₀ h) = mirror-start pack buffer store₀ P C h
+mirror pack P C events lent (goes-on events₀ lent₀ c answer lent′ chain h) =
+    mirror-next pack C events₀ lent₀ (mirror pack P C events₀ lent₀ chain) c answer lent′ h

@@ -1,4 +1,4 @@
--- Demand 3 over lists of calls on bytes. Assumes nothing.
+-- Demand 3 over lists of calls on bytes.
 use mathlib.Core.Bool.{Bool, true, false}
 use mathlib.Core.List.{List, [], _∷_, List·Memᴰ}
 use mathlib.Core.Logic.{_⊎_, inl, inr}
@@ -8,11 +8,13 @@ use Prim.Native.Nat.{ℕ, _^_, _≤_, _<_}
 use native.Mathlib.Omega.{arith}
 use borrow.Author.Tests.{lt-ltb, le-ltb}
 use lib.Dec.{ltb}
+use Rattle.contents.specs.Contents.{contentsOf, valueIn}
 use Rattle.questions.specs.Basics.{if_then_else_}
 use Rattle.keys.specs.Keys.{dataKey, tableOf}
 use Rattle.questions.specs.Questions.{No}
 use Rattle.rules.specs.Calls.{Call, turn, State, answerTo}
-use Rattle.rules.specs.Plain.{Machine, Tallies, tallied, accepted, talliesAfter, Reply, firstReplies}
+use Rattle.rules.specs.Plain.{Reply, Machine, Event, accepted, feedOf, Tallies, tallied, talliesOf, machineOf, firstReplies}
+use Rattle.rules.specs.Plain.{eventsAfter, talliesAfter}
 use Rattle.rules.specs.Demand3 as Rules
 use Rattle.questions.proofs.Questions.{orElse-none}
 use Rattle.rules.proofs.Theorem.{rows-are, replies-are, equal-are, plain-run, booked-below}
@@ -27,17 +29,16 @@ use Rattle.store.specs.Created.{Created}
 use Rattle.store.specs.Questions.{bookOk, allIn, storeRefusal}
 use Rattle.store.specs.Questions as StoreQuestions
 use Rattle.store.proofs.Sound.{store-passes}
-use Rattle.agents.specs.declared.Agent.{Agent}
 use Rattle.agents.specs.declared.Answer.{Answer}
 use Rattle.agents.specs.Answers.{answerOf}
-use Rattle.meaning.specs.State.{contentsOf, stateOf, valueIn}
+use Rattle.meaning.specs.State.{stateOf, Lent}
 use Rattle.meaning.specs.Questions.{lentFor, refusalFor}
-use Rattle.meaning.specs.Carried.{Kept, Left, Carried}
+use Rattle.meaning.specs.Carried.{Left, Carried}
 use Rattle.meaning.proofs.Asked.{lent-pack}
-use Rattle.chain.specs.Chain.{Event, Chain, begins, goes-on, talliesOf, machineOf}
+use Rattle.chain.specs.Chain.{Chain, begins, goes-on}
 use Rattle.chain.specs.Demands.{PlainRun, InTime, Demand3}
 use Rattle.chain.proofs.Each.{met-none}
-use Rattle.chain.proofs.Mirror.{Mirror, mirror, answered-as}
+use Rattle.chain.proofs.Mirror.{Mirror, mirror, answered-as, tallies-as, machine-as, replies-as}
 
 -- ── the store of a chain: P and C stay, and questions 9 to 12 say yes ──
 
@@ -59,28 +60,28 @@ sized-start buffer store P C h =
       passes = store-passes store (m .0) (no-book store (ap (λ (st : Store). st .rows (partsOf store)) (m .1)));
     }
 
-sized-kept : {P C : ℕ} {store store′ : List ℕ} {records records′ : List Agent} → Kept store records store′ records′ → Sized P C store → Sized P C store′
-sized-kept {P} {C} k s = subst (Sized P C) (sym (k .bytes)) s
+sized-kept : {P C : ℕ} {lent lent′ : Lent} → lent′ ≡ lent → Sized P C (lent .store) → Sized P C (lent′ .store)
+sized-kept {P} {C} k s = subst (λ (x : Lent). Sized P C (x .store)) (sym k) s
 
-sized-left : {P C : ℕ} {store store′ : List ℕ} {records records′ : List Agent} {s : State} → Left store records store′ records′ s → Sized P C store → Sized P C store′
+sized-left : {P C : ℕ} {lent lent′ : Lent} {s : State} → Left lent lent′ s → Sized P C (lent .store) → Sized P C (lent′ .store)
 sized-left l s =
     let w = l .written in
     record { parts = w .parts ∙ s .parts; cap = w .cap ∙ s .cap; passes = w .sound (s .passes) }
 
 module _ (pack : List ℕ) (P C : ℕ) where
-  sized-next : (store : List ℕ) (records : List Agent) (c : Call) (answer : Answer) (records′ : List Agent) (store′ : List ℕ) →
-      Carried pack store records c answer records′ store′ → Sized P C store → Sized P C store′
-  sized-next store records c answer records′ store′ h s = go (refusalFor pack store records c) refl
+  sized-next : (lent : Lent) (c : Call) (answer : Answer) (lent′ : Lent) →
+      Carried pack lent c answer lent′ → Sized P C (lent .store) → Sized P C (lent′ .store)
+  sized-next lent c answer lent′ h s = go (refusalFor pack lent c) refl
     where
-      go : (o : Option No) → refusalFor pack store records c ≡ o → Sized P C store′
+      go : (o : Option No) → refusalFor pack lent c ≡ o → Sized P C (lent′ .store)
       go none e = sized-left (h .carried e .1) s
       go (some n) e = sized-kept (h .refused n e .1) s
 
   -- In a chain questions 9 to 12 never say no.
-  pub sized : (events : List Event) (store : List ℕ) (records : List Agent) → Chain pack P C events store records → Sized P C store
-  sized events store records (begins buffer store₀ h) = sized-start buffer store₀ P C h
-  sized events store records (goes-on events₀ store₀ records₀ c answer records′ store′ chain h) =
-      sized-next store₀ records₀ c answer records′ store′ h (sized events₀ store₀ records₀ chain)
+  pub sized : (events : List Event) (lent : Lent) → Chain pack P C events lent → Sized P C (lent .store)
+  sized events lent (begins buffer store₀ h) = sized-start buffer store₀ P C h
+  sized events lent (goes-on events₀ lent₀ c answer lent′ chain h) =
+      sized-next lent₀ c answer lent′ h (sized events₀ lent₀ chain)
 
 -- ── rows, by key ──
 
@@ -103,60 +104,65 @@ module _ (xs : List ℕ) (p k : ℕ) where
 
 -- ── the theorem ──
 
-module _ (pack : List ℕ) (P C : ℕ) (events : List Event) (store : List ℕ) (records : List Agent) (chain : Chain pack P C events store records) where
-  abbrev m : Mirror pack C events store records
-  m = mirror pack P C events store records chain
+module _ (pack : List ℕ) (P C : ℕ) (events : List Event) (lent : Lent) (chain : Chain pack P C events lent) where
+  abbrev m : Mirror pack C events lent
+  m = mirror pack P C events lent chain
 
-  abbrev z : Sized P C store
-  z = sized pack P C events store records chain
+  abbrev z : Sized P C (lent .store)
+  z = sized pack P C events lent chain
 
-  rows-as : (p k : ℕ) → contentsOf (storeOf store) .rows p k ≡ (machineOf (packOf pack) events) .tables p k
+  rows-as : (p k : ℕ) → contentsOf (storeOf (lent .store)) .rows p k ≡ (machineOf (packOf pack) events) .tables p k
   unfolding stateOf
   rows-as p k =
       ap (λ (s : State). s .store .rows p k) (m .state) ∙ rows-are (packOf pack) C (m .calls) p k
-      ∙ ap (λ (x : Machine). x .tables p k) (sym (m .machine))
+      ∙ ap (λ (x : Machine). x .tables p k) (sym (machine-as m))
 
-  pub plain-run-on : PlainRun pack P events store
+  pub plain-run-on : PlainRun pack P events (lent .store)
   plain-run-on =
       record {
-        rows = λ p k h l. sym (row-within store p k (omega (arith, z .parts)) l) ∙ rows-as p k;
+        rows = λ p k h l. sym (row-within (lent .store) p k (omega (arith, z .parts)) l) ∙ rows-as p k;
         no-more = λ p k c. sym (rows-as p k) ∙ none-there p k c;
-        replies = ap firstReplies (m .replies) ∙ replies-are (packOf pack) C (m .calls) ∙ ap (λ (x : Machine). x .replies) (sym (m .machine));
+        replies =
+            ap firstReplies (replies-as m) ∙ replies-are (packOf pack) C (m .calls)
+            ∙ ap (λ (x : Machine). x .replies) (sym (machine-as m));
         equal =
             λ r r′ h h′ e.
-            equal-are (packOf pack) C (m .calls) r r′ (subst (λ (l : List Reply). List·Memᴰ r l) (m .replies) h) (subst (λ (l : List Reply). List·Memᴰ r′ l) (m .replies) h′) e;
+            equal-are (packOf pack) C (m .calls) r r′ (subst (λ (l : List Reply). List·Memᴰ r l) (replies-as m) h)
+            (subst (λ (l : List Reply). List·Memᴰ r′ l) (replies-as m) h′) e;
       }
     where
-      none-there : (p k : ℕ) → (P ≤ p) ⊎ (2 ^ 32 ≤ k) → contentsOf (storeOf store) .rows p k ≡ none
-      none-there p k (inl h) = row-beyond-parts store p k (omega (arith, z .parts))
-      none-there p k (inr h) = row-beyond-keys store p k h
+      none-there : (p k : ℕ) → (P ≤ p) ⊎ (2 ^ 32 ≤ k) → contentsOf (storeOf (lent .store)) .rows p k ≡ none
+      none-there p k (inl h) = row-beyond-parts (lent .store) p k (omega (arith, z .parts))
+      none-there p k (inr h) = row-beyond-keys (lent .store) p k h
 
-  module _ (slot : ℕ) (answer : Answer) (records′ : List Agent) (store′ : List ℕ) (h : Carried pack store records (turn slot) answer records′ store′)
+  module _ (slot : ℕ) (answer : Answer) (lent′ : Lent) (h : Carried pack lent (turn slot) answer lent′)
       (yes-case : accepted (answerOf answer) ≡ true) where
     -- no question says no to an accepted turn
-    all-yes : refusalFor pack store records (turn slot) ≡ none
-    all-yes = met-none pack store records (turn slot) answer records′ store′ h yes-case
+    all-yes : refusalFor pack lent (turn slot) ≡ none
+    all-yes = met-none pack lent (turn slot) answer lent′ h yes-case
 
     pack-accepted : packRefusal pack ≡ none
     unfolding refusalFor lentFor
-    pack-accepted = lent-pack pack store records (orElse-none _ _ all-yes .0)
+    pack-accepted = lent-pack pack lent (orElse-none _ _ all-yes .0)
 
     answer-as : answerOf answer ≡ answerTo (packOf pack) C (m .calls) (turn slot)
-    answer-as = answered-as pack C events store records m (turn slot) answer records′ store′ h all-yes
+    answer-as = answered-as pack C events lent m (turn slot) answer lent′ h all-yes
 
     rules-in-time : Rules.InTime (packOf pack) C (m .calls) slot
     rules-in-time =
         plain-run (packOf pack) (accepted-checked pack pack-accepted) C (m .calls) .in-time slot (ap accepted (sym answer-as) ∙ yes-case)
 
-    same-tally : talliesOf (record { made = turn slot; answer = answer } ∷ events) ≡ talliesAfter (packOf pack) C (turn slot ∷ m .calls)
-    unfolding talliesOf talliesAfter
-    same-tally = λ i. if_then_else_ (accepted (answer-as i)) (tallied (m .tallies i) (turn slot)) (m .tallies i)
+    same-tally : talliesOf (record { made = turn slot; answer = answerOf answer } ∷ events)
+        ≡ talliesAfter (packOf pack) C (turn slot ∷ m .calls)
+    unfolding talliesOf eventsAfter
+    same-tally = λ i. tallied (tallies-as m i) (feedOf (record { made = turn slot; answer = answer-as i }))
 
-    pub in-time-on : InTime pack events store records slot answer
+    pub in-time-on : InTime pack events lent slot answer
     unfolding stateOf
     in-time-on =
         let t = rules-in-time in
-        let w : t .request .workflow < count pack = omega (arith, booked-below (packOf pack) C (m .calls) (t .agent .id) (t .request) (t .booked), length-pack pack) in
+        let w : t .request .workflow < count pack =
+        omega (arith, booked-below (packOf pack) C (m .calls) (t .agent .id) (t .request) (t .booked), length-pack pack) in
         let size = length-workflow pack pack-accepted (t .request .workflow) w in
         record {
           agent = t .agent;
@@ -175,5 +181,5 @@ pub demand3 : (pack : List ℕ) (P C : ℕ) → Demand3 pack P C
 demand3 pack P C =
     record {
       plain-run = plain-run-on pack P C;
-      in-time = λ before store records chain slot answer records′ store′ h. in-time-on pack P C before store records chain slot answer records′ store′ h;
+      in-time = λ before lent chain slot answer lent′ h. in-time-on pack P C before lent chain slot answer lent′ h;
     }

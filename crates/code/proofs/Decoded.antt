@@ -1,4 +1,4 @@
--- A workflow to which each question says yes is `Checked` in the sense of the rules. Assumes nothing.
+-- A workflow to which each question says yes is `Checked` in the sense of the rules.
 use mathlib.Core.Path.{_≡_, refl, sym, _∙_, ap, subst}
 use mathlib.Core.Bool.{Bool, true, false, _&&_}
 use mathlib.Core.List.{List, _∷_}
@@ -113,7 +113,7 @@ module _ (d w : ℕ) where
       also tt)
 
   -- of any number: past B it reads as RETURN
-  pub decoded-behind : (op : ℕ) → shape (decode op d w) .behind ≡ behindOf op
+  decoded-behind : (op : ℕ) → shape (decode op d w) .behind ≡ behindOf op
   unfolding decode
   decoded-behind op = go (decLt op 12)
     where
@@ -145,7 +145,7 @@ module _ (d w : ℕ) where
           either false = refl
 
   -- only BEGIN opens a block
-  pub decoded-opens : (op : ℕ) → shape (decode op d w) .behind ≡ some inside → op ≡ begin
+  decoded-opens : (op : ℕ) → shape (decode op d w) .behind ≡ some inside → op ≡ begin
   decoded-opens op e = go (eqb op begin) (eqb op end) refl (sym (decoded-behind op) ∙ e)
     where
       go : (x y : Bool) → eqb op begin ≡ x → if_then_else_ x (some inside) (if_then_else_ y (some outside) none) ≡ some inside → op ≡ begin

@@ -1,4 +1,4 @@
--- Questions 4 to 7 to one instruction, from what the code has in hand; and what a yes to each says. Assumes nothing.
+-- Questions 4 to 7 to one instruction, from what the code has in hand; and what a yes to each says.
 use mathlib.Core.Path.{_≡_, refl, sym, _∙_}
 use mathlib.Core.Bool.{Bool, true, false, _&&_}
 use mathlib.Core.List.{List}
@@ -16,7 +16,8 @@ use Rattle.operation.specs.declared.Row.{Row}
 use Rattle.operation.specs.Parts.{sourceOf, targetOf}
 use Rattle.operation.specs.Operations.{end, put, sideOf, operandOf, rowOf}
 use Rattle.code.specs.Layout.{operationAt, registerAt, wordAt}
-use Rattle.code.specs.Questions.{inRange, registerRight, isNoEnd, stands, lands, counted, insideAt, putsBefore, question4, question5, question6, question7}
+use Rattle.code.specs.Questions.{inRange, registerRight, isNoEnd, stands, lands, counted, insideAt, putsBefore, question4}
+use Rattle.code.specs.Questions.{question5, question6, question7}
 use Rattle.code.specs.Refusal.{instructionNo}
 
 -- a jump's target, where its operand is in range
@@ -41,23 +42,27 @@ unfolding isNoEnd
 no-end-here ops i n = rw (ne-eqb (operationAt ops i) end n)
 
 -- the answers in order
-pub judged : (w : ℕ) (ops ws : List ℕ) (i : ℕ) (a b c d : Bool) → question4 ops i ≡ a → question5 ops ws i ≡ b → question6 ops ws i ≡ c → question7 ops i ≡ d →
+pub judged : (w : ℕ) (ops ws : List ℕ) (i : ℕ) (a b c d : Bool) → question4 ops i ≡ a → question5 ops ws i ≡ b → question6 ops ws i ≡ c →
+    question7 ops i ≡ d →
     instructionNo w ops ws i ≡ ask (no 4 w i) a (ask (no 5 w i) b (ask (no 6 w i) c (ask (no 7 w i) d none)))
 unfolding instructionNo
 judged w ops ws i a b c d p q r s = rw (p, q, r, s)
 
 -- 5 and 6 by a row of the table
 module _ (ops ws : List ℕ) (i w : ℕ) (row : Row) (e : w ≡ wordAt ws i) (f : row ≡ rowOf (operationAt ops i)) where
-  pub asked-5 : (t : Bool) → t ≡ (inRange (row .operand) (length ops) i w && registerRight (row .fixed) (registerAt ops i)) → question5 ops ws i ≡ t
+  pub asked-5 : (t : Bool) → t ≡ (inRange (row .operand) (length ops) i w && registerRight (row .fixed) (registerAt ops i)) →
+      question5 ops ws i ≡ t
   unfolding question5
   asked-5 t g = sym (rw (f, e) at g)
 
-  pub asked-6 : (inside t : Bool) → insideAt ops i ≡ inside → t ≡ (stands (row .side) inside && lands (row .operand) inside ops i (targetOf w)) → question6 ops ws i ≡ t
+  pub asked-6 : (inside t : Bool) → insideAt ops i ≡ inside →
+      t ≡ (stands (row .side) inside && lands (row .operand) inside ops i (targetOf w)) → question6 ops ws i ≡ t
   unfolding question6
   asked-6 inside t s g = rw s (sym (rw (f, e) at g))
 
 -- the operand is in range, where 5 says yes
-pub ranged-operand : (o : Operand) (fixed : Bool) (size i w d : ℕ) (t : Bool) → t ≡ (inRange o size i w && registerRight fixed d) → t ≡ true → inRange o size i w ≡ true
+pub ranged-operand : (o : Operand) (fixed : Bool) (size i w d : ℕ) (t : Bool) → t ≡ (inRange o size i w && registerRight fixed d) →
+    t ≡ true → inRange o size i w ≡ true
 ranged-operand o fixed size i w d t e h = and-left (inRange o size i w) (registerRight fixed d) (sym e ∙ h)
 
 -- the four questions, each yes
@@ -97,7 +102,8 @@ module _ (ops ws : List ℕ) (i : ℕ) where
   lands-right h = and-right (stands (sideOf (operationAt ops i)) (insideAt ops i)) _ h
 
   -- it stands, its operation and its side being known
-  pub stood : (op : ℕ) (inside : Bool) → operationAt ops i ≡ op → insideAt ops i ≡ inside → question6 ops ws i ≡ true → stands (sideOf op) inside ≡ true
+  pub stood : (op : ℕ) (inside : Bool) → operationAt ops i ≡ op → insideAt ops i ≡ inside → question6 ops ws i ≡ true →
+      stands (sideOf op) inside ≡ true
   stood op inside e s h = rw (← e, ← s) (stands-right h)
 
   -- outside a block no PUT stands, and 7 has nothing to ask

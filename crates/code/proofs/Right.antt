@@ -1,4 +1,4 @@
--- An instruction of a workflow that is right: what the questions say of it, on either side of a block. Assumes nothing.
+-- An instruction of a workflow that is right: what the questions say of it, on either side of a block.
 use mathlib.Core.Bool.{Bool, true, false}
 use mathlib.Core.List.{List}
 use mathlib.Core.Option.{none, some}

@@ -1,4 +1,4 @@
--- One step of a walk: the side and the PUTs behind an instruction that is right. Assumes nothing.
+-- One step of a walk: the side and the PUTs behind an instruction that is right.
 use mathlib.Core.Path.{_≡_, refl, sym, _∙_}
 use mathlib.Core.Bool.{Bool, true, false}
 use mathlib.Core.List.{List}
@@ -38,7 +38,8 @@ module _ (w : ℕ) (ops ws : List ℕ) (i : ℕ) (v : Verdict) (p : v ≡ verdic
   stays-inside s n = rw (add-one, ne-eqb (operationAt ops i) begin (no-begin s), ne-eqb (operationAt ops i) end n) s
 
   -- the PUTs of the block, the operation and the count in hand
-  module _ (op puts r : ℕ) (e : op ≡ operationAt ops i) (q : putsBefore ops i ≡ puts) (f : r ≡ if_then_else_ (eqb op put) (puts + 1) puts) where
+  module _ (op puts r : ℕ) (e : op ≡ operationAt ops i) (q : putsBefore ops i ≡ puts)
+      (f : r ≡ if_then_else_ (eqb op put) (puts + 1) puts) where
     pub puts-next : insideAt ops i ≡ true → (operationAt ops i ≡ end → ⊥) → putsBefore ops (i + 1) ≡ r
     unfolding putsBefore
     puts-next s n =

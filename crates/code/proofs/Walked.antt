@@ -1,4 +1,4 @@
--- From an instruction's no to a workflow's. Assumes nothing.
+-- From an instruction's no to a workflow's.
 use mathlib.Core.Path.{_≡_, _∙_, ap}
 use mathlib.Core.Bool.{Bool}
 use mathlib.Core.List.{List}

@@ -1,5 +1,4 @@
--- The bytes of one workflow: two parallel arrays over its instructions, operation bytes and operand words (4 bytes each). Assumes
--- nothing: these are definitions.
+-- The bytes of one workflow: two parallel arrays over its instructions, operation bytes and operand words (4 bytes each).
 use mathlib.Core.List.{List}
 use Prim.Native.Nat.{ℕ, _*_}
 use lib.ListN.{getD}

@@ -1,4 +1,4 @@
--- A workflow's bytes as the code of the rules. Assumes nothing: these are definitions.
+-- A workflow's bytes as the code of the rules.
 use mathlib.Core.List.{List, [], _∷_}
 use Prim.Native.Nat.{ℕ, zero, suc, _<_}
 use lib.ListN.{length, getD}

@@ -1,5 +1,5 @@
--- Questions 4 to 8, each a test: true is yes. 4 to 7 are put to instruction i of a workflow that has operation bytes `ops` and
--- operand bytes `ws`. Assumes nothing: these are definitions.
+-- Questions 4 to 8, each a test: true is yes. 4 to 7 are put to instruction i of a workflow that has operation bytes `ops` and operand
+-- bytes `ws`.
 use mathlib.Core.Bool.{Bool, true, false, not, _&&_}
 use mathlib.Core.List.{List}
 use Prim.Native.Nat.{ℕ, zero, suc, _+_, _-_}

@@ -1,4 +1,4 @@
--- The order of the questions to one workflow: the first no is the refusal. Assumes nothing: these are definitions.
+-- The order of the questions to one workflow: the first no is the refusal.
 use mathlib.Core.List.{List}
 use mathlib.Core.Option.{Option, none}
 use Prim.Native.Nat.{ℕ, _-_}

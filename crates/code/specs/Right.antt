@@ -1,5 +1,4 @@
--- A workflow's bytes to which the questions say yes: what stands between the pack check and those who run the workflow. Assumes nothing:
--- these are definitions.
+-- A workflow's bytes to which the questions say yes: what stands between the pack check and those who run the workflow.
 use mathlib.Core.List.{List}
 use mathlib.Core.Option.{none}
 use mathlib.Core.Path.{_≡_}

@@ -9,7 +9,7 @@ fn print_numbered(c: &[u8], number: u64, buffer: &mut [u8]) -> usize
     ensures { λ r. ⌜ r ≤ length (now (c .entry)) ⌝ }
 {
     let mut line = [0u8; 32];
-    let n = case_print::lines::case_line(&mut line, number);
+    let n = case_print::case_lines::case_line(&mut line, number);
     let size = cases::run::print_case(c, &line[..n], true, buffer);
     if size == 0 {
         case_print::print::print_malformed(number);

@@ -1,4 +1,4 @@
--- The index behind a block: the search for END, from an instruction on. Assumes nothing.
+-- The index behind a block: the search for END, from an instruction on.
 use mathlib.Core.List.{List, _∷_}
 use mathlib.Core.Path.{_≡_, refl, ap, _∙_}
 use Prim.Native.Nat.{ℕ, suc, _+_, _≤_, _<_}

@@ -1,4 +1,4 @@
--- What an agent does next, by the byte and the operand of its instruction. Assumes nothing.
+-- What an agent does next, by the byte and the operand of its instruction.
 use mathlib.Core.List.{List}
 use mathlib.Core.Path.{_≡_, refl, sym, ap, _∙_, subst}
 use Prim.Native.Nat.{ℕ, _<_}

@@ -1,4 +1,4 @@
--- What the code's answer to "what does the agent do next?" stands for. Assumes nothing: these are definitions.
+-- What the code's answer to "what does the agent do next?" stands for.
 use mathlib.Core.Bool.{false}
 use mathlib.Core.List.{List}
 use mathlib.Core.Path.{_≡_}

@@ -1,15 +1,8 @@
 // Reads edges from standard input, at most 256 KiB, and prints each one's words and its answer. An edge is the length of its words
 // (1 byte), the words, and a case in the form that `cases` has. `edges.py` has them in readable form, each with its answer.
 ghost use mathlib.Core.Path.{_≡_};
-ghost use Prim.Native.Nat.{_≤_, _<_};
+ghost use Prim.Native.Nat.{_≤_};
 ghost use lib.ListN.{length};
-
-// A byte, as a length.
-fn wide(b: u8) -> usize
-    ensures { λ r. ⌜ (r ≡ b) × (r < 256) ⌝ }
-{
-    b as usize
-}
 
 // The edge that `e` begins with. The answer is how many bytes it has, 0 if it is malformed.
 fn print_edge(e: &[u8], buffer: &mut [u8]) -> usize
@@ -19,7 +12,7 @@ fn print_edge(e: &[u8], buffer: &mut [u8]) -> usize
     if e.len() == 0 {
         return 0;
     }
-    let to = 1 + wide(e[0]);
+    let to = 1 + cases::parts::wide(e[0]);
     if e.len() < to {
         return 0;
     }

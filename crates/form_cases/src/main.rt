@@ -6,6 +6,7 @@ ghost use Rattle.pack.specs.Refusal.{openRefusal};
 ghost use Rattle.lent.specs.Alone.{TurnedAlone};
 use agents::Agent;
 use agents::Answer;
+use agents::Request;
 use libc::STDOUT_FILENO;
 use questions::Verdict;
 use reader::Instruction;
@@ -88,13 +89,13 @@ fn write_instructions(pack: &[u8], workflow: u32, size: usize) {
     write_instruction(size, reader::instruction_of(pack, workflow, size));
 }
 
-// All that a reader of one workflow gives.
+// All that there is of one workflow: a reader's verdict, the parts, a reader's instructions.
 fn write_reader(title: &[u8], pack: &[u8], workflow: u32) {
     write_text(title);
     write_verdict(verdict_of(pack, workflow));
-    let operations = reader::operations_of(pack, workflow);
+    let operations = pack::operations(pack, workflow);
     write_bytes(b"operations", operations);
-    write_bytes(b"operands", reader::operands_of(pack, workflow));
+    write_bytes(b"operands", pack::operands(pack, workflow));
     write_instructions(pack, workflow, operations.len());
 }
 
@@ -176,7 +177,14 @@ fn write_turns(pack: &[u8], store: &mut [u8], agent: Agent, n: usize) -> Agent {
 
 // The agent of request 7 in slot 0: what its arrival left there.
 fn started(pack: &[u8], store: &mut [u8]) -> Agent {
-    let o = runtime::arrival(pack, store, agents::no_agents(), 0, 7, 0, 100, 200, 30, 0);
+    let q = Request {
+        workflow: 0,
+        a0: 100,
+        a1: 200,
+        a2: 30,
+        a3: 0,
+    };
+    let o = runtime::arrival(pack, store, agents::no_agents(), 0, 7, q);
     let slots = o.agents;
     let a = slots[0];
     let answer = o.answer;

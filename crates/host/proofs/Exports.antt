@@ -1,4 +1,4 @@
--- The promise of the exports for calls, from what the code has in hand. Assumes nothing.
+-- The promise of the exports for calls, from what the code has in hand.
 use mathlib.Core.Bool.{Bool, true, false}
 use mathlib.Core.List.{List}
 use mathlib.Core.Option.{Option, none, some}
@@ -16,7 +16,7 @@ use Rattle.pack.specs.Meaning.{packOf}
 use Rattle.agents.specs.declared.Agent.{Agent}
 use Rattle.agents.specs.declared.Outcome.{Outcome}
 use Rattle.agents.specs.Answers.{answerOf}
-use Rattle.meaning.specs.State.{stateOf}
+use Rattle.meaning.specs.State.{stateOf, Lent}
 use Rattle.meaning.specs.Questions.{refusalFor}
 use Rattle.meaning.specs.Carried.{Carried}
 use Rattle.slots.specs.Records.{slotsIn}
@@ -43,12 +43,14 @@ module _ (pack store slots answer : List ℕ) (c : Call) where
 
   module _ (records : List Agent) (o : Outcome) (store′ slots′ answer′ : List ℕ) (number : ℕ) where
     -- a refused call leaves the records that it was given
-    kept : Carried pack store records c (o .answer) (o .agents) store′ → accepted (answerOf (o .answer)) ≡ false → o .agents ≡ records
-    kept p e = go (refusalFor pack store records c) refl
+    kept : Carried pack (record { store = store; records = records }) c (o .answer) (record { store = store′; records = o .agents }) →
+        accepted (answerOf (o .answer)) ≡ false → o .agents ≡ records
+    kept p e = go (refusalFor pack (record { store = store; records = records }) c) refl
       where
-        go : (r : Option No) → refusalFor pack store records c ≡ r → o .agents ≡ records
-        go none q = yes-no (sym (ap accepted (p .carried q .0) ∙ rule-accepted (packOf pack) (stateOf store records) c) ∙ e)
-        go (some n) q = p .refused n q .1 .slots
+        go : (r : Option No) → refusalFor pack (record { store = store; records = records }) c ≡ r → o .agents ≡ records
+        go none q = yes-no (sym
+            (ap accepted (p .carried q .0) ∙ rule-accepted (packOf pack) (stateOf (record { store = store; records = records })) c) ∙ e)
+        go (some n) q = ap (λ (x : Lent). x .records) (p .refused n q .1)
 
     -- and no byte of them is written
     untouched : (a : Rules.Answer) → accepted a ≡ false → slotsAfter a slots (o .agents) ≡ slots
@@ -59,7 +61,7 @@ module _ (pack store slots answer : List ℕ) (c : Call) where
     untouched (Rules.refused n) e = refl
 
     pub exported : 12 ≤ length answer → length slots ≡ 384 → records ≡ slotsIn slots
-        → Carried pack store records c (o .answer) (o .agents) store′
+        → Carried pack (record { store = store; records = records }) c (o .answer) (record { store = store′; records = o .agents })
         → (number ≡ numberOf (answerOf (o .answer))) × (answer′ ≡ withWords answer (valuesOf (answerOf (o .answer))))
         → slots′ ≡ slotsAfter (answerOf (o .answer)) slots (o .agents)
         → (accepted (answerOf (o .answer)) ≡ true → slotsIn slots′ ≡ o .agents)
@@ -69,7 +71,13 @@ module _ (pack store slots answer : List ℕ) (c : Call) where
         let e : buffersWrong answer slots ≡ none = rw (le-leb 12 (length answer) h, eq-eqb (length slots) 384 l) refl in
         record {
           wrong = λ n q. absurd (missing (sym e ∙ q));
-          served = λ q. record { said = o .answer; carried = carried; bytes = w ∙ ap (slotsAfter (answerOf (o .answer)) slots) (sym back); given = t .0; words = t .1 };
+          served = λ q. record {
+            said = o .answer;
+            carried = carried;
+            bytes = w ∙ ap (slotsAfter (answerOf (o .answer)) slots) (sym back);
+            given = t .0;
+            words = t .1;
+          };
         }
       where
         left : (t : Bool) → accepted (answerOf (o .answer)) ≡ t → slotsIn slots′ ≡ o .agents
@@ -79,10 +87,13 @@ module _ (pack store slots answer : List ℕ) (c : Call) where
         back : slotsIn slots′ ≡ o .agents
         back = left (accepted (answerOf (o .answer))) refl
 
-        carried : Carried pack store (slotsIn slots) c (o .answer) (slotsIn slots′) store′
+        carried : Carried pack (record { store = store; records = slotsIn slots }) c (o .answer)
+            (record { store = store′; records = slotsIn slots′ })
         carried =
-            subst (λ (l : List Agent). Carried pack store (slotsIn slots) c (o .answer) l store′) (sym back)
-            (subst (λ (l : List Agent). Carried pack store l c (o .answer) (o .agents) store′) r p)
+            subst (λ (l : List Agent). Carried pack (record { store = store; records = slotsIn slots }) c (o .answer)
+            (record { store = store′; records = l })) (sym back)
+            (subst (λ (l : List Agent). Carried pack (record { store = store; records = l }) c (o .answer)
+            (record { store = store′; records = o .agents })) r p)
 
 -- ---- order
 
@@ -93,9 +104,11 @@ in-order-short store answer h =
     record { short = λ n q. (same (sym e ∙ q), refl, refl); served = λ q. absurd (missing (sym q ∙ e)) }
 
 pub in-order : (store answer : List ℕ) (number : ℕ) (store′ answer′ : List ℕ) (said : Answer) → 12 ≤ length answer →
-    ((pack : List ℕ) (records : List Agent) → Carried pack store records order said records store′)
+    ((pack : List ℕ) (records : List Agent) →
+    Carried pack (record { store = store; records = records }) order said (record { store = store′; records = records }))
     × (accepted (answerOf said) ≡ true → InOrder store store′) →
-    (number ≡ numberOf (answerOf said)) × (answer′ ≡ withWords answer (valuesOf (answerOf said))) → PutInOrder store answer number store′ answer′
+    (number ≡ numberOf (answerOf said)) × (answer′ ≡ withWords answer (valuesOf (answerOf said))) →
+    PutInOrder store answer number store′ answer′
 unfolding answerShort
 in-order store answer number store′ answer′ said h c w =
     let e : answerShort 12 answer ≡ none = rw (le-leb 12 (length answer) h) refl in

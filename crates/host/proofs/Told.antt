@@ -1,4 +1,4 @@
--- The promises of check, open and create, from what the code has in hand. Assumes nothing.
+-- The promises of check, open and create, from what the code has in hand.
 use mathlib.Core.List.{List, [], _∷_, _++_}
 use mathlib.Core.Option.{Option, none, some, Option·getD}
 use mathlib.Core.Path.{_≡_, refl, sym, _∙_, ap, subst}
@@ -37,7 +37,7 @@ told-short need answer a words h =
     let e : answerShort need answer ≡ some 100 = rw (lt-leb need (length answer) h) refl in
     record { short = λ n q. (same (sym e ∙ q), refl); told = λ q. absurd (missing (sym q ∙ e)) }
 
-pub told-all : (need : ℕ) (answer : List ℕ) (a : Answer) (words : List ℕ) (number : ℕ) (answer′ : List ℕ) → need ≤ length answer
+told-all : (need : ℕ) (answer : List ℕ) (a : Answer) (words : List ℕ) (number : ℕ) (answer′ : List ℕ) → need ≤ length answer
     → number ≡ numberOf a → answer′ ≡ withWords answer words → Told need answer a words number answer′
 unfolding answerShort
 told-all need answer a words number answer′ h p q =
@@ -51,7 +51,7 @@ told-judged answer a b number answer′ h e t =
     told-all 12 answer a (valuesOf a) number answer′ h (t .0 ∙ ap numberOf e) (t .1 ∙ ap (λ x. withWords answer (valuesOf x)) e)
 
 -- the four words of the parts behind the three of the answer
-pub seven-words : (answer : List ℕ) (a : Answer) (x y z u : ℕ)
+seven-words : (answer : List ℕ) (a : Answer) (x y z u : ℕ)
     → puts 4 (withWords answer (valuesOf a)) 12 (x ∷ y ∷ z ∷ u ∷ []) 4 ≡ withWords answer (valuesOf a ++ x ∷ y ∷ z ∷ u ∷ [])
 unfolding Records.puts Answers.valuesOf
 seven-words answer done x y z u = refl
@@ -60,21 +60,24 @@ seven-words answer (reply id (yields value)) x y z u = refl
 seven-words answer (refused n) x y z u = refl
 
 -- the words of an opening, by what its questions came to
-pub opened-words : (answer pack : List ℕ) (w : ℕ) (a : Answer) (o : Option No) → openRefusal pack w ≡ o → a ≡ judged o
+opened-words : (answer pack : List ℕ) (w : ℕ) (a : Answer) (o : Option No) → openRefusal pack w ≡ o → a ≡ judged o
     → withWords answer (valuesOf a ++ partsOf pack w o) ≡ withWords answer (openedWords pack w)
 unfolding openedWords
 opened-words answer pack w a o e q = rw (e, q) refl
 
 -- open, by what its questions came to: the answer b was written, and then the words of the parts
-pub told-open : (answer pack : List ℕ) (w : ℕ) (o : Option No) (b : Answer) (number : ℕ) (between ws answer′ : List ℕ) → 28 ≤ length answer → openRefusal pack w ≡ o
-    → b ≡ judged (openRefusal pack w) → (number ≡ numberOf b) × (between ≡ withWords answer (valuesOf b)) → ws ≡ partsOf pack w o → answer′ ≡ puts 4 between 12 ws 4
+pub told-open : (answer pack : List ℕ) (w : ℕ) (o : Option No) (b : Answer) (number : ℕ) (between ws answer′ : List ℕ) →
+    28 ≤ length answer → openRefusal pack w ≡ o
+    → b ≡ judged (openRefusal pack w) → (number ≡ numberOf b) × (between ≡ withWords answer (valuesOf b)) → ws ≡ partsOf pack w o →
+    answer′ ≡ puts 4 between 12 ws 4
     → Told 28 answer (judged (openRefusal pack w)) (openedWords pack w) number answer′
 told-open answer pack w o b number between ws answer′ h q e t p r =
     told-all 28 answer _ (openedWords pack w) number answer′ h (t .0 ∙ ap numberOf e)
     (r ∙ ap (λ l. puts 4 l 12 ws 4) (t .1) ∙ ap (λ l. puts 4 (withWords answer (valuesOf b)) 12 l 4) p
     ∙ four o ∙ opened-words answer pack w b o q (e ∙ ap judged q))
   where
-    four : (o : Option No) → puts 4 (withWords answer (valuesOf b)) 12 (partsOf pack w o) 4 ≡ withWords answer (valuesOf b ++ partsOf pack w o)
+    four : (o : Option No) →
+        puts 4 (withWords answer (valuesOf b)) 12 (partsOf pack w o) 4 ≡ withWords answer (valuesOf b ++ partsOf pack w o)
     four none = unfold partsOf in seven-words answer b (operationsAt pack w) (sizeOf pack w) (operandsAt pack w) (4 * sizeOf pack w)
     four (some n) = unfold partsOf in seven-words answer b 0 0 0 0
 
@@ -86,8 +89,10 @@ made-short store answer P C h =
     record { told = told-short 12 answer _ _ h; short = λ n q. refl; created = λ q. absurd (missing (sym q ∙ e)) }
 
 -- create, by its verdict v, of which the answer b was written
-pub made : (store answer : List ℕ) (P C number : ℕ) (store′ answer′ : List ℕ) (v : Verdict) (b : Answer) → 12 ≤ length answer → Created store store′ P C v
-    → b ≡ judged (createRefusal P C (length store)) → (number ≡ numberOf b) × (answer′ ≡ withWords answer (valuesOf b)) → Made store answer P C number store′ answer′
+pub made : (store answer : List ℕ) (P C number : ℕ) (store′ answer′ : List ℕ) (v : Verdict) (b : Answer) → 12 ≤ length answer →
+    Created store store′ P C v
+    → b ≡ judged (createRefusal P C (length store)) → (number ≡ numberOf b) × (answer′ ≡ withWords answer (valuesOf b)) →
+    Made store answer P C number store′ answer′
 unfolding answerShort
 made store answer P C number store′ answer′ v b h m e t =
     let q : answerShort 12 answer ≡ none = rw (le-leb 12 (length answer) h) refl in

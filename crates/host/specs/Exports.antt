@@ -1,4 +1,4 @@
--- What the exports for calls promise of the number returned and of the lent buffers. Assumes nothing: these are definitions.
+-- What the exports for calls promise of the number returned and of the lent buffers.
 use mathlib.Core.Bool.{true}
 use mathlib.Core.List.{List}
 use mathlib.Core.Option.{Option, none, some}
@@ -26,7 +26,8 @@ buffersWrong answer slots =
 -- A call was put to the library, on what the slots' bytes mean; the number and the words are those of its answer.
 pub record Served (pack store slots answer : List ℕ) (c : Call) (number : ℕ) (store′ slots′ answer′ : List ℕ) : Type 0 where
   pub said : Answer
-  pub carried : Carried pack store (slotsIn slots) c said (slotsIn slots′) store′
+  pub carried : Carried pack (record { store = store; records = slotsIn slots }) c said
+      (record { store = store′; records = slotsIn slots′ })
   pub bytes : slots′ ≡ slotsAfter (answerOf said) slots (slotsIn slots′)
   pub given : number ≡ numberOf (answerOf said)
   pub words : answer′ ≡ withWords answer (valuesOf (answerOf said))
@@ -41,7 +42,8 @@ pub record Exported (pack store slots answer : List ℕ) (c : Call) (number : �
 pub record PutInOrder (store answer : List ℕ) (number : ℕ) (store′ answer′ : List ℕ) : Type 0 where
   pub short : (n : ℕ) → answerShort 12 answer ≡ some n → (number ≡ n) × (store′ ≡ store) × (answer′ ≡ answer)
   pub served : answerShort 12 answer ≡ none → (said : Answer)
-      × ((pack : List ℕ) (records : List Agent) → Carried pack store records order said records store′)
+      × ((pack : List ℕ) (records : List Agent) →
+      Carried pack (record { store = store; records = records }) order said (record { store = store′; records = records }))
       × (accepted (answerOf said) ≡ true → InOrder store store′)
       × (number ≡ numberOf (answerOf said))
       × (answer′ ≡ withWords answer (valuesOf (answerOf said)))

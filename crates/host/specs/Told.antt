@@ -1,4 +1,4 @@
--- What the exports promise that put questions and change no slot: check, open, create. Assumes nothing: these are definitions.
+-- What the exports promise that put questions and change no slot: check, open, create.
 use mathlib.Core.List.{List, [], _∷_, _++_}
 use mathlib.Core.Option.{Option, none, some}
 use mathlib.Core.Path.{_≡_}
@@ -35,6 +35,7 @@ pub record Told (need : ℕ) (answer : List ℕ) (a : Answer) (words : List ℕ)
 
 -- Create: what is told, and what the store's bytes become.
 pub record Made (store answer : List ℕ) (P C number : ℕ) (store′ answer′ : List ℕ) : Type 0 where
-  pub told : Told 12 answer (judged (createRefusal P C (length store))) (valuesOf (judged (createRefusal P C (length store)))) number answer′
+  pub told : Told 12 answer (judged (createRefusal P C (length store)))
+      (valuesOf (judged (createRefusal P C (length store)))) number answer′
   pub short : (n : ℕ) → answerShort 12 answer ≡ some n → store′ ≡ store
   pub created : answerShort 12 answer ≡ none → Created store store′ P C (verdictOf (createRefusal P C (length store)))

@@ -6,6 +6,7 @@ ghost use Rattle.pack.specs.Refusal.{packRefusal, openRefusal};
 ghost use Rattle.answers.specs.Answers.{valuesOf, judged};
 ghost use Rattle.host.specs.Told.{openedWords, Told, Made};
 ghost use Rattle.host.specs.Exports.{Exported, PutInOrder};
+use agents::Request;
 use questions::Verdict;
 
 // The check of a pack.
@@ -106,7 +107,14 @@ pub extern "C" fn sarthule_arrival(
         return 101;
     }
     let agents = slots::read_slots(slots);
-    let o = runtime::arrival(pack, store, agents, slot, id, workflow, a0, a1, a2, a3);
+    let q = Request {
+        workflow,
+        a0,
+        a1,
+        a2,
+        a3,
+    };
+    let o = runtime::arrival(pack, store, agents, slot, id, q);
     answers::finish(slots, answer, o)
 }
 

@@ -1,4 +1,4 @@
--- The register s that an operand names, in a workflow that is right. Assumes nothing.
+-- The register s that an operand names, in a workflow that is right.
 use mathlib.Core.Bool.{true}
 use mathlib.Core.List.{List}
 use mathlib.Core.Path.{_≡_, refl}

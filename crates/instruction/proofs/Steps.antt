@@ -1,4 +1,4 @@
--- One instruction of a block: what the code makes of a run is what the rules' act makes of it. Assumes nothing.
+-- One instruction of a block: what the code makes of a run is what the rules' act makes of it.
 use mathlib.Core.Bool.{Bool}
 use mathlib.Core.List.{List}
 use mathlib.Core.Option.{Option, some, Option·getD}
@@ -41,19 +41,21 @@ atPlace x y = record { place = y; pending = x .pending }
 pub next-at : (x : Spot) → placeOf (record { position = x .position + 1; registers = x .registers }) ≡ next (placeOf x)
 next-at x = λ i. record { position = add-one (x .position) i; registers = x .registers }
 
-pub becomes-at : (x : Spot) (d v : ℕ) → placeOf (record { position = x .position + 1; registers = set (x .registers) d v }) ≡ becomes (placeOf x) d v
+pub becomes-at : (x : Spot) (d v : ℕ) →
+    placeOf (record { position = x .position + 1; registers = set (x .registers) d v }) ≡ becomes (placeOf x) d v
 becomes-at x d v = λ i. record { position = add-one (x .position) i; registers = set (x .registers) d v }
 
 -- ---- what an instruction asks for
 
 module _ (rs : List Row) (x : Running) (y : Spot) (kept : Kept (x .pending)) where
-  pub step-moved : (a : Act) → moves (placeOf y) ≡ a → Stepped a rs x (atPlace x y) 0
+  step-moved : (a : Act) → moves (placeOf y) ≡ a → Stepped a rs x (atPlace x y) 0
   unfolding Blocks.within
   step-moved a e =
       record { goes = λ onward. ap (λ (b : Act). within b (workOf rs x) onward) (sym e); kept = kept; few = omega arith }
 
   -- by what the block sees at the key
-  step-reads : (k : ℕ) → k < 2 ^ 32 → (o : Option ℕ) → seen (rowsIn (x .pending)) rs (dataKey k) ≡ o → (to : Option ℕ → Place) → placeOf y ≡ to o → Stepped (reads k to) rs x (atPlace x y) 0
+  step-reads : (k : ℕ) → k < 2 ^ 32 → (o : Option ℕ) → seen (rowsIn (x .pending)) rs (dataKey k) ≡ o → (to : Option ℕ → Place) →
+      placeOf y ≡ to o → Stepped (reads k to) rs x (atPlace x y) 0
   unfolding Blocks.within
   step-reads k h o e to p =
       record {
@@ -72,14 +74,19 @@ module _ (rs : List Row) (x : Running) (y : Spot) (kept : Kept (x .pending)) whe
         few = omega arith;
       }
 
-  module _ (d s : ℕ) (h : register (placeOf (x .place)) s < 2 ^ 32) (o : Option ℕ) (e : seen (rowsIn (x .pending)) rs (dataKey (register (placeOf (x .place)) s)) ≡ o) where
-    pub step-get : placeOf y ≡ becomes (placeOf (x .place)) d (Option·getD o (register (placeOf (x .place)) d)) → Stepped (act (GET d s) (placeOf (x .place))) rs x (atPlace x y) 0
+  module _ (d s : ℕ) (h : register (placeOf (x .place)) s < 2 ^ 32) (o : Option ℕ)
+      (e : seen (rowsIn (x .pending)) rs (dataKey (register (placeOf (x .place)) s)) ≡ o) where
+    pub step-get : placeOf y ≡ becomes (placeOf (x .place)) d (Option·getD o (register (placeOf (x .place)) d)) →
+        Stepped (act (GET d s) (placeOf (x .place))) rs x (atPlace x y) 0
     unfolding Instructions.act
-    step-get = step-reads (register (placeOf (x .place)) s) h o e (λ found. becomes (placeOf (x .place)) d (Option·getD found (register (placeOf (x .place)) d)))
+    step-get = step-reads (register (placeOf (x .place)) s) h o e
+        (λ found. becomes (placeOf (x .place)) d (Option·getD found (register (placeOf (x .place)) d)))
 
-    pub step-has : placeOf y ≡ becomes (placeOf (x .place)) d (if_then_else_ (isSome o) 1 0) → Stepped (act (HAS d s) (placeOf (x .place))) rs x (atPlace x y) 0
+    pub step-has : placeOf y ≡ becomes (placeOf (x .place)) d (if_then_else_ (isSome o) 1 0) →
+        Stepped (act (HAS d s) (placeOf (x .place))) rs x (atPlace x y) 0
     unfolding Instructions.act
-    step-has = step-reads (register (placeOf (x .place)) s) h o e (λ found. becomes (placeOf (x .place)) d (if_then_else_ (isSome found) 1 0))
+    step-has = step-reads (register (placeOf (x .place)) s) h o e
+        (λ found. becomes (placeOf (x .place)) d (if_then_else_ (isSome found) 1 0))
 
 module _ (rs : List Row) (x : Running) (was : Kept (x .pending)) (k v : ℕ) (h : k < 2 ^ 32) (q : Pending)
     (e : rowsIn q ≡ putRow (dataKey k) v (rowsIn (x .pending))) where
@@ -87,10 +94,13 @@ module _ (rs : List Row) (x : Running) (was : Kept (x .pending)) (k v : ℕ) (h 
   table-put =
       sym
       (ap (λ (ps : List Row). tableOf (seen ps rs)) e
-      ∙ ap tableOf (fun-ext {f = seen (putRow (dataKey k) v (rowsIn (x .pending))) rs} {g = update (seen (rowsIn (x .pending)) rs) (dataKey k) (some v)} (seen-put (dataKey k) v rs (rowsIn (x .pending))))
-      ∙ fun-ext {f = tableOf (update (seen (rowsIn (x .pending)) rs) (dataKey k) (some v))} {g = update (tableOf (seen (rowsIn (x .pending)) rs)) k (some v)} (data-put (seen (rowsIn (x .pending)) rs) v k h))
+      ∙ ap tableOf (fun-ext {f = seen (putRow (dataKey k) v (rowsIn (x .pending))) rs}
+      {g = update (seen (rowsIn (x .pending)) rs) (dataKey k) (some v)} (seen-put (dataKey k) v rs (rowsIn (x .pending))))
+      ∙ fun-ext {f = tableOf (update (seen (rowsIn (x .pending)) rs) (dataKey k) (some v))}
+      {g = update (tableOf (seen (rowsIn (x .pending)) rs)) k (some v)} (data-put (seen (rowsIn (x .pending)) rs) v k h))
 
-  keys-put : if_then_else_ (isSome (tableOf (seen (rowsIn (x .pending)) rs) k)) (countNew (keysIn (rowsIn (x .pending))) rs) (suc (countNew (keysIn (rowsIn (x .pending))) rs))
+  keys-put : if_then_else_ (isSome (tableOf (seen (rowsIn (x .pending)) rs) k)) (countNew (keysIn (rowsIn (x .pending))) rs)
+      (suc (countNew (keysIn (rowsIn (x .pending))) rs))
       ≡ countNew (keysIn (rowsIn q)) rs
   keys-put =
       let n = countNew (keysIn (rowsIn (x .pending))) rs in
@@ -98,7 +108,8 @@ module _ (rs : List Row) (x : Running) (was : Kept (x .pending)) (k v : ℕ) (h 
       ∙ sym (count-new (dataKey k) v rs (seen (rowsIn (x .pending)) rs (dataKey k)) n)
       ∙ sym (ap (λ (ps : List Row). countNew (keysIn ps) rs) e ∙ count-put (dataKey k) v rs (rowsIn (x .pending)) (was .in-order))
 
-  step-puts : (y : Spot) → placeOf y ≡ next (placeOf (x .place)) → Kept q → q .count ≤ x .pending .count + 1 → Stepped (puts k v) rs x (record { place = y; pending = q }) 1
+  step-puts : (y : Spot) → placeOf y ≡ next (placeOf (x .place)) → Kept q → q .count ≤ x .pending .count + 1 →
+      Stepped (puts k v) rs x (record { place = y; pending = q }) 1
   unfolding Blocks.within
   step-puts y p kept few =
       record {
@@ -108,8 +119,10 @@ module _ (rs : List Row) (x : Running) (was : Kept (x .pending)) (k v : ℕ) (h 
       }
 
 module _ (rs : List Row) (x : Running) (was : Kept (x .pending)) (d s : ℕ) (h : register (placeOf (x .place)) d < 2 ^ 32) where
-  pub step-put : (q : Pending) → rowsIn q ≡ putRow (dataKey (register (placeOf (x .place)) d)) (register (placeOf (x .place)) s) (rowsIn (x .pending)) →
-      (y : Spot) → placeOf y ≡ next (placeOf (x .place)) → Kept q → q .count ≤ x .pending .count + 1 → Stepped (act (PUT d s) (placeOf (x .place))) rs x (record { place = y; pending = q }) 1
+  pub step-put : (q : Pending) →
+      rowsIn q ≡ putRow (dataKey (register (placeOf (x .place)) d)) (register (placeOf (x .place)) s) (rowsIn (x .pending)) →
+      (y : Spot) → placeOf y ≡ next (placeOf (x .place)) → Kept q → q .count ≤ x .pending .count + 1 →
+      Stepped (act (PUT d s) (placeOf (x .place))) rs x (record { place = y; pending = q }) 1
   unfolding Instructions.act
   step-put q e = step-puts rs x was (register (placeOf (x .place)) d) (register (placeOf (x .place)) s) h q e
 
@@ -119,21 +132,26 @@ module _ (b w d s : ℕ) (p : d ≡ registerOf b) (q : s ≡ w % 8) (z : Sourced
   source : (op : ℕ) → operationOf b ≡ op → (op ≡ 0 → ⊥) → sourceBy op w ≡ s
   source op e n = rw e at z n ∙ sym q
 
-  pub get-step : operationOf b ≡ get → Stepped (act (GET d s) (placeOf (x .place))) rs x y 0 → Stepped (act (instructionOf b w) (placeOf (x .place))) rs x y (putsOf (operationOf b))
+  pub get-step : operationOf b ≡ get → Stepped (act (GET d s) (placeOf (x .place))) rs x y 0 →
+      Stepped (act (instructionOf b w) (placeOf (x .place))) rs x y (putsOf (operationOf b))
   unfolding Meaning.decode
   get-step e t = let r : w ≡ s = source get e (λ i. omega arith) in rw (e, r, ← p) t
 
-  pub has-step : operationOf b ≡ has → Stepped (act (HAS d s) (placeOf (x .place))) rs x y 0 → Stepped (act (instructionOf b w) (placeOf (x .place))) rs x y (putsOf (operationOf b))
+  pub has-step : operationOf b ≡ has → Stepped (act (HAS d s) (placeOf (x .place))) rs x y 0 →
+      Stepped (act (instructionOf b w) (placeOf (x .place))) rs x y (putsOf (operationOf b))
   unfolding Meaning.decode
   has-step e t = let r : w ≡ s = source has e (λ i. omega arith) in rw (e, r, ← p) t
 
-  pub put-step : operationOf b ≡ put → Stepped (act (PUT d s) (placeOf (x .place))) rs x y 1 → Stepped (act (instructionOf b w) (placeOf (x .place))) rs x y (putsOf (operationOf b))
+  pub put-step : operationOf b ≡ put → Stepped (act (PUT d s) (placeOf (x .place))) rs x y 1 →
+      Stepped (act (instructionOf b w) (placeOf (x .place))) rs x y (putsOf (operationOf b))
   unfolding Meaning.decode
   put-step e t = let r : w ≡ s = source put e (λ i. omega arith) in rw (e, r, ← p) t
 
 pub move-step : (b w d : ℕ) → d ≡ registerOf b → (rs : List Row) (x : Running) (y : Spot) → (operationOf b ≡ put → ⊥) → Kept (x .pending)
-    → moves (placeOf y) ≡ act (decode (operationOf b) d w) (placeOf (x .place)) → Stepped (act (instructionOf b w) (placeOf (x .place))) rs x (atPlace x y) (putsOf (operationOf b))
-move-step b w d p rs x y n k e = rw (ne-eqb (operationOf b) put n) (step-moved rs x y k (act (instructionOf b w) (placeOf (x .place))) (rw p at e))
+    → moves (placeOf y) ≡ act (decode (operationOf b) d w) (placeOf (x .place)) →
+    Stepped (act (instructionOf b w) (placeOf (x .place))) rs x (atPlace x y) (putsOf (operationOf b))
+move-step b w d p rs x y n k e =
+    rw (ne-eqb (operationOf b) put n) (step-moved rs x y k (act (instructionOf b w) (placeOf (x .place))) (rw p at e))
 
 -- ---- the operations on registers alone
 
@@ -160,19 +178,27 @@ module _ (x y : Spot) (op d w : ℕ) where
     unfolding Meaning.decode Instructions.act
     moved-copy e q = let r : w ≡ s = from 1 e (λ i. omega arith) in set-moved (getD (x .registers) s 0) q (rw (e, r) refl)
 
-    pub moved-add : op ≡ 2 → (v : ℕ) → v ≡ (getD (x .registers) d 0 + getD (x .registers) s 0) % 2 ^ 32 → placeOf y ≡ becomes (placeOf x) d v → Moved
+    pub moved-add : op ≡ 2 → (v : ℕ) → v ≡ (getD (x .registers) d 0 + getD (x .registers) s 0) % 2 ^ 32 →
+        placeOf y ≡ becomes (placeOf x) d v → Moved
     unfolding Meaning.decode Instructions.act
     moved-add e v f q = let r : w ≡ s = from 2 e (λ i. omega arith) in set-moved v q (rw (e, r, f) refl)
 
-    pub moved-sub : op ≡ 3 → (v : ℕ) → v ≡ (getD (x .registers) d 0 + 2 ^ 32 - getD (x .registers) s 0) % 2 ^ 32 → placeOf y ≡ becomes (placeOf x) d v → Moved
+    pub moved-sub : op ≡ 3 → (v : ℕ) → v ≡ (getD (x .registers) d 0 + 2 ^ 32 - getD (x .registers) s 0) % 2 ^ 32 →
+        placeOf y ≡ becomes (placeOf x) d v → Moved
     unfolding Meaning.decode Instructions.act
     moved-sub e v f q = let r : w ≡ s = from 3 e (λ i. omega arith) in set-moved v q (rw (e, r, f) refl)
 
     module _ (target : ℕ) (t : target ≡ targetOf w) where
-      pub moved-less : op ≡ 4 → placeOf y ≡ if_then_else_ (ltb (getD (x .registers) d 0) (getD (x .registers) s 0)) (goto (placeOf x) target) (next (placeOf x)) → Moved
+      pub moved-less : op ≡ 4 →
+          placeOf y ≡ if_then_else_ (ltb (getD (x .registers) d 0) (getD (x .registers) s 0)) (goto (placeOf x) target)
+          (next (placeOf x)) → Moved
       unfolding Meaning.decode Instructions.act
-      moved-less e q = let r : sourceOf w ≡ s = from 4 e (λ i. omega arith) in jump-moved (ltb (getD (x .registers) d 0) (getD (x .registers) s 0)) target q t (rw (e, r) refl)
+      moved-less e q = let r : sourceOf w ≡ s = from 4 e (λ i. omega arith) in
+          jump-moved (ltb (getD (x .registers) d 0) (getD (x .registers) s 0)) target q t (rw (e, r) refl)
 
-      pub moved-same : op ≡ 5 → placeOf y ≡ if_then_else_ (eqb (getD (x .registers) d 0) (getD (x .registers) s 0)) (goto (placeOf x) target) (next (placeOf x)) → Moved
+      pub moved-same : op ≡ 5 →
+          placeOf y ≡ if_then_else_ (eqb (getD (x .registers) d 0) (getD (x .registers) s 0)) (goto (placeOf x) target)
+          (next (placeOf x)) → Moved
       unfolding Meaning.decode Instructions.act
-      moved-same e q = let r : sourceOf w ≡ s = from 5 e (λ i. omega arith) in jump-moved (eqb (getD (x .registers) d 0) (getD (x .registers) s 0)) target q t (rw (e, r) refl)
+      moved-same e q = let r : sourceOf w ≡ s = from 5 e (λ i. omega arith) in
+          jump-moved (eqb (getD (x .registers) d 0) (getD (x .registers) s 0)) target q t (rw (e, r) refl)

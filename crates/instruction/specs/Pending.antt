@@ -1,4 +1,4 @@
--- The PUTs of a block so far, as rows beside the partition's rows. Assumes nothing: these are definitions.
+-- The PUTs of a block so far, as rows beside the partition's rows.
 use mathlib.Core.Bool.{true}
 use mathlib.Core.List.{List}
 use mathlib.Core.Option.{Option, none, some}

@@ -1,4 +1,4 @@
--- A block's run under way, and one instruction of it, as the rules have it. Assumes nothing: these are definitions.
+-- A block's run under way, and one instruction of it, as the rules have it.
 use mathlib.Core.List.{List}
 use mathlib.Core.Path.{_≡_}
 use Prim.Native.Nat.{ℕ, _+_, _%_, _≤_, _<_}

@@ -14,7 +14,6 @@ ghost use Rattle.store.specs.Sound.{Sound};
 ghost use Rattle.instruction.specs.Pending.{Kept};
 ghost use Rattle.instruction.specs.Step.{placeOf, Stepped, putsOf, Sourced, Fits};
 use crate::pending::Pending;
-use crate::pending::data_key;
 use crate::pending::pending_put;
 use crate::pending::seen_value;
 use store::rows::Got;
@@ -112,7 +111,7 @@ fn got(store: &[u8], partition: usize, x: Running, d: usize, s: usize) -> Runnin
 {
     let place = x.place;
     let pending = x.pending;
-    let key = data_key(place.registers[s]);
+    let key = keys::data_key(place.registers[s]);
     let old = place.registers[d];
     let g = seen_value(store, partition, pending, key);
     match g {
@@ -128,7 +127,7 @@ fn tested(store: &[u8], partition: usize, x: Running, d: usize, s: usize) -> Run
 {
     let place = x.place;
     let pending = x.pending;
-    let key = data_key(place.registers[s]);
+    let key = keys::data_key(place.registers[s]);
     let g = seen_value(store, partition, pending, key);
     match g {
         Got::Value(_) => at_place(x, set(place, d, 1)),
@@ -143,7 +142,7 @@ fn put(x: Running, d: usize, s: usize) -> Running
 {
     let from = x.place;
     let before = x.pending;
-    let key = data_key(from.registers[d]);
+    let key = keys::data_key(from.registers[d]);
     let pending = pending_put(before, key, from.registers[s]);
     let place = advanced(from);
     Running { place, pending }

@@ -1,16 +1,16 @@
--- The key forms: each passes its test and no other's, no two meet within their bounds, and so a row put at one key is a change of the table or
--- of the log there and nowhere else. Assumes nothing.
+-- The key forms: each passes its test, is within its bounds, and data keys and log keys never meet; so a data row put is a change of the
+-- table, and a log row put one of the log and none of the table.
 use mathlib.Core.Bool.{Bool, true, false}
 use mathlib.Core.Path.{_≡_, refl, sym, _∙_, ap}
 use mathlib.Core.Logic.{_⊎_, inl, inr}
 use mathlib.Core.Option.{Option, none, some}
 use Prim.Native.Nat.{ℕ, _+_, _*_, _%_, _^_, _≤_, _<_}
 use native.Mathlib.Omega.{arith}
-use borrow.Author.Tests.{lt-ltb, le-leb, lt-leb, leb-true, ltb-true}
+use borrow.Author.Tests.{lt-ltb, le-leb, lt-leb, leb-true, ltb-true, le-ltb, eq-eqb}
 use lib.Dec.{eqb, ltb, leb, ltb→lt, lt→ltb, nltb→le}
 use Rattle.questions.specs.Basics.{if_then_else_, update}
-use Rattle.keys.specs.Keys.{dataKey, logKey, bookKey, isDataKey, isLogKey, isBookKey, tableOf, logOf}
-use Rattle.questions.proofs.Tests.{and-left, and-right}
+use Rattle.keys.specs.Keys.{dataKey, logKey, bookKey, isDataKey, isLogKey, isBookKey, tableOf, logOf, isForm, isWorkflowKey, bookRow}
+use Rattle.questions.proofs.Tests.{and-left, and-right, no-yes}
 use Rattle.questions.proofs.Updates.{eqb-cases, T-true, true-T, update-same, update-other}
 
 -- ── Each form passes its test ──
@@ -26,6 +26,10 @@ log-is id t h g = lt-ltb (logKey id t) (2 ^ 48) (omega arith)
 pub book-is : (id j : ℕ) → id < 2 ^ 32 → j ≤ 4 → isBookKey (bookKey id j) ≡ true
 unfolding isBookKey
 book-is id j h g = rw (lt-ltb (bookKey id j) (2 ^ 35) (omega arith), le-leb (bookKey id j % 8) 4 (omega arith)) refl
+
+pub workflow-is : (id : ℕ) → id < 2 ^ 32 → isWorkflowKey (bookKey id 0) ≡ true
+unfolding isWorkflowKey
+workflow-is id h = rw (book-is id 0 h (omega arith), eq-eqb (bookRow (bookKey id 0)) 0 (omega arith)) refl
 
 -- ── And is within its bounds ──
 
@@ -47,19 +51,29 @@ pub log-no-data : (k : ℕ) → isLogKey k ≡ true → isDataKey k ≡ false
 unfolding isDataKey
 log-no-data k e = let l = log-bounds k e in rw (lt-leb (2 ^ 63) k (omega arith)) refl
 
-pub data-log : (k id t : ℕ) → id < 2 ^ 32 → t < 65536 → dataKey k ≡ logKey id t → ⊥
-data-log k id t h g e = omega arith
+-- a key is of one kind by its side of data key 0
+pub no-log : (k : ℕ) → dataKey 0 ≤ k → isLogKey k ≡ false
+unfolding isLogKey
+no-log k h = le-ltb k (2 ^ 48) (omega arith)
 
--- ── No two of one form meet ──
+pub no-data : (k : ℕ) → k < dataKey 0 → isDataKey k ≡ false
+unfolding isDataKey
+no-data k h = rw (lt-leb (dataKey 0) k h) refl
 
-pub data-one : (k k′ : ℕ) → dataKey k ≡ dataKey k′ → k ≡ k′
-data-one k k′ e = omega arith
+-- and a key of a form is of that kind (the book's keys lie within those of log rows)
+pub form-log : (b : Bool) (k : ℕ) → isForm b k ≡ true → k < dataKey 0 → isLogKey k ≡ true
+unfolding isForm
+form-log true k f h = unfold isLogKey in lt-ltb k (2 ^ 48) (omega (arith, book-bounds k f .0))
+form-log false k f h = rw (no-data k h) at f
 
-pub log-one : (id id′ t t′ : ℕ) → t < 65536 → t′ < 65536 → logKey id t ≡ logKey id′ t′ → (id ≡ id′) × (t ≡ t′)
-log-one id id′ t t′ h g e = (omega arith, omega arith)
-
-pub book-one : (id id′ j j′ : ℕ) → j < 8 → j′ < 8 → bookKey id j ≡ bookKey id′ j′ → (id ≡ id′) × (j ≡ j′)
-book-one id id′ j j′ h g e = (omega arith, omega arith)
+pub form-data : (b : Bool) (k : ℕ) → isForm b k ≡ true → dataKey 0 ≤ k → isDataKey k ≡ true
+unfolding isForm
+form-data true k f h = absurd (omega (arith, book-bounds k f .0))
+form-data false k f h = go (isDataKey k) refl
+  where
+    go : (d : Bool) → isDataKey k ≡ d → isDataKey k ≡ true
+    go true e = e
+    go false e = no-yes (sym (no-log k h) ∙ (rw e at f))
 
 -- ── A row put ──
 
@@ -72,44 +86,26 @@ less m n e = ltb→lt m n (true-T (ltb m n) e)
 below : (m n : ℕ) → m < n → ltb m n ≡ true
 below m n h = T-true (ltb m n) (lt→ltb m n h)
 
-eqb-no : (j k : ℕ) → (j ≡ k → ⊥) → eqb j k ≡ false
-eqb-no j k n = go (eqb-cases j k)
-  where
-    go : EqbCases j k → eqb j k ≡ false
-    go (inl h) = absurd (n (h .0))
-    go (inr h) = h .1
-
 not-below : (j n : ℕ) → ltb j n ≡ false → n ≤ j
 not-below j n e = nltb→le j n (rw e tt)
 
 module _ (f : ℕ → Option ℕ) (v : ℕ) where
-  -- a data row put is a change of the table, and none of the log
+  -- a data row put is a change of the table
   module _ (k : ℕ) (h : k < 2 ^ 32) where
     pub data-put : (j : ℕ) → tableOf (update f (2 ^ 63 + k) (some v)) j ≡ update (tableOf f) k (some v) j
     data-put j = go (ltb j (2 ^ 32)) refl (eqb-cases j k)
       where
         go : (b : Bool) → ltb j (2 ^ 32) ≡ b → EqbCases j k →
-            if_then_else_ b (update f (2 ^ 63 + k) (some v) (2 ^ 63 + j)) none ≡ if_then_else_ (eqb j k) (some v) (if_then_else_ b (f (2 ^ 63 + j)) none)
+            if_then_else_ b (update f (2 ^ 63 + k) (some v) (2 ^ 63 + j)) none ≡ if_then_else_ (eqb j k) (some v)
+            (if_then_else_ b (f (2 ^ 63 + j)) none)
         go true e (inl c) =
             ap (λ i. update f (2 ^ 63 + k) (some v) (2 ^ 63 + i)) (c .0) ∙ update-same f (2 ^ 63 + k) (some v)
             ∙ ap (λ b. if_then_else_ b (some v) (f (2 ^ 63 + j))) (sym (c .1))
         go true e (inr c) =
-            update-other f (2 ^ 63 + k) (some v) (2 ^ 63 + j) (λ p. c .0 (omega arith)) ∙ ap (λ b. if_then_else_ b (some v) (f (2 ^ 63 + j))) (sym (c .1))
+            update-other f (2 ^ 63 + k) (some v) (2 ^ 63 + j) (λ p. c .0 (omega arith))
+            ∙ ap (λ b. if_then_else_ b (some v) (f (2 ^ 63 + j))) (sym (c .1))
         go false e (inl c) = absurd (let l = not-below j (2 ^ 32) e in omega arith)
         go false e (inr c) = rw (c .1) refl
-
-    pub data-put-log : (id t : ℕ) → logOf (update f (2 ^ 63 + k) (some v)) id t ≡ logOf f id t
-    data-put-log id t = go (ltb id (2 ^ 32)) (ltb t 65536) refl refl
-      where
-        go : (b c : Bool) → ltb id (2 ^ 32) ≡ b → ltb t 65536 ≡ c →
-            if_then_else_ b (if_then_else_ c (update f (2 ^ 63 + k) (some v) (id * 65536 + t)) none) none ≡
-            if_then_else_ b (if_then_else_ c (f (id * 65536 + t)) none) none
-        go true true d e =
-            let l = less id (2 ^ 32) d in
-            let l′ = less t 65536 e in
-            update-other f (2 ^ 63 + k) (some v) (id * 65536 + t) (λ p. omega arith)
-        go true false d e = refl
-        go false c d e = refl
 
   -- a log row put is a change of the log, and none of the table
   module _ (id t : ℕ) (h : id < 2 ^ 32) (h′ : t < 65536) where
@@ -139,7 +135,8 @@ module _ (f : ℕ → Option ℕ) (v : ℕ) where
 
         go : EqbCases i id → EqbCases u t → logOf (update f (id * 65536 + t) (some v)) i u ≡ update (logOf f) id row i u
         go (inl a) (inl b) =
-            ap (λ x. logOf (update f (id * 65536 + t) (some v)) x u) (a .0) ∙ ap (logOf (update f (id * 65536 + t) (some v)) id) (b .0) ∙ log-same
+            ap (λ x. logOf (update f (id * 65536 + t) (some v)) x u) (a .0) ∙ ap (logOf (update f (id * 65536 + t) (some v)) id) (b .0)
+            ∙ log-same
             ∙ sym (at-id (a .0) ∙ ap row (b .0) ∙ update-same (logOf f id) t (some v))
         go (inl a) (inr b) =
             log-other i u (λ p q. b .0 q)

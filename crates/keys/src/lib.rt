@@ -1,1 +1,131 @@
-// Stored keys: made, recognised and taken apart.
+// Stored keys: each form is made, recognised and taken apart here, and nowhere else.
+ghost use mathlib.Core.Bool.{true};
+ghost use mathlib.Core.Path.{_≡_};
+ghost use Prim.Native.Nat.{_^_, _≤_, _<_};
+ghost use Rattle.keys.specs.Keys.{dataKey, isDataKey, dataOf, logKey, isLogKey, idOf, stepOf, bookKey, isBookKey, bookedId, bookRow, bookKeys};
+ghost use Rattle.keys.specs.Keys.{isWorkflowKey, lastOfFive, isForm};
+
+// The stored key of a data key.
+pub fn data_key(k: u32) -> u64
+    ensures { λ r. ⌜ (r ≡ dataKey k) × (k < 2 ^ 32) ⌝ }
+{
+    9_223_372_036_854_775_808 + k as u64
+}
+
+// Is it the key of a data row?
+pub fn is_data(stored: u64) -> bool
+    ensures { λ r. ⌜ r ≡ isDataKey stored ⌝ }
+{
+    if 9_223_372_036_854_775_808 <= stored {
+        return stored < 9_223_372_041_149_743_104;
+    }
+    false
+}
+
+// The data key of a stored one.
+pub fn data_of(stored: u64) -> u64
+    requires { ⌜ isDataKey stored ≡ true ⌝ }
+    ensures { λ r. ⌜ r ≡ dataOf stored ⌝ }
+{
+    stored - 9_223_372_036_854_775_808
+}
+
+// The stored key of the log row of a step.
+pub fn log_key(id: u32, step: u16) -> u64
+    ensures { λ r. ⌜ (r ≡ logKey id step) × (id < 2 ^ 32) × (step < 65536) ⌝ }
+{
+    id as u64 * 65_536 + step as u64
+}
+
+// Is it the key of a log row?
+fn is_log(stored: u64) -> bool
+    ensures { λ r. ⌜ r ≡ isLogKey stored ⌝ }
+{
+    stored < 281_474_976_710_656
+}
+
+// The id of a log row.
+pub fn id_of(stored: u64) -> u64
+    ensures { λ r. ⌜ r ≡ idOf stored ⌝ }
+{
+    stored / 65_536
+}
+
+// The step of a log row.
+pub fn step_of(stored: u64) -> u64
+    ensures { λ r. ⌜ r ≡ stepOf stored ⌝ }
+{
+    stored % 65_536
+}
+
+// The stored key of row j of a request in the book: 0 its workflow, 1 to 4 its arguments.
+pub fn book_key(id: u32, j: u64) -> u64
+    requires { ⌜ j ≤ 4 ⌝ }
+    ensures { λ r. ⌜ (r ≡ bookKey id j) × (id < 2 ^ 32) ⌝ }
+{
+    id as u64 * 8 + j
+}
+
+// The stored keys of a request's five rows.
+pub fn book_keys(id: u32) -> [u64; 5]
+    ensures { λ r. ⌜ (r ≡ bookKeys id) × (id < 2 ^ 32) ⌝ }
+{
+    let first = id as u64 * 8;
+    [first, first + 1, first + 2, first + 3, first + 4]
+}
+
+// Is it the key of a row of the book?
+fn is_book(stored: u64) -> bool
+    ensures { λ r. ⌜ r ≡ isBookKey stored ⌝ }
+{
+    if stored < 34_359_738_368 {
+        return stored % 8 <= 4;
+    }
+    false
+}
+
+// Which of a request's five rows a book row is.
+pub fn book_row(stored: u64) -> u64
+    ensures { λ r. ⌜ (r ≡ bookRow stored) × (r < 8) ⌝ }
+{
+    stored % 8
+}
+
+// The key of row j of the request that a book row is of.
+pub fn beside(stored: u64, j: u64) -> u64
+    requires { ⌜ j ≤ 4 ⌝ }
+    ensures { λ r. ⌜ r ≡ bookKey (bookedId stored) j ⌝ }
+{
+    stored / 8 * 8 + j
+}
+
+// Has a row of the book a workflow number?
+pub fn is_workflow(stored: u64) -> bool
+    ensures { λ r. ⌜ r ≡ isWorkflowKey stored ⌝ }
+{
+    if is_book(stored) {
+        return stored % 8 == 0;
+    }
+    false
+}
+
+// The key of a request's last row, by that of its first.
+pub fn last_of_five(first: u64) -> u64
+    requires { ⌜ isBookKey first ≡ true ⌝ }
+    ensures { λ r. ⌜ r ≡ lastOfFive first ⌝ }
+{
+    first + 4
+}
+
+// Is it a key of a form of the book, or of another partition?
+pub fn of_form(book: bool, stored: u64) -> bool
+    ensures { λ r. ⌜ r ≡ isForm book stored ⌝ }
+{
+    if book {
+        return is_book(stored);
+    }
+    if is_data(stored) {
+        return true;
+    }
+    is_log(stored)
+}

@@ -1,4 +1,4 @@
--- A turn of slot 0 leaves the other slots as they were, so a record that was alone is alone again. Assumes nothing.
+-- A turn of slot 0 leaves the other slots as they were, so a record that was alone is alone again.
 use mathlib.Core.List.{List}
 use mathlib.Core.Option.{Option, none, some}
 use mathlib.Core.Logic.{⊎-elim}
@@ -17,7 +17,7 @@ use Rattle.pack.specs.Meaning.{packOf}
 use Rattle.agents.specs.declared.Agent.{Agent}
 use Rattle.agents.specs.declared.Answer.{Answer}
 use Rattle.agents.specs.Slots.{noAgent, agentAt, agentOf, recordOf, slotsOf, recordsFrom, recordsOf}
-use Rattle.meaning.specs.State.{stateOf}
+use Rattle.meaning.specs.State.{stateOf, Lent}
 use Rattle.meaning.specs.Questions.{refusalFor}
 use Rattle.meaning.specs.Carried.{Carried, ruled}
 use Rattle.lent.specs.Alone.{alone, TurnedAlone}
@@ -41,7 +41,7 @@ module _ (s : State) (slot j : ℕ) (apart : j ≡ slot → ⊥) where
   in-elsewhere pack none = refl
   in-elsewhere pack (some a) = on-elsewhere a _ _
 
-  pub elsewhere : (pack : Pack) → rule pack s (turn slot) .state .slots j ≡ s .slots j
+  elsewhere : (pack : Pack) → rule pack s (turn slot) .state .slots j ≡ s .slots j
   unfolding rule
   elsewhere pack = in-elsewhere pack (s .slots slot)
 
@@ -51,20 +51,22 @@ alone-records : (f : ℕ → Option Calls.Agent) → f 1 ≡ none → f 2 ≡ no
 unfolding recordsFrom recordOf
 alone-records f e₁ e₂ e₃ e₄ e₅ e₆ e₇ = rw (e₁, e₂, e₃, e₄, e₅, e₆, e₇)
 
-module _ (pack store : List ℕ) (a : Agent) (answer : Answer) (records′ : List Agent) (store′ : List ℕ) (c : Carried pack store (alone a) (turn 0) answer records′ store′) where
+module _ (pack store : List ℕ) (a : Agent) (answer : Answer) (records′ : List Agent) (store′ : List ℕ)
+    (c : Carried pack (record { store = store; records = alone a }) (turn 0) answer (record { store = store′; records = records′ })) where
   abbrev f : ℕ → Option Calls.Agent
-  f = ruled pack store (alone a) (turn 0) .state .slots
+  f = ruled pack (record { store = store; records = alone a }) (turn 0) .state .slots
 
   empty-at : (j : ℕ) → (j ≡ 0 → ⊥) → slotsOf (alone a) j ≡ none → f j ≡ none
   unfolding stateOf
-  empty-at j n e = elsewhere (stateOf store (alone a)) 0 j n (packOf pack) ∙ e
+  empty-at j n e = elsewhere (stateOf (record { store = store; records = alone a })) 0 j n (packOf pack) ∙ e
 
   kept-alone : records′ ≡ alone (agentAt records′ 0)
   unfolding slotsOf agentOf
-  kept-alone = go (refusalFor pack store (alone a) (turn 0)) refl
+  kept-alone = go (refusalFor pack (record { store = store; records = alone a }) (turn 0)) refl
     where
-      go : (o : Option No) → refusalFor pack store (alone a) (turn 0) ≡ o → records′ ≡ alone (agentAt records′ 0)
-      go (some n) e = let k = c .refused n e .1 .slots in k ∙ ap (λ rs. alone (agentAt rs 0)) (sym k)
+      go : (o : Option No) → refusalFor pack (record { store = store; records = alone a }) (turn 0) ≡ o →
+          records′ ≡ alone (agentAt records′ 0)
+      go (some n) e = let k = ap (λ (x : Lent). x .records) (c .refused n e .1) in k ∙ ap (λ rs. alone (agentAt rs 0)) (sym k)
       go none e =
           ⊎-elim
           (λ k.
@@ -83,13 +85,17 @@ module _ (pack store : List ℕ) (a : Agent) (answer : Answer) (records′ : Lis
           (λ k. k ∙ ap (λ rs. alone (agentAt rs 0)) (sym k))
           (c .carried e .1 .whole)
 
-  turned-alone : Carried pack store (alone a) (turn 0) answer (alone (agentAt records′ 0)) store′
-  turned-alone = subst (λ rs. Carried pack store (alone a) (turn 0) answer rs store′) kept-alone c
+  turned-alone : Carried pack (record { store = store; records = alone a }) (turn 0) answer
+      (record { store = store′; records = alone (agentAt records′ 0) })
+  turned-alone = subst (λ rs. Carried pack (record { store = store; records = alone a }) (turn 0) answer
+      (record { store = store′; records = rs })) kept-alone c
 
 -- the turn of slot 0 of slots made of seven empty ones and the record, with the parts in hand
 pub one-turned : (pack store : List ℕ) (a : Agent) (answer : Answer) (empty records records′ : List Agent) (store′ : List ℕ) →
-    empty ≡ replicate 8 noAgent → records ≡ set empty 0 a → Carried pack store records (turn 0) answer records′ store′ →
+    empty ≡ replicate 8 noAgent → records ≡ set empty 0 a →
+    Carried pack (record { store = store; records = records }) (turn 0) answer (record { store = store′; records = records′ }) →
     TurnedAlone pack store a answer (agentAt records′ 0) store′
 one-turned pack store a answer empty records records′ store′ e f c =
     turned-alone pack store a answer records′ store′
-    (subst (λ rs. Carried pack store rs (turn 0) answer records′ store′) (f ∙ ap (λ rs. set rs 0 a) e) c)
+    (subst (λ rs. Carried pack (record { store = store; records = rs }) (turn 0) answer (record { store = store′; records = records′ }))
+    (f ∙ ap (λ rs. set rs 0 a) e) c)

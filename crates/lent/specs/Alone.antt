@@ -1,4 +1,4 @@
--- The turn of one record, by that of eight slots. Assumes nothing: these are definitions.
+-- The turn of one record, by that of eight slots.
 use mathlib.Core.List.{List, _∷_}
 use Prim.Native.Nat.{ℕ}
 use lib.ListN.{replicate}
@@ -15,4 +15,5 @@ alone a = a ∷ replicate 7 noAgent
 -- A turn on pack, store and a record gave an answer and left another record and store: it is the turn of slot 0 of the slots in which the
 -- record is alone, with every question of a turn. Refused, record and store are as they were.
 abbrev pub TurnedAlone : (pack store : List ℕ) → Agent → Answer → (left : Agent) → (store′ : List ℕ) → Type 0
-TurnedAlone pack store a answer left store′ = Carried pack store (alone a) (turn 0) answer (alone left) store′
+TurnedAlone pack store a answer left store′ =
+    Carried pack (record { store = store; records = alone a }) (turn 0) answer (record { store = store′; records = alone left })

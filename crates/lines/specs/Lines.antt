@@ -1,7 +1,7 @@
--- The lines that are printed, as bytes. Each ends with a newline. Assumes nothing: these are definitions.
+-- The lines that are printed, as bytes. Each ends with a newline.
 use mathlib.Core.List.{List, [], _∷_, _++_}
-use Prim.Native.Nat.{ℕ, _-_, _/_, _%_, _^_}
-use lib.Dec.{leb}
+use Prim.Native.Nat.{ℕ}
+use Rattle.keys.specs.Keys.{isDataKey, dataOf, idOf, stepOf}
 use Rattle.questions.specs.Basics.{if_then_else_}
 use Rattle.rules.specs.Blocks.{yields}
 use Rattle.rules.specs.Calls.{Answer, done, moved, reply, refused}
@@ -67,6 +67,6 @@ rowLine p k v = rowWord ++ (field p ++ (field k ++ (field v ++ newline)))
 unfoldable pub logLine : (partition id step value : ℕ) → List ℕ
 logLine p id t v = logWord ++ (field p ++ (field id ++ (field t ++ (field v ++ newline))))
 
--- the line of a row by its stored key: 2^63 + k is data key k, and below that it is id × 65,536 + step
+-- the line of a row by its stored key: a data key's, or else a log key's
 unfoldable pub storedLine : (partition stored value : ℕ) → List ℕ
-storedLine p k v = if leb (2 ^ 63) k then rowLine p (k - 2 ^ 63) v else logLine p (k / 65536) (k % 65536) v
+storedLine p k v = if isDataKey k then rowLine p (dataOf k) v else logLine p (idOf k) (stepOf k) v

@@ -7,7 +7,7 @@ ghost use Rattle.text.specs.Text.{Appended};
 ghost use Rattle.lines.specs.Lines.{field, eventsLine, refusedLine, answerText, answerLine, rowLine, logLine, storedLine};
 
 // A number behind a blank.
-fn append_field(out: &mut [u8], n: usize, x: u64) -> usize
+pub fn append_field(out: &mut [u8], n: usize, x: u64) -> usize
     requires { ⌜ n + 21 ≤ length (now out) ⌝ }
     ensures { λ r. ⌜ Appended (now (out .entry)) n (field x) (now (out .exit)) r × (r ≤ n + 21) ⌝ }
 {
@@ -61,7 +61,7 @@ fn append_refused(
 }
 
 // An answer in words.
-fn append_answer(out: &mut [u8], n: usize, answer: Answer) -> usize
+pub fn append_answer(out: &mut [u8], n: usize, answer: Answer) -> usize
     requires { ⌜ n + 47 ≤ length (now out) ⌝ }
     ensures { λ r. ⌜ Appended (now (out .entry)) n (answerText (answerOf answer)) (now (out .exit)) r × (r ≤ n + 47) ⌝ }
 {
@@ -89,7 +89,7 @@ pub fn answer_line(out: &mut [u8], n: usize, event: u64, answer: Answer) -> usiz
 }
 
 // row PARTITION KEY VALUE
-fn row_line(out: &mut [u8], n: usize, p: u64, key: u64, value: u64) -> usize
+pub fn row_line(out: &mut [u8], n: usize, p: u64, key: u64, value: u64) -> usize
     requires { ⌜ n + 88 ≤ length (now out) ⌝ }
     ensures { λ r. ⌜ Appended (now (out .entry)) n (rowLine p key value) (now (out .exit)) r × (r ≤ n + 88) ⌝ }
 {
@@ -118,8 +118,8 @@ pub fn stored_line(out: &mut [u8], n: usize, p: u64, key: u64, value: u64) -> us
     requires { ⌜ n + 88 ≤ length (now out) ⌝ }
     ensures { λ r. ⌜ Appended (now (out .entry)) n (storedLine p key value) (now (out .exit)) r × (r ≤ n + 88) ⌝ }
 {
-    if 9_223_372_036_854_775_808 <= key {
-        return row_line(out, n, p, key - 9_223_372_036_854_775_808, value);
+    if keys::is_data(key) {
+        return row_line(out, n, p, keys::data_of(key), value);
     }
-    log_line(out, n, p, key / 65_536, key % 65_536, value)
+    log_line(out, n, p, keys::id_of(key), keys::step_of(key), value)
 }

@@ -1,23 +1,21 @@
--- Data keys begin at 2^63 and log keys lie below, so the place where 2^63 belongs parts rising rows into log rows and data rows.
--- Assumes nothing.
+-- Log keys lie below data key 0, so the place where that belongs parts rising rows into log rows and data rows.
 use mathlib.Core.Bool.{Bool, true, false}
 use mathlib.Core.List.{List, [], _∷_}
-use mathlib.Core.Path.{_≡_, refl, sym, ap, _∙_}
-use Prim.Native.Nat.{ℕ, _-_, _^_, _≤_, _<_}
+use mathlib.Core.Path.{_≡_, refl, ap, _∙_}
+use Prim.Native.Nat.{ℕ, _-_, _≤_, _<_}
 use native.Mathlib.Nat.{sub-zero}
 use native.Mathlib.Omega.{arith}
-use borrow.Author.Tests.{lt-ltb, le-ltb, lt-leb, ltb-true, ltb-false}
+use borrow.Author.Tests.{le-ltb, ltb-true, ltb-false}
 use lib.Dec.{eqb, ltb}
 use lib.ListN.{length, take, drop, length-drop}
 use lib.Seq.{take-all}
-use Rattle.keys.specs.Keys.{isDataKey, isLogKey}
-use Rattle.keys.specs.Keys as Keys
-use Rattle.keys.proofs.Keys.{book-bounds}
-use Rattle.questions.proofs.Tests.{no-yes, and-left, and-right}
+use Rattle.keys.specs.Keys.{isDataKey, isLogKey, isForm, dataKey}
+use Rattle.keys.proofs.Keys.{no-log, no-data, form-log, form-data}
+use Rattle.questions.proofs.Tests.{and-left, and-right}
 use Rattle.store.specs.Layout.{partsOf}
 use Rattle.store.specs.Rows.{Row, keysIn, rowsOf, rankOf}
 use Rattle.store.specs.Rows as Rows
-use Rattle.store.specs.Questions.{isForm, ahead, rising, allIn}
+use Rattle.store.specs.Questions.{ahead, rising, allIn}
 use Rattle.store.specs.Questions as Questions
 use Rattle.store.specs.Answers.{Searched, endedAt}
 use Rattle.store.specs.declared.rows.Found.{Found}
@@ -28,54 +26,34 @@ use Rattle.store.proofs.Lists.{rank-within}
 use Rattle.store.proofs.Sound.{apart-forms, keys-apart, rows-rise}
 use Rattle.listing.specs.Store.{ofKind}
 
--- a key is of one kind by its side of 2^63
-no-log : (k : ℕ) → 2 ^ 63 ≤ k → isLogKey k ≡ false
-unfolding Keys.isLogKey
-no-log k h = le-ltb k (2 ^ 48) (omega arith)
-
-no-data : (k : ℕ) → k < 2 ^ 63 → isDataKey k ≡ false
-unfolding Keys.isDataKey
-no-data k h = rw (lt-leb (2 ^ 63) k h) refl
-
--- and a key of a form is of that kind (the book's keys lie within those of log rows)
-form-log : (b : Bool) (k : ℕ) → isForm b k ≡ true → k < 2 ^ 63 → isLogKey k ≡ true
-unfolding Questions.isForm
-form-log true k f h = unfold Keys.isLogKey in lt-ltb k (2 ^ 48) (omega (arith, book-bounds k f .0))
-form-log false k f h = rw (no-data k h) at f
-
-form-data : (b : Bool) (k : ℕ) → isForm b k ≡ true → 2 ^ 63 ≤ k → isDataKey k ≡ true
-unfolding Questions.isForm
-form-data true k f h = absurd (omega (arith, book-bounds k f .0))
-form-data false k f h = go (isDataKey k) refl
-  where
-    go : (d : Bool) → isDataKey k ≡ d → isDataKey k ≡ true
-    go true e = e
-    go false e = no-yes (sym (no-log k h) ∙ (rw e at f))
-
 -- behind a key from k on, the keys are all greater than k
 rank-first : (k x : ℕ) (rows : List Row) → k ≤ x → rising (x ∷ keysIn rows) ≡ true → rankOf k rows ≡ 0
 unfolding Rows.rankOf Rows.keysIn Questions.rising Questions.ahead
 rank-first k x [] h u = refl
 rank-first k x (r ∷ rows) h u = rw (le-ltb (r .0) k (omega (arith, ltb-true x (r .0) (and-left (ltb x (r .0)) _ u)))) refl
 
--- in rising rows with keys of a form, the data rows stand from the place of 2^63 on and the log rows ahead of it
+-- in rising rows with keys of a form, the data rows stand from the place of data key 0 on and the log rows ahead of it
 parted : (b : Bool) (rows : List Row) → allIn (isForm b) (keysIn rows) ≡ true → rising (keysIn rows) ≡ true
-    → (drop (rankOf (2 ^ 63) rows) rows ≡ ofKind isDataKey rows) × (take (rankOf (2 ^ 63) rows) rows ≡ ofKind isLogKey rows)
+    → (drop (rankOf (dataKey 0) rows) rows ≡ ofKind isDataKey rows) × (take (rankOf (dataKey 0) rows) rows ≡ ofKind isLogKey rows)
 unfolding Rows.rankOf Rows.keysIn Questions.allIn ofKind
 parted b [] f u = (refl, refl)
-parted b (r ∷ rows) f u = go (parted b rows (and-right (isForm b (r .0)) _ f) (unfold Questions.rising in and-right (ahead (r .0) (keysIn rows)) _ u)) (ltb (r .0) (2 ^ 63)) refl
+parted b (r ∷ rows) f u =
+    go (parted b rows (and-right (isForm b (r .0)) _ f) (unfold Questions.rising in and-right (ahead (r .0) (keysIn rows)) _ u))
+    (ltb (r .0) (dataKey 0)) refl
   where
     own : isForm b (r .0) ≡ true
     own = and-left (isForm b (r .0)) _ f
 
-    go : (drop (rankOf (2 ^ 63) rows) rows ≡ ofKind isDataKey rows) × (take (rankOf (2 ^ 63) rows) rows ≡ ofKind isLogKey rows) → (t : Bool) → ltb (r .0) (2 ^ 63) ≡ t
-        → (drop (rankOf (2 ^ 63) (r ∷ rows)) (r ∷ rows) ≡ ofKind isDataKey (r ∷ rows)) × (take (rankOf (2 ^ 63) (r ∷ rows)) (r ∷ rows) ≡ ofKind isLogKey (r ∷ rows))
+    go : (drop (rankOf (dataKey 0) rows) rows ≡ ofKind isDataKey rows) × (take (rankOf (dataKey 0) rows) rows ≡ ofKind isLogKey rows) →
+        (t : Bool) → ltb (r .0) (dataKey 0) ≡ t
+        → (drop (rankOf (dataKey 0) (r ∷ rows)) (r ∷ rows) ≡ ofKind isDataKey (r ∷ rows))
+        × (take (rankOf (dataKey 0) (r ∷ rows)) (r ∷ rows) ≡ ofKind isLogKey (r ∷ rows))
     go ih true e =
-        let l : r .0 < 2 ^ 63 = ltb-true (r .0) (2 ^ 63) e in
+        let l : r .0 < dataKey 0 = ltb-true (r .0) (dataKey 0) e in
         rw (e, no-data (r .0) l, form-log b (r .0) own l) (ih .0, ap (_∷_ r) (ih .1))
     go ih false e =
-        let l : 2 ^ 63 ≤ r .0 = ltb-false (r .0) (2 ^ 63) e in
-        let z : rankOf (2 ^ 63) rows ≡ 0 = rank-first (2 ^ 63) (r .0) rows l u in
+        let l : dataKey 0 ≤ r .0 = ltb-false (r .0) (dataKey 0) e in
+        let z : rankOf (dataKey 0) rows ≡ 0 = rank-first (dataKey 0) (r .0) rows l u in
         let more = rw z at ih in
         rw (e, no-log (r .0) l, form-data b (r .0) own l) (ap (_∷_ r) (more .0), more .1)
 
@@ -86,12 +64,12 @@ pub record PartedAt (rows : List Row) (first : ℕ) : Type 0 where
   pub log-rows : take (first - 0) (drop 0 rows) ≡ ofKind isLogKey rows
 
 -- The place where a search for 2^63 ended parts the rows of a partition of a sound store, and of the book.
-pub parted-at : (s : List ℕ) (p : ℕ) → Sound s → p ≤ partsOf s → (f : Found) → Searched (2 ^ 63) (keysIn (rowsOf s p)) f → (first : ℕ) → first ≡ endedAt f
-    → PartedAt (rowsOf s p) first
+pub parted-at : (s : List ℕ) (p : ℕ) → Sound s → p ≤ partsOf s → (k : ℕ) → k ≡ dataKey 0 →
+    (f : Found) → Searched k (keysIn (rowsOf s p)) f → (first : ℕ) → first ≡ endedAt f → PartedAt (rowsOf s p) first
 unfolding Sounds.KeysGood
-parted-at s p sound l f q first e =
+parted-at s p sound l k i f q first e =
     record {
-      within = omega (arith, place, rank-within (2 ^ 63) rows);
+      within = omega (arith, place, rank-within (dataKey 0) rows);
       data-rows = λ count w. take-all (count - first) (drop first rows) (simp length-drop (omega arith)) ∙ parts .0;
       log-rows = rw sub-zero (parts .1);
     }
@@ -102,8 +80,9 @@ parted-at s p sound l f q first e =
     book : Bool
     book = eqb p (partsOf s)
 
-    place : first ≡ rankOf (2 ^ 63) rows
-    place = e ∙ ends-at-rank (2 ^ 63) rows f q
+    place : first ≡ rankOf (dataKey 0) rows
+    place = e ∙ ends-at-rank k rows f q ∙ ap (λ x. rankOf x rows) i
 
     parts : (drop first rows ≡ ofKind isDataKey rows) × (take first rows ≡ ofKind isLogKey rows)
-    parts = rw place (parted book rows (apart-forms book (keysIn rows) (keys-apart book (keysIn rows) (sound .keys p l))) (rows-rise s sound p l))
+    parts = rw place (parted book rows (apart-forms book (keysIn rows) (keys-apart book (keysIn rows) (sound .keys p l)))
+        (rows-rise s sound p l))

@@ -1,5 +1,5 @@
--- A text printed piece by piece in a loop: what is printed and what is left come to the whole. Assumes nothing.
-use mathlib.Core.Path.{_≡_, refl, sym, ap, subst, _∙_}
+-- A text printed piece by piece in a loop: what is printed and what is left come to the whole.
+use mathlib.Core.Path.{_≡_, sym, ap, subst, _∙_}
 use mathlib.Core.List.{List, [], _++_, append-nil, append-assoc}
 use Prim.Native.Nat.{ℕ, _≤_}
 use lib.ListN.{length}
@@ -16,7 +16,8 @@ printing-none out n rest whole h e = record { printed = []; appended = appended-
 
 module _ {out out′ : List ℕ} {n at : ℕ} {rest whole : List ℕ} (h : Printing out n out′ at rest whole) where
   -- a piece more
-  pub printing-more : {out″ : List ℕ} {at′ : ℕ} (piece left : List ℕ) → rest ≡ piece ++ left → Appended out′ at piece out″ at′ → Printing out n out″ at′ left whole
+  pub printing-more : {out″ : List ℕ} {at′ : ℕ} (piece left : List ℕ) → rest ≡ piece ++ left → Appended out′ at piece out″ at′ →
+      Printing out n out″ at′ left whole
   printing-more piece left e a =
       record {
         printed = h .printed ++ piece;
@@ -26,4 +27,5 @@ module _ {out out′ : List ℕ} {n at : ℕ} {rest whole : List ℕ} (h : Print
 
   -- nothing is left
   pub printing-done : rest ≡ [] → Appended out n whole out′ at
-  printing-done e = subst (λ xs. Appended out n xs out′ at) (sym (append-nil (h .printed)) ∙ ap (λ xs. h .printed ++ xs) (sym e) ∙ h .comes) (h .appended)
+  printing-done e = subst (λ xs. Appended out n xs out′ at)
+      (sym (append-nil (h .printed)) ∙ ap (λ xs. h .printed ++ xs) (sym e) ∙ h .comes) (h .appended)

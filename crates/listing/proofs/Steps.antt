@@ -1,4 +1,4 @@
--- Rows and partitions printed one by one. Assumes nothing.
+-- Rows and partitions printed one by one.
 use mathlib.Core.Path.{_≡_, refl}
 use mathlib.Core.List.{List, [], _++_}
 use Prim.Native.Nat.{ℕ, suc, _+_, _-_, _≤_, _<_}

@@ -1,5 +1,4 @@
--- What is printed of a store: per partition, by rising key, its data rows and then its log rows. The book isn't printed. Assumes nothing:
--- these are definitions.
+-- What is printed of a store: per partition, by rising key, its data rows and then its log rows. The book isn't printed.
 use mathlib.Core.Bool.{Bool}
 use mathlib.Core.List.{List, [], _∷_, _++_}
 use Prim.Native.Nat.{ℕ, zero, suc, _+_}

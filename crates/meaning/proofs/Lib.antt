@@ -1,7 +1,5 @@
 pub mod Asked
-pub mod Equal
-pub mod Book
-pub mod Steps
+pub mod Tests
 pub mod Carry
 pub mod Sense
-pub mod Contents
+pub mod Begun

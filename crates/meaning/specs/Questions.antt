@@ -1,12 +1,15 @@
--- Questions 13 and 14, each a test, and the first no of all questions that a call puts. Assumes nothing: these are definitions.
+-- Questions 13 and 14, each a test, and the first no of all questions that a call puts.
 use mathlib.Core.Bool.{Bool, true, false, not, _&&_}
 use mathlib.Core.List.{List}
 use mathlib.Core.Option.{Option, none, some}
-use Prim.Native.Nat.{ℕ, _+_, _*_, _/_, _%_}
+use Prim.Native.Nat.{ℕ, _+_, _*_, _/_}
 use lib.Dec.{ltb, leb, eqb}
 use lib.ListN.{length, getD}
+use Rattle.rules.specs.Calls as Rules
+use Rattle.keys.specs.Keys.{isWorkflowKey}
+use Rattle.contents.specs.Contents.{valueIn, bookOf, bookRows}
 use Rattle.words.specs.Words.{le}
-use Rattle.questions.specs.Basics.{if_then_else_, each}
+use Rattle.questions.specs.Basics.{if_then_else_, each, isSome}
 use Rattle.questions.specs.Questions.{No, number, ask, orElse}
 use Rattle.rules.specs.Store.{Request}
 use Rattle.rules.specs.Calls.{Call, arrival, retry, turn, crash, restart, order, stopped, refusal}
@@ -14,20 +17,16 @@ use Rattle.code.specs.Questions.{insideAt}
 use Rattle.pack.specs.Layout.{count, sizeOf, total, operationsOf}
 use Rattle.pack.specs.Refusal.{packRefusal}
 use Rattle.pack.specs.Meaning.{packOf}
-use Rattle.store.specs.Rows.{Row, rowsOf}
+use Rattle.store.specs.Rows.{Row}
 use Rattle.store.specs.Layout.{partsOf}
 use Rattle.store.specs.Questions.{storeRefusal, orderRefusal}
 use Rattle.agents.specs.declared.Agent.{Agent}
-use Rattle.agents.specs.Slots.{agentAt}
-use Rattle.meaning.specs.State.{valueIn, bookOf, stateOf}
+use Rattle.agents.specs.Slots.{agentAt, slotsOf, isBlank}
+use Rattle.meaning.specs.State.{stateOf, Lent}
 
--- the rows of the book, partition P
-abbrev pub bookRows : (store : List ℕ) → List Row
-bookRows store = rowsOf store (partsOf store)
-
--- a row of the book that has a workflow's number, one with j = 0, has one below m
+-- a row of the book that has a workflow number has one below m
 unfoldable pub booksBelow : (m : ℕ) → Row → Bool
-booksBelow m r = if eqb (r .0 % 8) 0 then ltb (r .1) m else true
+booksBelow m r = if isWorkflowKey (r .0) then ltb (r .1) m else true
 
 -- an operation byte and its operand word: if it is BEGIN, its partition is below P
 unfoldable pub opensBelow : (P byte w : ℕ) → Bool
@@ -52,14 +51,6 @@ opensRight pack store = each (total pack) (λ i. opensBelow (partsOf store) (byt
 unfoldable pub question13 : (pack store : List ℕ) → Bool
 question13 pack store = bookedRight pack store && opensRight pack store
 
--- An empty slot is all zero.
-unfoldable pub isBlank : Agent → Bool
-isBlank r =
-    eqb (r .id) 0
-    && (eqb (r .position) 0
-    && (eqb (r .step) 0
-    && each 8 (λ i. eqb (getD (r .registers) i 0) 0)))
-
 -- A sound record has its id in the book, its position below its workflow's size and outside a block, and a step number at most its
 -- position.
 unfoldable pub isSound : (pack : List ℕ) → Agent → Option Request → Bool
@@ -78,24 +69,37 @@ unfoldable pub question14 : (pack store : List ℕ) → (records : List Agent) �
 question14 pack store records = each 8 (λ i. slotRight pack store (agentAt records i))
 
 -- Questions 1 to 14, in order: the first no.
-unfoldable pub lentRefusal : (pack store : List ℕ) → (records : List Agent) → Option No
-lentRefusal pack store records =
+unfoldable pub lentRefusal : (pack : List ℕ) → Lent → Option No
+lentRefusal pack lent =
     orElse (packRefusal pack)
-    (orElse (storeRefusal store)
-    (ask (number 13) (question13 pack store)
-    (ask (number 14) (question14 pack store records)
+    (orElse (storeRefusal (lent .store))
+    (ask (number 13) (question13 pack (lent .store))
+    (ask (number 14) (question14 pack (lent .store) (lent .records))
     none)))
 
--- Restart puts none of them. Order, which gets the store only, puts 9 to 12, of 11 all but the rising keys. Every other call puts all.
-unfoldable pub lentFor : Call → (pack store : List ℕ) → (records : List Agent) → Option No
-lentFor (arrival slot id w args) pack store records = lentRefusal pack store records
-lentFor (retry slot id) pack store records = lentRefusal pack store records
-lentFor (turn slot) pack store records = lentRefusal pack store records
-lentFor (crash slot) pack store records = lentRefusal pack store records
-lentFor restart pack store records = none
-lentFor order pack store records = orderRefusal store
-lentFor (stopped n) pack store records = lentRefusal pack store records
+-- 16 of a slot, by what is wanted of it: in use, or empty
+abbrev pub asWanted : (used : Bool) → Option Rules.Agent → Bool
+asWanted true held = isSome held
+asWanted false held = not (isSome held)
+
+-- Questions 1 to 16, with which arrival and retry (into an empty slot), turn and crash (of one in use) begin: the first no.
+unfoldable pub firstSixteen : (pack : List ℕ) → Lent → (slot : ℕ) → (used : Bool) → Option No
+firstSixteen pack lent slot used =
+    orElse (lentRefusal pack lent)
+    (ask (number 15) (ltb slot 8)
+    (ask (number 16) (asWanted used (slotsOf (lent .records) slot))
+    none))
+
+-- Restart puts none of them. Order, which gets the store only, puts 9 to 12, of 11 all but the rising keys. Every other call puts 1 to 14.
+unfoldable pub lentFor : Call → (pack : List ℕ) → Lent → Option No
+lentFor (arrival slot id w args) pack lent = lentRefusal pack lent
+lentFor (retry slot id) pack lent = lentRefusal pack lent
+lentFor (turn slot) pack lent = lentRefusal pack lent
+lentFor (crash slot) pack lent = lentRefusal pack lent
+lentFor restart pack lent = none
+lentFor order pack lent = orderRefusal (lent .store)
+lentFor (stopped n) pack lent = lentRefusal pack lent
 
 -- All questions that a call puts, 1 to 21 and 24, in the order in which they are put: the first no.
-unfoldable pub refusalFor : (pack store : List ℕ) → (records : List Agent) → Call → Option No
-refusalFor pack store records c = orElse (lentFor c pack store records) (refusal (packOf pack) (stateOf store records) c)
+unfoldable pub refusalFor : (pack : List ℕ) → Lent → Call → Option No
+refusalFor pack lent c = orElse (lentFor c pack lent) (refusal (packOf pack) (stateOf lent) c)

@@ -1,4 +1,4 @@
--- Two tests are the same Bool where each one's fact gives the other's. Assumes nothing.
+-- Two tests are the same Bool where each one's fact gives the other's.
 use mathlib.Core.Path.{_≡_, refl}
 use mathlib.Core.Bool.{Bool, true, false}
 use Prim.Native.Nat.{ℕ}

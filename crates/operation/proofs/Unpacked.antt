@@ -1,4 +1,4 @@
--- The parts of a packed byte, and what each part's bits tell. Assumes nothing.
+-- The parts of a packed byte, and what each part's bits tell.
 use mathlib.Core.Path.{_≡_, refl}
 use mathlib.Core.Bool.{Bool, true, false}
 use Prim.Native.Nat.{ℕ, _/_, _%_, _<_}

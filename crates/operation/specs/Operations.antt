@@ -1,5 +1,4 @@
 -- The table of operations: where an operation stands, what its operand w may be, and whether its register d is fixed.
--- Assumes nothing: these are definitions.
 use mathlib.Core.Bool.{Bool, false, _||_}
 use mathlib.Core.List.{List, [], _∷_}
 use Prim.Native.Nat.{ℕ}

@@ -1,5 +1,4 @@
 -- The packed byte that the table has for an operation: bits 0 and 1 are the side, bits 2 and 3 the operand, bit 4 is set where d is fixed.
--- Assumes nothing: these are definitions.
 use mathlib.Core.Bool.{Bool, true, false}
 use Prim.Native.Nat.{ℕ, _+_, _*_}
 use Rattle.operation.specs.declared.Side.{Side}

@@ -1,4 +1,4 @@
--- The parts of an operation byte and of a jump's operand. Assumes nothing: these are definitions.
+-- The parts of an operation byte and of a jump's operand.
 use Prim.Native.Nat.{ℕ, _/_, _%_}
 
 -- In an operation byte the high four bits are the operation, the low three the register d; bit 3 is 0.

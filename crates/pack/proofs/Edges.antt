@@ -1,4 +1,4 @@
--- The edges that document 01 marks ●, proved together of the written rules. Assumes nothing.
+-- The edges that document 01 marks ●, proved together of the written rules.
 use mathlib.Core.Path.{_≡_, refl}
 use mathlib.Core.List.{List, [], _∷_}
 use mathlib.Core.Option.{none, some}
@@ -12,7 +12,8 @@ use Rattle.questions.specs.Questions.{no, number, ask, orElse, firstNo}
 use Rattle.rules.specs.Instructions.{ADD, SUB, Place, moves, act}
 use Rattle.keys.specs.Keys.{dataKey, logKey, bookKey}
 use Rattle.operation.specs.Operations.{sideOf, operandOf, fixedOf}
-use Rattle.code.specs.Questions.{legal, question4, inRange, registerRight, question5, insideAt, stands, isNoEnd, landsFrom, lands, question6, putsBefore, counted, question7, question8}
+use Rattle.code.specs.Questions.{legal, question4, inRange, registerRight, question5, insideAt, stands, isNoEnd, landsFrom, lands}
+use Rattle.code.specs.Questions.{question6, putsBefore, counted, question7, question8}
 use Rattle.code.specs.Refusal.{instructionNo, codeNo}
 use Rattle.pack.specs.Layout.{firstOf, operationsOf, operandsOf}
 use Rattle.pack.specs.Questions.{question1, sizeRight, question2, question3}
@@ -40,7 +41,9 @@ pub record Edges : Type 0 where
   pub book-key : bookKey 7 0 ≡ 56
 
 pub edges : Edges
-unfolding le eachFrom ask orElse firstNo act sideOf operandOf fixedOf firstOf operationsOf operandsOf question1 sizeRight question2 question3 legal question4 inRange registerRight question5 insideAt stands isNoEnd landsFrom lands question6 putsBefore counted question7 question8 layoutNo instructionNo codeNo packRefusal
+unfolding le eachFrom ask orElse firstNo act sideOf operandOf fixedOf firstOf operationsOf operandsOf question1 sizeRight question2
+    question3 legal question4 inRange registerRight question5 insideAt stands isNoEnd landsFrom lands question6 putsBefore counted
+    question7 question8 layoutNo instructionNo codeNo packRefusal
 edges =
     record {
       empty-pack = refl;

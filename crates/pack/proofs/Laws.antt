@@ -1,23 +1,21 @@
--- Laws for callers: what an accepted pack is, and how its instructions are read from its bytes. Assumes nothing.
+-- Laws for callers: what an accepted pack is, and how its instructions are read from its bytes.
 use mathlib.Core.Path.{_≡_, refl, sym, _∙_, ap, ap₂, subst}
 use mathlib.Core.List.{List, []}
 use mathlib.Core.Option.{none}
-use Prim.Native.Nat.{ℕ, zero, suc, _+_, _*_, _^_, _≤_, _<_}
+use Prim.Native.Nat.{ℕ, zero, suc, _+_, _*_, _≤_, _<_}
 use native.Mathlib.Nat.{zero-add}
 use native.Mathlib.Omega.{arith}
 use lib.ListN.{length, getD, take, drop}
 use lib.Seq.{getD-take, getD-drop}
 use Rattle.words.specs.Words.{le}
-use Rattle.words.proofs.Laws.{le-lt}
-use Rattle.rules.specs.Instructions.{BEGIN, instructionAt}
+use Rattle.rules.specs.Instructions.{instructionAt}
 use Rattle.rules.specs.Checked.{CheckedPack, Checked}
 use Rattle.questions.proofs.Questions.{orElse-none}
 use Rattle.questions.proofs.Chains.{each-yes}
 use Rattle.code.specs.Layout.{wordAt}
-use Rattle.code.specs.Refusal.{instructionNo}
 use Rattle.code.specs.Right.{Right}
-use Rattle.code.specs.Meaning.{instructionOf, codeOf, Bounded}
-use Rattle.code.proofs.Decoded.{length-listOf, getD-listOf, length-code, instruction-at, right-at, checked-code, bounded-at}
+use Rattle.code.specs.Meaning.{instructionOf, codeOf}
+use Rattle.code.proofs.Decoded.{length-listOf, getD-listOf, length-code, instruction-at, checked-code}
 use Rattle.pack.specs.Layout.{count, sizeOf, operationsAt, operandsAt, operationByte, operandWord, operationsOf, operandsOf}
 use Rattle.pack.specs.Laid.{Laid}
 use Rattle.pack.specs.Refusal.{workflowNo, packRefusal}
@@ -44,19 +42,14 @@ module _ (p : List ℕ) where
   workflow-at w h = getD-listOf (λ w. codeOf (operationsOf p w) (operandsOf p w)) (count p) w [] h
 
   -- a byte and a word of the parts, from the pack
-  pub byte-at : (w i : ℕ) → i < sizeOf p w → getD (operationsOf p w) i 0 ≡ operationByte p w i
+  byte-at : (w i : ℕ) → i < sizeOf p w → getD (operationsOf p w) i 0 ≡ operationByte p w i
   unfolding operationsOf operationByte
   byte-at w i h = rw (getD-take (sizeOf p w) (drop (operationsAt p w) p) i 0 h, getD-drop)
 
-  pub word-at : (w i : ℕ) → i < sizeOf p w → wordAt (operandsOf p w) i ≡ operandWord p w i
+  word-at : (w i : ℕ) → i < sizeOf p w → wordAt (operandsOf p w) i ≡ operandWord p w i
   unfolding operandsOf operandWord
   word-at w i h =
       le-part 4 (4 * sizeOf p w) (operandsAt p w) p (4 * i) (omega arith)
-
-  -- of bytes, a word is below 2^32
-  pub word-small : (w i : ℕ) → ((j : ℕ) → getD p j 0 < 256) → operandWord p w i < 2 ^ 32
-  unfolding operandWord
-  word-small w i h = le-lt 4 p (operandsAt p w + 4 * i) h
 
   module _ (e : packRefusal p ≡ none) where
     pub accepted-laid : Laid p
@@ -69,10 +62,6 @@ module _ (p : List ℕ) where
     module _ (w : ℕ) (h : w < count p) where
       operations-sized : length (operationsOf p w) ≡ sizeOf p w
       operations-sized = length-operations p accepted-laid w h
-
-      -- questions 4 to 7 say yes to each instruction
-      pub accepted-instruction : (i : ℕ) → i < sizeOf p w → instructionNo w (operationsOf p w) (operandsOf p w) i ≡ none
-      accepted-instruction i l = right-at w (operationsOf p w) (operandsOf p w) (accepted-workflow w h) i (omega (arith, operations-sized))
 
       -- its bytes are right
       pub accepted-right : Right (operationsOf p w) (operandsOf p w)
@@ -92,26 +81,6 @@ module _ (p : List ℕ) where
           ap (λ c. instructionAt c i) (workflow-at w h)
           ∙ instruction-at (operationsOf p w) (operandsOf p w) i (omega (arith, operations-sized))
           ∙ ap₂ instructionOf (byte-at w i l) (word-at w i l)
-
-      -- the numbers of registers and partitions are 0 to 7
-      pub instruction-bounded : (i : ℕ) → i < sizeOf p w → Bounded (instructionAt (getD (packOf p) w []) i)
-      instruction-bounded i l =
-          subst (λ c. Bounded (instructionAt c i)) (sym (workflow-at w h))
-          (bounded-at w (operationsOf p w) (operandsOf p w) (accepted-workflow w h) i (omega (arith, operations-sized)))
-
-      -- a BEGIN's partition is at most 7
-      pub begin-bounded : (i partition : ℕ) → i < sizeOf p w → instructionAt (getD (packOf p) w []) i ≡ BEGIN partition → partition < 8
-      begin-bounded i partition l q = subst Bounded q (instruction-bounded i l)
-
-      -- a workflow has 1 to 256 instructions
-      pub workflow-sized : (1 ≤ length (getD (packOf p) w [])) × (length (getD (packOf p) w []) ≤ 256)
-      workflow-sized =
-          let s = accepted-laid .sizes w h in
-          (omega (arith, length-workflow, s .0), omega (arith, length-workflow, s .1))
-
-    -- there are at most 16 workflows
-    pub few-workflows : length (packOf p) ≤ 16
-    few-workflows = omega (arith, length-pack, accepted-laid .few)
 
     -- the hypothesis of demand 3
     pub accepted-checked : CheckedPack (packOf p)

@@ -1,4 +1,4 @@
--- Laws of a pack's layout, and questions 1 to 3 from their tests. Assumes nothing.
+-- Laws of a pack's layout, and questions 1 to 3 from their tests.
 use mathlib.Core.Path.{_≡_}
 use mathlib.Core.Bool.{Bool, true, false, _&&_}
 use mathlib.Core.List.{List}
@@ -81,7 +81,8 @@ module _ (p : List ℕ) where
   unfolding question3
   length-asked a t e h = rw (← e) h
 
-  pub layout-asked : (a b c : Bool) → question1 p ≡ a → question2 p ≡ b → question3 p ≡ c → layoutNo p ≡ ask (number 1) a (ask (number 2) b (ask (number 3) c none))
+  pub layout-asked : (a b c : Bool) → question1 p ≡ a → question2 p ≡ b → question3 p ≡ c →
+      layoutNo p ≡ ask (number 1) a (ask (number 2) b (ask (number 3) c none))
   unfolding layoutNo
   layout-asked a b c e f g = rw (e, f, g)
 
@@ -96,14 +97,17 @@ module _ (p : List ℕ) where
       let q3 = ask-none _ (question3 p) _ (e2 .1) .0 in
       let counted = and-right (leb 1 (length p)) (between 1 16 (count p)) q1 in
       let there = leb (1 + 2 * count p) (length p) in
-      let sized = and-right there (each (count p) (sizeRight p)) (and-left (there && each (count p) (sizeRight p)) (leb (total p) 2048) q2) in
+      let sized = and-right there (each (count p) (sizeRight p))
+      (and-left (there && each (count p) (sizeRight p)) (leb (total p) 2048) q2) in
       record {
         some-workflow = leb-true 1 (count p) (and-left (leb 1 (count p)) (leb (count p) 16) counted);
         few = leb-true (count p) 16 (and-right (leb 1 (count p)) (leb (count p) 16) counted);
         sizes =
             λ w l.
-            let h = each-at (sizeRight p) (count p) 0 sized w (omega arith) (omega arith) in
-            (leb-true 1 (sizeOf p w) (and-left (leb 1 (sizeOf p w)) (leb (sizeOf p w) 256) h), leb-true (sizeOf p w) 256 (and-right (leb 1 (sizeOf p w)) (leb (sizeOf p w) 256) h));
+            let h = each-at (sizeRight p) (count p) 0 sized w (omega arith) (omega arith) in (
+              leb-true 1 (sizeOf p w) (and-left (leb 1 (sizeOf p w)) (leb (sizeOf p w) 256) h),
+              leb-true (sizeOf p w) 256 (and-right (leb 1 (sizeOf p w)) (leb (sizeOf p w) 256) h),
+            );
         short = leb-true (total p) 2048 (and-right (there && each (count p) (sizeRight p)) (leb (total p) 2048) q2);
         whole = eqb-true (length p) (1 + 2 * count p + 5 * total p) q3;
       }

@@ -1,4 +1,4 @@
--- From a workflow's no to a pack's and to an opening's. Assumes nothing.
+-- From a workflow's no to a pack's and to an opening's.
 use mathlib.Core.Path.{_≡_, refl, _∙_}
 use mathlib.Core.Bool.{Bool, true, false}
 use mathlib.Core.List.{List, []}
@@ -26,7 +26,8 @@ module _ (p : List ℕ) (w first size : ℕ) (e : first ≡ firstOf p w) (s : si
   unfolding operationsOf
   operations-are a xs f g = rw (f, e, s) at g
 
-  pub operands-are : (a : ℕ) (xs : List ℕ) → a ≡ 1 + 2 * count p + total p → xs ≡ take (4 * size) (drop (a + 4 * first) p) → xs ≡ operandsOf p w
+  pub operands-are : (a : ℕ) (xs : List ℕ) → a ≡ 1 + 2 * count p + total p → xs ≡ take (4 * size) (drop (a + 4 * first) p) →
+      xs ≡ operandsOf p w
   unfolding operandsOf
   operands-are a xs f g = rw (f, e, s) at g
 
@@ -58,12 +59,13 @@ module _ (p : List ℕ) where
     unfolding openRefusal
     pack-refused v q w′ i e r = refused-first v _ _ q w′ i e r
 
-    pub pack-fine : (v : Verdict) (t : Bool) → v ≡ verdictOf (packRefusal p) → v ≡ Accepted → question17 p w ≡ t → openRefusal p w ≡ ask (number 17) t none
+    pub pack-fine : (v : Verdict) (t : Bool) → v ≡ verdictOf (packRefusal p) → v ≡ Accepted → question17 p w ≡ t →
+        openRefusal p w ≡ ask (number 17) t none
     unfolding openRefusal
     pack-fine v t e a f = or-yes _ _ (accepted v _ e a) ∙ rw f
 
     module _ (e : openRefusal p w ≡ none) where
-      pub open-accepted : packRefusal p ≡ none
+      open-accepted : packRefusal p ≡ none
       unfolding openRefusal
       open-accepted = orElse-none _ _ e .0
 

@@ -1,4 +1,4 @@
--- What a yes to questions 1 to 3 says, as facts. Assumes nothing: these are definitions.
+-- What a yes to questions 1 to 3 says, as facts.
 use mathlib.Core.Path.{_≡_}
 use mathlib.Core.List.{List}
 use Prim.Native.Nat.{ℕ, _+_, _*_, _≤_, _<_}

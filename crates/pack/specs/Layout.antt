@@ -1,5 +1,5 @@
--- The bytes of a pack: count m (1 byte), m sizes (2 bytes each), then two parallel arrays over all T instructions: T operation bytes,
--- T operand words (4 bytes each). Assumes nothing: these are definitions.
+-- The bytes of a pack: count m (1 byte), m sizes (2 bytes each), then two parallel arrays over all T instructions: T operation bytes, T
+-- operand words (4 bytes each).
 use mathlib.Core.List.{List}
 use Prim.Native.Nat.{ℕ, zero, suc, _+_, _*_}
 use lib.ListN.{getD, take, drop}

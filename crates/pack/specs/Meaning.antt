@@ -1,4 +1,4 @@
--- A pack's bytes as the workflows of the rules. Assumes nothing: these are definitions.
+-- A pack's bytes as the workflows of the rules.
 use mathlib.Core.List.{List}
 use Prim.Native.Nat.{ℕ}
 use Rattle.rules.specs.Instructions.{Pack}

@@ -1,5 +1,4 @@
--- Questions 1 to 3 and 17, each a test: true is yes. (4 to 8 are put to one workflow: crate `code`.) Assumes nothing: these are
--- definitions.
+-- Questions 1 to 3 and 17, each a test: true is yes. (4 to 8 are put to one workflow: crate `code`.)
 use mathlib.Core.Bool.{Bool, _&&_}
 use mathlib.Core.List.{List}
 use Prim.Native.Nat.{ℕ, _+_, _*_}

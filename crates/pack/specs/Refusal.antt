@@ -1,4 +1,4 @@
--- The order of the questions: the first no is the refusal. Assumes nothing: these are definitions.
+-- The order of the questions: the first no is the refusal.
 use mathlib.Core.List.{List, []}
 use mathlib.Core.Option.{Option, none, some}
 use Prim.Native.Nat.{ℕ}

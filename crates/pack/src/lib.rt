@@ -1,12 +1,11 @@
-// The pack of workflows: its check, the opening of a workflow, and the reading of instructions.
+// The pack of workflows: its check, and the opening of a workflow.
 ghost use mathlib.Core.Path.{_≡_};
-ghost use mathlib.Core.Option.{none};
 ghost use Prim.Native.Nat.{_+_, _*_, _≤_, _<_};
 ghost use lib.ListN.{length, take, drop};
 ghost use Rattle.questions.specs.Basics.{each};
 ghost use Rattle.questions.specs.Questions.{firstNo};
 ghost use Rattle.questions.specs.Verdicts.{verdictOf};
-ghost use Rattle.pack.specs.Layout.{count, sizeOf, firstOf, total, operationsAt, operandsAt, operationsOf, operandsOf, operationByte, operandWord};
+ghost use Rattle.pack.specs.Layout.{count, sizeOf, firstOf, total, operationsAt, operandsAt, operationsOf, operandsOf};
 ghost use Rattle.pack.specs.Laid.{Laid};
 ghost use Rattle.pack.specs.Questions.{sizeRight};
 ghost use Rattle.pack.specs.Refusal.{layoutNo, workflowNo, packRefusal, openRefusal, opened};
@@ -245,23 +244,4 @@ pub fn operands<'a>(pack: &'a [u8], workflow: u32) -> &'a [u8]
             instruction: _,
         } => &pack[..0],
     }
-}
-
-// The operation byte of instruction i of a workflow of an accepted pack.
-pub fn operation_byte(pack: &[u8], w: usize, i: usize) -> u8
-    requires { ⌜ packRefusal (now pack) ≡ none ⌝ }
-    requires { ⌜ (w < count (now pack)) × (i < sizeOf (now pack) w) ⌝ }
-    ensures { λ r. ⌜ r ≡ operationByte (now (pack .entry)) w i ⌝ }
-{
-    let a = operations_at(pack, w);
-    pack[a + i]
-}
-
-// Its operand word.
-pub fn operand_word(pack: &[u8], w: usize, i: usize) -> u32
-    requires { ⌜ packRefusal (now pack) ≡ none ⌝ }
-    requires { ⌜ (w < count (now pack)) × (i < sizeOf (now pack) w) ⌝ }
-    ensures { λ r. ⌜ r ≡ operandWord (now (pack .entry)) w i ⌝ }
-{
-    words::read32(pack, operands_at(pack, w) + 4 * i)
 }

@@ -1,4 +1,4 @@
--- Laws of chains of questions, and of the verdict on them. Assumes nothing.
+-- Laws of chains of questions, and of the verdict on them.
 use mathlib.Core.Path.{_≡_, refl, sym, _∙_, ap}
 use mathlib.Core.Option.{Option, none, some}
 use Prim.Native.Nat.{ℕ, zero, suc, _+_, _-_, _≤_, _<_}

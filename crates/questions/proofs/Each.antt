@@ -1,5 +1,5 @@
--- Laws of `each`, for a loop that leaves at the first i where f fails. Its invariant is that what is left answers the whole:
--- `eachFrom f (n - i) i ≡ each n f`. Assumes nothing.
+-- Laws of `each`, for a loop that leaves at the first i where f fails. Its invariant is that what is left answers the whole: `eachFrom f (n
+-- - i) i ≡ each n f`.
 use mathlib.Core.Path.{_≡_, refl}
 use mathlib.Core.Bool.{Bool, true, false}
 use mathlib.Core.Logic.{⊎-elim}

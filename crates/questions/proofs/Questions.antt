@@ -1,4 +1,4 @@
--- Laws of questions in order. Assumes nothing.
+-- Laws of questions in order.
 use mathlib.Core.Bool.{Bool, true, false}
 use mathlib.Core.Path.{_≡_, refl}
 use mathlib.Core.Option.{Option, none, some}

@@ -1,12 +1,12 @@
--- Functions that are changed at one number. Assumes nothing.
+-- Functions that are changed at one number.
 use mathlib.Core.Bool.{Bool, true, false}
-use mathlib.Core.Path.{_≡_, refl, sym, _∙_, ap}
+use mathlib.Core.Path.{_≡_, refl, sym, _∙_}
 use mathlib.Core.Logic.{_⊎_, inl, inr}
 use mathlib.Core.Option.{Option, none, some}
 use Prim.Native.Nat.{ℕ, _≤_, _<_}
 use native.Mathlib.Omega.{arith}
 use lib.Dec.{T, eqb, ltb, eqb→eq, eqb-refl, ltb→lt, nltb→le}
-use Rattle.questions.specs.Basics.{if_then_else_, update}
+use Rattle.questions.specs.Basics.{update}
 
 pub none-some {ℓ} : {A : Type 0} {B : Type ℓ} {o : Option A} (x : A) → o ≡ none → o ≡ some x → B
 none-some {o} x e e′ = absurd (let z : _≡_ {A = ℕ} 0 1 = cc in omega arith)
@@ -67,11 +67,3 @@ update-each {A} f k o P new old j x e = go (update-cases f k o j)
     go : ((j ≡ k) × (update f k o j ≡ o)) ⊎ ((j ≡ k → ⊥) × (update f k o j ≡ f j)) → P j x
     go (inl h) = rw (h .0) (new x (sym (h .1) ∙ e))
     go (inr h) = old j x (h .0) (sym (h .1) ∙ e)
-
--- a changed function composed with another is the composition, changed
-pub update-after : {A B : Type 0} (g : A → B) (f : ℕ → A) (k : ℕ) (v : A) (j : ℕ) → g (update f k v j) ≡ update (λ i. g (f i)) k (g v) j
-update-after g f k v j = go (eqb j k)
-  where
-    go : (b : Bool) → g (if_then_else_ b v (f j)) ≡ if_then_else_ b (g v) (g (f j))
-    go true = refl
-    go false = refl

@@ -1,4 +1,4 @@
--- Notation that the definitions share. Assumes nothing: these are definitions.
+-- Notation that the definitions share.
 use mathlib.Core.Bool.{Bool, true, false}
 use mathlib.Core.Option.{Option, none, some}
 use Prim.Native.Nat.{ℕ, zero, suc, _+_}

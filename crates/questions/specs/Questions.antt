@@ -1,4 +1,4 @@
--- Questions are put in order, and the first no wins. Assumes nothing: these are definitions.
+-- Questions are put in order, and the first no wins.
 use mathlib.Core.Bool.{Bool, true, false}
 use mathlib.Core.Option.{Option, none, some}
 use Prim.Native.Nat.{ℕ, zero, suc}

@@ -1,6 +1,6 @@
--- The code's verdict on questions, in the document's numbers. Assumes nothing: these are definitions.
+-- The code's verdict on questions, in the document's numbers.
 use mathlib.Core.Option.{Option, none, some}
-use Rattle.questions.specs.Questions.{No, no}
+use Rattle.questions.specs.Questions.{No}
 use Rattle.questions.specs.declared.Verdict.{Verdict}
 use Rattle.questions.specs.declared.Verdict.the-variants.{Accepted, Refused}
 
@@ -8,8 +8,3 @@ use Rattle.questions.specs.declared.Verdict.the-variants.{Accepted, Refu
 abbrev pub verdictOf : Option No → Verdict
 verdictOf none = Accepted
 verdictOf (some n) = Refused (n .question) (n .workflow) (n .instruction)
-
--- and back: what a verdict says, number and place
-abbrev pub refusalOf : Verdict → Option No
-refusalOf Accepted = none
-refusalOf (Refused question workflow instruction) = some (no question workflow instruction)

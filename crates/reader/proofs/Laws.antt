@@ -1,9 +1,10 @@
--- Laws of parts, of openings and of what is read. Assumes nothing.
+-- Laws of parts, of openings and of what is read.
 use mathlib.Core.Path.{_≡_, refl, sym, _∙_, ap, subst}
 use mathlib.Core.Bool.{Bool, true, false}
 use mathlib.Core.List.{List, [], _∷_}
 use mathlib.Core.Option.{Option, none, some}
-use Prim.Native.Nat.{ℕ, zero, suc, _+_, _*_, _≤_, _<_}
+use Prim.Native.Nat.{ℕ, zero, suc, _+_, _*_, _/_, _≤_, _<_}
+use native.Mathlib.Decide.{decLt}
 use native.Mathlib.Nat.{le-of-suc-le-suc}
 use native.Mathlib.Omega.{arith}
 use borrow.Author.Tests.{lt-ltb, le-ltb, le-leb, lt-leb, leb-true, leb-false}
@@ -24,7 +25,8 @@ use Rattle.pack.specs.Layout.{sizeOf, operationsAt, operandsAt, operationsOf, o
 use Rattle.pack.specs.Refusal.{openRefusal, opened}
 use Rattle.pack.proofs.Sizes.{operations-within, operands-within}
 use Rattle.pack.proofs.Workflows.{open-laid, open-below}
-use Rattle.reader.specs.Readers.{partOf, openedNumber, openingOf, operationsFrom, operandsFrom, Opened, operationsIn, operandsIn, readAt, Read}
+use Rattle.reader.specs.Readers.{partOf, openedNumber, openingOf, operationsFrom, operandsFrom, Opened, operationsIn, operandsIn}
+use Rattle.reader.specs.Readers.{Beside, readAt, Read}
 use Rattle.reader.specs.declared.Instruction.{Instruction}
 use Rattle.reader.specs.declared.Opening.{Opening}
 use Rattle.reader.specs.declared.Reader.{Reader}
@@ -78,25 +80,33 @@ module _ (ops ws : List ℕ) (i : ℕ) where
         meaning = rw (e, f) (sym (instruction-at ops ws i h));
       }
 
--- What is read at i with the parts in hand, `bytes` and `words`: past the end, without a word, with one.
-module _ (p : List ℕ) (a b n i : ℕ) (bytes : List ℕ) (e : bytes ≡ partOf p a n) where
-  pub past-end : length bytes ≤ i → Read (partOf p a n) (partOf p b (4 * n)) i (record { byte = 176; word = 0 })
-  past-end h = read-past _ _ i (rw (← e) h)
+-- What is read at i of operation bytes and operand bytes that stand beside each other: past the end, without a word, with one.
+module _ (ops ws : List ℕ) (i : ℕ) where
+  pub past-end : length ops ≤ i → Beside ops ws → Read ops ws i (record { byte = 176; word = 0 })
+  past-end h b = read-past ops ws i h
 
-  module _ (words : List ℕ) (f : words ≡ partOf p b (4 * n)) (h : i < length bytes) where
-    pub without-word : length words < 1 → Read (partOf p a n) (partOf p b (4 * n)) i (record { byte = getD bytes i 0; word = 0 })
-    without-word l = read-here _ _ i _ _ (rw (← e) h) (rw e) (no-word (partOf p b (4 * n)) i (rw (← f) (omega arith)))
+  module _ (h : i < length ops) where
+    pub without-word : length ws / 4 ≤ i → Beside ops ws → Read ops ws i (record { byte = getD ops i 0; word = 0 })
+    without-word l b = read-here ops ws i _ _ h refl (no-word ws i (go (decLt 0 (length ws))))
+      where
+        go : Dec (0 < length ws) → length ws ≡ 0
+        go (yes z) = absurd (omega (arith, b (omega arith) z))
+        go (no n) = omega arith
 
-    pub with-word : (w : ℕ) → w ≡ wordAt words i → Read (partOf p a n) (partOf p b (4 * n)) i (record { byte = getD bytes i 0; word = w })
-    with-word w g = read-here _ _ i _ _ (rw (← e) h) (rw e) (rw (← f) g)
+    pub with-word : (w : ℕ) → w ≡ wordAt ws i → Beside ops ws → Read ops ws i (record { byte = getD ops i 0; word = w })
+    with-word w e b = read-here ops ws i _ _ h refl e
 
-    pub word-there : 1 ≤ length words → 4 * i + 4 ≤ length words
-    word-there l =
-        let s = part-length p a n (rw (← e) (omega arith)) in
-        let t = part-length p b (4 * n) (rw (← f) (omega arith)) in
-        let s′ : length bytes ≡ n = rw e s in
-        let t′ : length words ≡ 4 * n = rw f t in
-        omega arith
+-- so do the parts of any reader, and what is read of them is read of the reader
+pub read-of : (r : Reader) (i : ℕ) (ops ws : List ℕ) (x : Instruction) → ops ≡ operationsIn r → ws ≡ operandsIn r →
+    (Beside ops ws → Read ops ws i x) → Read (operationsIn r) (operandsIn r) i x
+read-of r i ops ws x e f h =
+    subst (λ (bs : List ℕ). Read bs (operandsIn r) i x) e
+    (subst (λ (vs : List ℕ). Read ops vs i x) f (h (λ l m. rw (e, f) (sized (rw e at l) (rw f at m)))))
+  where
+    sized : 0 < length (operationsIn r) → 0 < length (operandsIn r) → length (operandsIn r) ≡ 4 * length (operationsIn r)
+    sized l m =
+        part-length (now (r .pack)) (r .operands) (4 * r .size) m
+        ∙ ap (λ (n : ℕ). 4 * n) (sym (part-length (now (r .pack)) (r .operations) (r .size) l))
 
 -- what is found of a refused workflow, and of an accepted one
 pub found-none : (p : List ℕ) (w : ℕ) (v : Verdict) (q x i : ℕ) → v ≡ verdictOf (openRefusal p w) → v ≡ Refused q x i →
@@ -116,25 +126,30 @@ found-none p w v q x i e r = go (openRefusal p w) e
     go (some n) e = λ j. record { verdict = e j; operations = 0; operands = 0; size = 0 }
 
 pub found-there : (p : List ℕ) (w : ℕ) (v : Verdict) (a b n : ℕ) → v ≡ verdictOf (openRefusal p w) → openRefusal p w ≡ none →
-    a ≡ operationsAt p w → b ≡ operandsAt p w → n ≡ sizeOf p w → record { verdict = v; operations = a; operands = b; size = n } ≡ openingOf p w
+    a ≡ operationsAt p w → b ≡ operandsAt p w → n ≡ sizeOf p w →
+    record { verdict = v; operations = a; operands = b; size = n } ≡ openingOf p w
 unfolding openedNumber
 found-there p w v a b n e o f g h = rw (e, o, f, g, h)
 
 -- the parts that an opening's numbers say are those that the pack's own opening hands out
 module _ (p : List ℕ) (w : ℕ) where
-  operations-opened : partOf p (openedNumber (openRefusal p w) (operationsAt p w)) (openedNumber (openRefusal p w) (sizeOf p w)) ≡ operationsFrom p w
+  operations-opened : partOf p (openedNumber (openRefusal p w) (operationsAt p w))
+      (openedNumber (openRefusal p w) (sizeOf p w)) ≡ operationsFrom p w
   unfolding openedNumber opened operationsOf
   operations-opened = go (openRefusal p w) refl
     where
-      go : (o : Option No) → openRefusal p w ≡ o → partOf p (openedNumber o (operationsAt p w)) (openedNumber o (sizeOf p w)) ≡ opened o (operationsOf p w)
+      go : (o : Option No) → openRefusal p w ≡ o →
+          partOf p (openedNumber o (operationsAt p w)) (openedNumber o (sizeOf p w)) ≡ opened o (operationsOf p w)
       go none e = part-whole p (operationsAt p w) (sizeOf p w) (operations-within p (open-laid p w e) w (open-below p w e))
       go (some n) e = part-whole p 0 0 (omega arith)
 
-  operands-opened : partOf p (openedNumber (openRefusal p w) (operandsAt p w)) (4 * openedNumber (openRefusal p w) (sizeOf p w)) ≡ operandsFrom p w
+  operands-opened : partOf p (openedNumber (openRefusal p w) (operandsAt p w))
+      (4 * openedNumber (openRefusal p w) (sizeOf p w)) ≡ operandsFrom p w
   unfolding openedNumber opened operandsOf
   operands-opened = go (openRefusal p w) refl
     where
-      go : (o : Option No) → openRefusal p w ≡ o → partOf p (openedNumber o (operandsAt p w)) (4 * openedNumber o (sizeOf p w)) ≡ opened o (operandsOf p w)
+      go : (o : Option No) → openRefusal p w ≡ o →
+          partOf p (openedNumber o (operandsAt p w)) (4 * openedNumber o (sizeOf p w)) ≡ opened o (operandsOf p w)
       go none e = part-whole p (operandsAt p w) (4 * sizeOf p w) (operands-within p (open-laid p w e) w (open-below p w e))
       go (some n) e = part-whole p 0 0 (omega arith)
 
@@ -145,7 +160,8 @@ module _ (r : Reader) (o : Opened r) where
   pub has-operands : operandsIn r ≡ operandsFrom (now (r .pack)) (r .workflow)
   has-operands = ap operandsIn o ∙ operands-opened (now (r .pack)) (r .workflow)
 
-  pub has-instruction : (i : ℕ) (x : Instruction) → Read (operationsIn r) (operandsIn r) i x → Read (operationsFrom (now (r .pack)) (r .workflow)) (operandsFrom (now (r .pack)) (r .workflow)) i x
+  pub has-instruction : (i : ℕ) (x : Instruction) → Read (operationsIn r) (operandsIn r) i x →
+      Read (operationsFrom (now (r .pack)) (r .workflow)) (operandsFrom (now (r .pack)) (r .workflow)) i x
   has-instruction i x read =
       subst (λ ws. Read (operationsFrom (now (r .pack)) (r .workflow)) ws i x) has-operands
       (subst (λ ops. Read ops (operandsIn r) i x) has-operations read)

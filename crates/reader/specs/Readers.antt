@@ -1,8 +1,8 @@
--- What an opening finds, what a reader of it has, and what is read there. Assumes nothing: these are definitions.
+-- What an opening finds, what a reader of it has, and what is read there.
 use mathlib.Core.List.{List, []}
 use mathlib.Core.Option.{Option, none, some}
 use mathlib.Core.Path.{_≡_}
-use Prim.Native.Nat.{ℕ, _+_, _*_}
+use Prim.Native.Nat.{ℕ, _+_, _*_, _<_}
 use lib.Dec.{leb, ltb}
 use lib.ListN.{length, getD, take, drop}
 use denote.Ref.{RefT, now}
@@ -68,6 +68,10 @@ operationsIn r = partOf (now (r .pack)) (r .operations) (r .size)
 
 abbrev pub operandsIn : Reader → List ℕ
 operandsIn r = partOf (now (r .pack)) (r .operands) (4 * r .size)
+
+-- operand bytes beside operation bytes: four to each, where there are both
+abbrev pub Beside : (ops ws : List ℕ) → Type 0
+Beside ops ws = 0 < length ops → 0 < length ws → length ws ≡ 4 * length ops
 
 -- Operation byte and operand word of instruction i; past the end those of RETURN 0, as in the rules.
 unfoldable pub readAt : (ops ws : List ℕ) (i : ℕ) → Instruction

@@ -1,8 +1,10 @@
 // A reader carries the lent pack along with the workflow that it has open, so that a workflow is checked and found once and then read.
-// The functions over it are thin: each takes the struct apart and calls one on the slice and the numbers, which the borrow checker covers.
+// The functions over it are thin: they take the struct apart or copy it, and call one on slices and numbers, which the borrow checker
+// covers.
 ghost use mathlib.Core.Path.{_≡_};
 ghost use Prim.Native.Nat.{_*_};
-ghost use Rattle.reader.specs.Readers.{partOf, openingOf, operationsFrom, operandsFrom, readerOf, Opened, operationsIn, operandsIn, Read};
+ghost use Rattle.reader.specs.Readers.{partOf, openingOf, operationsFrom, operandsFrom, readerOf, Opened, operationsIn, operandsIn};
+ghost use Rattle.reader.specs.Readers.{Beside, Read};
 use questions::Verdict;
 
 // `operations`, `operands`: where the workflow's operation bytes and operand bytes begin in the pack; `size`: how many instructions it has.
@@ -87,25 +89,17 @@ fn opening_of(pack: &[u8], workflow: u32) -> Opening
     }
 }
 
-// Instruction i of the `size` that have their operation bytes and operand bytes there.
-fn instruction_in(
-    pack: &[u8],
-    operations: usize,
-    operands: usize,
-    size: usize,
-    i: usize,
-) -> Instruction
-    ensures { λ r. ⌜ Read (partOf (now (pack .entry)) operations size) (partOf (now (pack .entry)) operands (4 * size)) i r ⌝ }
+// Instruction i of a reader's operation bytes and operand bytes.
+fn instruction_in<'a>(bytes: &'a [u8], words: &'a [u8], i: usize) -> Instruction
+    ensures { λ r. ⌜ (Beside (now (bytes .entry)) (now (words .entry)) → Read (now (bytes .entry)) (now (words .entry)) i r) ⌝ }
 {
-    let bytes = part_or_none(pack, operations, size);
     if bytes.len() <= i {
         return Instruction {
             byte: 0xB0,
             word: 0,
         };
     }
-    let words = words_or_none(pack, operands, size);
-    if words.len() < 1 {
+    if words.len() / 4 <= i {
         return Instruction {
             byte: bytes[i],
             word: 0,
@@ -150,22 +144,11 @@ pub fn operands<'a>(r: Reader<'a>) -> &'a [u8]
 pub fn instruction_at<'a>(r: Reader<'a>, i: usize) -> Instruction
     ensures { λ x. ⌜ Read (operationsIn (r .entry)) (operandsIn (r .entry)) i x × (Opened (r .entry) → Read (operationsFrom (now (r .entry .pack)) (r .entry .workflow)) (operandsFrom (now (r .entry .pack)) (r .entry .workflow)) i x) ⌝ }
 {
-    instruction_in(r.pack, r.operations, r.operands, r.size, i)
+    instruction_in(operations(r), operands(r), i)
 }
 
-// The same with plain parameters: whoever calls one of these three is covered.
-pub fn operations_of<'a>(pack: &'a [u8], workflow: u32) -> &'a [u8]
-    ensures { λ s. ⌜ now s ≡ operationsFrom (now (pack .entry)) workflow ⌝ }
-{
-    operations(open(pack, workflow))
-}
-
-pub fn operands_of<'a>(pack: &'a [u8], workflow: u32) -> &'a [u8]
-    ensures { λ s. ⌜ now s ≡ operandsFrom (now (pack .entry)) workflow ⌝ }
-{
-    operands(open(pack, workflow))
-}
-
+// The same with plain parameters: whoever calls it is covered. The parts of a workflow come so from `pack::operations` and
+// `pack::operands`.
 pub fn instruction_of(pack: &[u8], workflow: u32, i: usize) -> Instruction
     ensures { λ x. ⌜ Read (operationsFrom (now (pack .entry)) workflow) (operandsFrom (now (pack .entry)) workflow) i x ⌝ }
 {

@@ -1,5 +1,5 @@
 -- The run of a block in a checked workflow: it comes to the END behind which the agent goes on; and to allow a run more instructions than
--- are ahead changes nothing. Assumes nothing.
+-- are ahead changes nothing.
 use mathlib.Core.Bool.{Bool, true, false}
 use mathlib.Core.Path.{_≡_, refl, sym, _∙_, ap, subst}
 use mathlib.Core.Logic.{_⊎_, inl, inr}

@@ -1,5 +1,5 @@
 -- After any calls from any store without agents, agents and replies go by the log: what the log had decided at first stays decided, and
--- each agent has come as far as its turns. Assumes nothing.
+-- each agent has come as far as its turns.
 use mathlib.Core.Bool.{true}
 use mathlib.Core.Path.{_≡_, refl, sym, _∙_, ap, subst}
 use mathlib.Core.List.{List, [], _∷_, List·Memᴰ, List·Memᴰ·cases-cons, List·Memᴰ·not-nil}
@@ -12,14 +12,15 @@ use Rattle.rules.specs.Blocks.{Result, Block, runBlock}
 use Rattle.rules.specs.Courses.{Course, Next, goes, does, says, nextOf}
 use Rattle.rules.specs.Store.{Request, Store, sought, found, booked, written}
 use Rattle.rules.specs.Logged.{codeOf, start, Stage, at, finished, behind, byNext, follow, replyLogged}
-use Rattle.rules.specs.Calls.{Agent, State, Outcome, Call, arrival, retry, turn, crash, restart, order, stopped}
+use Rattle.rules.specs.Calls.{Agent, State, Outcome, Call, turn, withStore}
 use Rattle.rules.specs.Calls.{withSlot, started, arrive, again, throughBlock, turnOn, turnIn, refusal, rule}
-use Rattle.rules.specs.Plain.{Reply, withAnswer, Tally, Tallies, tallied}
+use Rattle.rules.specs.Plain.{Reply, withAnswer, Tally, Tallies, Feed, feeds, tallied}
 use Rattle.questions.proofs.Updates.{none-some, false-true, update-same, update-other, update-each}
 use Rattle.questions.proofs.Questions.{ask-none}
 use Rattle.rules.proofs.Follow.{row-grows, row-here, follow-stays, follow-next}
 use Rattle.rules.proofs.Logged.{Ends, ends-once, ends-stay, logged-ends}
 use Rattle.rules.proofs.Invariant.{Remains}
+use Rattle.rules.proofs.ByFeed.{Idle, Kind, an-arrival, a-retry, a-turn, an-idle, kind}
 use Rattle.rules.proofs.Turn.{tallyOf}
 use Rattle.rules.proofs.Stands.{Stands, turn-is, turn-counted}
 
@@ -52,7 +53,7 @@ not-found (some v) e = none-some _ e refl
 module _ (pack : Pack) (first : Store) where
   -- more rows
   onto-store : (s : State) (t : Tallies) (rs : List Reply) → ByLog pack first s t rs → (s′ : Store) → Stays (s .store) s′ →
-      ByLog pack first (record { store = s′; slots = s .slots }) t rs
+      ByLog pack first (withStore s s′) t rs
   onto-store s t rs inv s′ on =
       record {
         stays = stays-on first (s .store) s′ (inv .stays) on;
@@ -112,7 +113,7 @@ module _ (pack : Pack) (first : Store) where
         ByLog pack first (arrive s slot id q o .state) (update t slot (tallyOf id 0)) (withAnswer (arrive s slot id q o .answer) rs)
     unfolding arrive
     arrives id q none e =
-        starts (record { store = booked (s .store) id q; slots = s .slots }) t rs
+        starts (withStore s (booked (s .store) id q)) t rs
         (onto-store s t rs inv (booked (s .store) id q)
         (λ j w f. (update-other (s .store .book) id (some q) j (λ p. none-some w (ap (s .store .book) p ∙ e) f) ∙ f, λ p u r g. g)))
         slot id q (update-same (s .store .book) id (some q))
@@ -152,7 +153,7 @@ module _ (pack : Pack) (first : Store) where
       through from p onto e (some r) f =
           moves-on (onto r) (suc (a .step)) (next (does from p onto) (some (at (onto r) (suc (a .step)))) e (ap (behind onto (a .step)) f))
       through from p onto e none f =
-          holds (record { store = store′; slots = s .slots }) t rs (onto-store s t rs inv store′ on) slot tally
+          holds (withStore s store′) t rs (onto-store s t rs inv store′ on) slot tally
           (record { id = a .id; course = onto (b .result); step = suc (a .step) })
           (record { request = h .request; moves = suc (h .moves); counted = refl; book-is = h .book-is; there = there′ })
         where
@@ -205,37 +206,49 @@ module _ (pack : Pack) (first : Store) where
       turns-on (does from p onto) e = through from p onto e (found (s .store .log) p (a .id) (a .step)) refl
 
     turns : (o : Option Agent) → s .slots slot ≡ o → isSome o ≡ true →
-        ByLog pack first (turnIn pack s slot o .state) (tallied t (turn slot)) (withAnswer (turnIn pack s slot o .answer) rs)
+        ByLog pack first (turnIn pack s slot o .state) (tallied t (feeds (turn slot))) (withAnswer (turnIn pack s slot o .answer) rs)
     turns none e u = false-true refl u
     turns (some a) e u =
         let h = inv .slots slot a e in
         subst (λ (x : Tallies). ByLog pack first (turnIn pack s slot (some a) .state) x
         (withAnswer (turnIn pack s slot (some a) .answer) rs))
         (sym (turn-counted pack s t slot a h))
-        (subst (λ (x : Outcome). ByLog pack first (x .state) (update t slot (tally a h)) (withAnswer (x .answer) rs)) (sym (turn-is pack s t slot a h))
+        (subst (λ (x : Outcome). ByLog pack first (x .state) (update t slot (tally a h)) (withAnswer (x .answer) rs))
+        (sym (turn-is pack s t slot a h))
         (turns-on a h (nextOf (codeOf pack (h .request)) (a .course)) refl))
+
+  -- a call that feeds nothing
+  idle-by-log : (s : State) (t : Tallies) (rs : List Reply) → ByLog pack first s t rs → (c : Call) → Idle pack s c →
+      ByLog pack first (rule pack s c .state) (tallied t (feeds c)) (withAnswer (rule pack s c .answer) rs)
+  unfolding tallied
+  idle-by-log s t rs inv c i =
+      subst (λ (f : Feed). ByLog pack first s′ (tallied t f) (withAnswer (rule pack s c .answer) rs)) (sym (i .feeds-none))
+      (subst (λ (l : List Reply). ByLog pack first s′ t l) (sym (i .no-reply rs))
+      (subst (λ (st : Store). ByLog pack first (withStore s′ st) t rs) (sym (i .store-left))
+      (record {
+        stays = inv .stays;
+        slots = λ slot a e. inv .slots slot a (i .slots-left slot a e);
+        replies = inv .replies;
+      })))
+    where
+      s′ : State
+      s′ = rule pack s c .state
 
   -- What a call does goes by the log, when no question says no.
   pub rule-by-log : (s : State) (t : Tallies) (rs : List Reply) → ByLog pack first s t rs → (c : Call) → refusal pack s c ≡ none →
-      ByLog pack first (rule pack s c .state) (tallied t c) (withAnswer (rule pack s c .answer) rs)
+      ByLog pack first (rule pack s c .state) (tallied t (feeds c)) (withAnswer (rule pack s c .answer) rs)
   unfolding rule refusal tallied
-  rule-by-log s t rs inv (arrival slot id w args) allow =
-      arrives s t rs inv slot id (record { workflow = w; arguments = args }) (s .store .book id) refl
-  rule-by-log s t rs inv (retry slot id) allow =
-      retries s t rs inv slot id (s .store .book id) refl (ask-none _ _ _ (ask-none _ _ _ (ask-none _ _ _ allow .1) .1) .0)
-  rule-by-log s t rs inv (turn slot) allow =
-      turns s t rs inv slot (s .slots slot) refl (ask-none _ _ _ (ask-none _ _ _ allow .1) .0)
-  rule-by-log s t rs inv (crash slot) allow =
-      record {
-        stays = inv .stays;
-        slots =
-            update-each (s .slots) slot none (λ j a. Stands pack (s .store) (t j) a) (λ a e. none-some a refl e)
-            (λ j a n e. inv .slots j a e);
-        replies = inv .replies;
-      }
-  rule-by-log s t rs inv restart allow = record { stays = inv .stays; slots = λ slot a e. none-some a refl e; replies = inv .replies }
-  rule-by-log s t rs inv order allow = inv
-  rule-by-log s t rs inv (stopped n) allow = none-some n allow refl
+  rule-by-log s t rs inv c allow = by-kind c (kind pack s c) allow
+    where
+      by-kind : (c : Call) → Kind pack s c → refusal pack s c ≡ none →
+          ByLog pack first (rule pack s c .state) (tallied t (feeds c)) (withAnswer (rule pack s c .answer) rs)
+      by-kind c (an-arrival slot id w args) allow =
+          arrives s t rs inv slot id (record { workflow = w; arguments = args }) (s .store .book id) refl
+      by-kind c (a-retry slot id) allow =
+          retries s t rs inv slot id (s .store .book id) refl (ask-none _ _ _ (ask-none _ _ _ (ask-none _ _ _ allow .1) .1) .0)
+      by-kind c (a-turn slot) allow =
+          turns s t rs inv slot (s .slots slot) refl (ask-none _ _ _ (ask-none _ _ _ allow .1) .0)
+      by-kind c (an-idle _ i) allow = idle-by-log s t rs inv c i
 
   -- A store without agents.
   pub at-first : (s : State) (t : Tallies) → s .store ≡ first → ((slot : ℕ) → s .slots slot ≡ none) → ByLog pack first s t []

@@ -1,4 +1,4 @@
--- Each call keeps the invariant. Assumes nothing.
+-- Each call keeps the invariant.
 use mathlib.Core.Bool.{true}
 use mathlib.Core.Path.{_≡_, refl, sym, _∙_, ap, subst}
 use mathlib.Core.Logic.{_⊎_, inl, inr}
@@ -9,19 +9,23 @@ use native.Mathlib.Omega.{arith}
 use lib.Dec.{ltb→lt}
 use lib.ListN.{length}
 use Rattle.questions.specs.Basics.{update, isSome}
+use Rattle.questions.specs.Questions.{No}
 use Rattle.rules.specs.Instructions.{Pack, Code, Place}
 use Rattle.rules.specs.Blocks.{Result}
 use Rattle.rules.specs.Courses.{Course, Next, goes, does, says, nextOf}
-use Rattle.rules.specs.Store.{Request, booked, found}
+use Rattle.rules.specs.Store.{Request, Store, booked, found}
 use Rattle.rules.specs.Logged.{start, at, follow}
 use Rattle.rules.specs.Calls.{codeBy, Agent, State, started, arrive, again, throughBlock, turnOn, turnIn, refusal, rule, Call}
-use Rattle.rules.specs.Calls.{arrival, retry, turn, crash, restart, order, stopped, call}
-use Rattle.rules.specs.Plain.{Reply, Run, Machine, Tallies, booking, accepted, fed, fedArrival, tallied}
+use Rattle.rules.specs.Calls.{withStore}
+use Rattle.rules.specs.Calls.{Answer, Outcome, unless, call}
+use Rattle.rules.specs.Plain.{Reply, Run, Machine, Tallies, booking, accepted, withAnswer, Feed, feeds, feedOf}
+use Rattle.rules.specs.Plain.{tallied, fed, fedArrival}
 use Rattle.questions.proofs.Updates.{none-some, false-true, true-T, update-same, update-other, update-cases, update-each}
 use Rattle.rules.proofs.Follow.{same-here}
-use Rattle.rules.proofs.Invariant.{Book, underway, Counterpart, Live, Inv, Remains, slots-stay, slots-set, slots-clear}
+use Rattle.rules.proofs.Invariant.{Book, underway, Counterpart, Live, Inv, Remains, slots-stay, slots-set}
 use Rattle.rules.proofs.Core.{counterpart-stays}
-use Rattle.rules.proofs.Turn.{Keeps, unless-keeps, tallyOf, turn-keeps}
+use Rattle.rules.proofs.Turn.{Keeps, tallyOf, turn-keeps}
+use Rattle.rules.proofs.ByFeed.{Idle, Kind, an-arrival, a-retry, a-turn, an-idle, kind}
 use Rattle.questions.proofs.Questions.{ask-none}
 
 module _ (pack : Pack) (s : State) (m : Machine) (t : Tallies) (rs : List Reply) (inv : Inv pack s m t rs) where
@@ -67,7 +71,7 @@ module _ (pack : Pack) (s : State) (m : Machine) (t : Tallies) (rs : List Reply)
     remains : (j : ℕ) → Remains (s .store .log) (s .store .log) (s .store .book) book′ j
     remains j w e = (update-other (s .store .book) id (some q) j (λ p. none-some w (ap (s .store .book) p ∙ free) e) ∙ e, λ p u v h. h)
 
-    booked-inv : Inv pack (record { store = booked (s .store) id q; slots = s .slots }) (booking m id q) t rs
+    booked-inv : Inv pack (withStore s (booked (s .store) id q)) (booking m id q) t rs
     unfolding follow
     booked-inv =
         record {
@@ -112,13 +116,13 @@ module _ (pack : Pack) (s : State) (m : Machine) (t : Tallies) (rs : List Reply)
         go-book j e (inr h) = update-other (m .runs) id (some r₀) j (h .0) ∙ inv .core .unbooked j (sym (h .1) ∙ e)
 
   arrive-keeps : (slot id : ℕ) (q : Request) (o : Option Request) → q .workflow < length pack → s .store .book id ≡ o →
-      Keeps pack m (fedArrival m id q (m .runs id)) t (update t slot (tallyOf id 0)) rs (arrive s slot id q o)
+      Keeps pack (fedArrival m id q (m .runs id)) (update t slot (tallyOf id 0)) rs (arrive s slot id q o)
   unfolding arrive fedArrival
   arrive-keeps slot id q none below e =
       rw (inv .core .unbooked id e)
       (record {
         kept =
-            started-inv pack (record { store = booked (s .store) id q; slots = s .slots }) (booking m id q) t rs
+            started-inv pack (withStore s (booked (s .store) id q)) (booking m id q) t rs
             (booked-inv id q below e (inv .core .unbooked id e)) slot id q (update-same (s .store .book) id (some q))
             (record { request = q; course = start q; moveCount = 0 }) (update-same (m .runs) id _) refl;
       })
@@ -127,65 +131,92 @@ module _ (pack : Pack) (s : State) (m : Machine) (t : Tallies) (rs : List Reply)
       rw (x .run-is) (record { kept = started-inv pack s m t rs inv slot id known e (x .run) (x .run-is) (x .request-is) })
 
   again-keeps : (slot id : ℕ) (o : Option Request) → s .store .book id ≡ o → isSome o ≡ true →
-      Keeps pack m m t (update t slot (tallyOf id 0)) rs (again s slot id o)
+      Keeps pack m (update t slot (tallyOf id 0)) rs (again s slot id o)
   unfolding again
   again-keeps slot id none e b = false-true refl b
   again-keeps slot id (some known) e b =
       let x = inv .core .counterpart id known e in
       record { kept = started-inv pack s m t rs inv slot id known e (x .run) (x .run-is) (x .request-is) }
 
-  -- what a call does, when no question says no
-  rule-keeps : (c : Call) → refusal pack s c ≡ none → Keeps pack m (fed pack m t c) t (tallied t c) rs (rule pack s c)
-  unfolding refusal rule fed tallied
-  rule-keeps (arrival slot id w args) allow =
-      let below = ask-none _ _ _ (ask-none _ _ _ (ask-none _ _ _ (ask-none _ _ _ allow .1) .1) .1) .0 in
-      arrive-keeps slot id (record { workflow = w; arguments = args }) (s .store .book id) (ltb→lt w (length pack) (true-T _ below)) refl
-  rule-keeps (retry slot id) allow =
-      again-keeps slot id (s .store .book id) refl (ask-none _ _ _ (ask-none _ _ _ (ask-none _ _ _ allow .1) .1) .0)
-  rule-keeps (turn slot) allow = turn-keeps pack s m t rs inv slot (ask-none _ _ _ (ask-none _ _ _ allow .1) .0)
-  rule-keeps (crash slot) allow =
+  -- a call that feeds nothing
+  idle-keeps : (c : Call) → Idle pack s c → Keeps pack (fed pack m t (feeds c)) (tallied t (feeds c)) rs (rule pack s c)
+  unfolding fed tallied
+  idle-keeps c i =
       record {
         kept =
-            record { core = inv .core; slots = slots-clear pack (s .store .log) (s .store .book) (m .runs) t (s .slots) (inv .slots) slot };
+            subst (λ (f : Feed). Inv pack s′ (fed pack m t f) (tallied t f) (withAnswer (rule pack s c .answer) rs)) (sym (i .feeds-none))
+            (subst (λ (l : List Reply). Inv pack s′ m t l) (sym (i .no-reply rs))
+            (subst (λ (st : Store). Inv pack (withStore s′ st) m t rs) (sym (i .store-left))
+            (record { core = inv .core; slots = λ slot a e. inv .slots slot a (i .slots-left slot a e) })));
       }
-  rule-keeps restart allow = record { kept = record { core = inv .core; slots = λ slot a e. none-some a refl e } }
-  rule-keeps order allow = record { kept = inv }
-  rule-keeps (stopped n) allow = none-some n allow refl
+    where
+      s′ : State
+      s′ = rule pack s c .state
 
-  -- Each call keeps the invariant.
-  pub call-keeps : (c : Call) → Keeps pack m (fed pack m t c) t (tallied t c) rs (call pack s c)
-  unfolding call
-  call-keeps c = unless-keeps (refusal pack s c) inv (rule-keeps c)
+  -- what a call does, when no question says no
+  rule-keeps : (c : Call) → Kind pack s c → refusal pack s c ≡ none →
+      Keeps pack (fed pack m t (feeds c)) (tallied t (feeds c)) rs (rule pack s c)
+  unfolding refusal rule fed tallied
+  rule-keeps c (an-arrival slot id w args) allow =
+      let below = ask-none _ _ _ (ask-none _ _ _ (ask-none _ _ _ (ask-none _ _ _ allow .1) .1) .1) .0 in
+      arrive-keeps slot id (record { workflow = w; arguments = args }) (s .store .book id) (ltb→lt w (length pack) (true-T _ below)) refl
+  rule-keeps c (a-retry slot id) allow =
+      again-keeps slot id (s .store .book id) refl (ask-none _ _ _ (ask-none _ _ _ (ask-none _ _ _ allow .1) .1) .0)
+  rule-keeps c (a-turn slot) allow = turn-keeps pack s m t rs inv slot (ask-none _ _ _ (ask-none _ _ _ allow .1) .0)
+  rule-keeps c (an-idle _ i) allow = idle-keeps c i
 
 -- A rule is never a refusal: a call is refused exactly where a question says no.
 pub rule-accepted : (pack : Pack) (s : State) (c : Call) → accepted (rule pack s c .answer) ≡ true
 unfolding rule arrive again turnIn turnOn throughBlock
-rule-accepted pack s (arrival slot id w args) = go (s .store .book id)
+rule-accepted pack s c = by-kind c (kind pack s c)
   where
-    go : (o : Option Request) → accepted (arrive s slot id (record { workflow = w; arguments = args }) o .answer) ≡ true
-    go none = refl
-    go (some known) = refl
-rule-accepted pack s (retry slot id) = go (s .store .book id)
-  where
-    go : (o : Option Request) → accepted (again s slot id o .answer) ≡ true
-    go none = refl
-    go (some known) = refl
-rule-accepted pack s (turn slot) = go (s .slots slot)
-  where
-    through : (a : Agent) (code : Code) (from : Place) (p : ℕ) (onto : Result → Course) (o : Option Result) →
+    arrived : (slot id : ℕ) (q : Request) (o : Option Request) → accepted (arrive s slot id q o .answer) ≡ true
+    arrived slot id q none = refl
+    arrived slot id q (some known) = refl
+
+    retried : (slot id : ℕ) (o : Option Request) → accepted (again s slot id o .answer) ≡ true
+    retried slot id none = refl
+    retried slot id (some known) = refl
+
+    through : (slot : ℕ) (a : Agent) (code : Code) (from : Place) (p : ℕ) (onto : Result → Course) (o : Option Result) →
         accepted (throughBlock s slot a code from p onto o .answer) ≡ true
-    through a code from p onto none = refl
-    through a code from p onto (some v) = refl
+    through slot a code from p onto none = refl
+    through slot a code from p onto (some v) = refl
 
-    on : (a : Agent) (code : Code) (x : Next) → accepted (turnOn s slot a code x .answer) ≡ true
-    on a code (says v) = refl
-    on a code (does from p onto) = through a code from p onto (found (s .store .log) p (a .id) (a .step))
-    on a code (goes to) = refl
+    on : (slot : ℕ) (a : Agent) (code : Code) (x : Next) → accepted (turnOn s slot a code x .answer) ≡ true
+    on slot a code (says v) = refl
+    on slot a code (does from p onto) = through slot a code from p onto (found (s .store .log) p (a .id) (a .step))
+    on slot a code (goes to) = refl
 
-    go : (o : Option Agent) → accepted (turnIn pack s slot o .answer) ≡ true
-    go none = refl
-    go (some a) = on a (codeBy pack (s .store .book (a .id))) (nextOf (codeBy pack (s .store .book (a .id))) (a .course))
-rule-accepted pack s (crash slot) = refl
-rule-accepted pack s restart = refl
-rule-accepted pack s order = refl
-rule-accepted pack s (stopped n) = refl
+    turned : (slot : ℕ) (o : Option Agent) → accepted (turnIn pack s slot o .answer) ≡ true
+    turned slot none = refl
+    turned slot (some a) = on slot a (codeBy pack (s .store .book (a .id))) (nextOf (codeBy pack (s .store .book (a .id))) (a .course))
+
+    by-kind : (c : Call) → Kind pack s c → accepted (rule pack s c .answer) ≡ true
+    by-kind c (an-arrival slot id w args) = arrived slot id (record { workflow = w; arguments = args }) (s .store .book id)
+    by-kind c (a-retry slot id) = retried slot id (s .store .book id)
+    by-kind c (a-turn slot) = turned slot (s .slots slot)
+    by-kind c (an-idle _ i) = i .accepts
+
+-- an accepted call feeds what is said of it
+pub feed-accepted : (c : Call) (answer : Answer) → accepted answer ≡ true → feedOf (record { made = c; answer = answer }) ≡ feeds c
+feed-accepted c answer e = rw e refl
+
+-- Each call keeps the invariant.
+pub call-keeps : (pack : Pack) (s : State) (m : Machine) (t : Tallies) (rs : List Reply) → Inv pack s m t rs → (c : Call) →
+    let f = feedOf (record { made = c; answer = call pack s c .answer }) in
+    Keeps pack (fed pack m t f) (tallied t f) rs (call pack s c)
+unfolding call unless fed tallied
+call-keeps pack s m t rs inv c = go (refusal pack s c) refl
+  where
+    feed : Outcome → Feed
+    feed o = feedOf (record { made = c; answer = o .answer })
+
+    go : (no : Option No) → refusal pack s c ≡ no →
+        Keeps pack (fed pack m t (feed (unless no s (rule pack s c)))) (tallied t (feed (unless no s (rule pack s c)))) rs
+        (unless no s (rule pack s c))
+    go none allow =
+        subst (λ (f : Feed). Keeps pack (fed pack m t f) (tallied t f) rs (rule pack s c))
+        (sym (feed-accepted c (rule pack s c .answer) (rule-accepted pack s c)))
+        (rule-keeps pack s m t rs inv c (kind pack s c) allow)
+    go (some n) allow = record { kept = inv }

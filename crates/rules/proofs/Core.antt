@@ -1,4 +1,4 @@
--- How the core of the invariant is kept when a run of the machine moves. Assumes nothing.
+-- How the core of the invariant is kept when a run of the machine moves.
 use mathlib.Core.Path.{_≡_, refl, sym, _∙_, ap, subst}
 use mathlib.Core.Logic.{_⊎_, inl, inr}
 use mathlib.Core.List.{List, List·Memᴰ}

@@ -1,6 +1,5 @@
--- Following a request by its log: what it has done after n moves, if each block among them has its log row.
--- A follow is a function of the log, so that it is unique; and it stays when rows are added to the log.
--- Assumes nothing.
+-- Following a request by its log: what it has done after n moves, if each block among them has its log row. A follow is a function of the
+-- log, so that it is unique; and it stays when rows are added to the log.
 use mathlib.Core.Path.{_≡_, refl, sym, _∙_, ap}
 use mathlib.Core.Logic.{_⊎_, inl, inr}
 use mathlib.Core.Option.{Option, none, some}

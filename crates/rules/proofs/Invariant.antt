@@ -1,5 +1,5 @@
--- What holds after each call of a list: the invariant, and how its parts change. Assumes nothing.
-use mathlib.Core.Path.{_≡_, refl, sym, _∙_, ap, subst}
+-- What holds after each call of a list: the invariant, and how its parts change.
+use mathlib.Core.Path.{_≡_, sym, _∙_, ap, subst}
 use mathlib.Core.List.{List, List·Memᴰ}
 use mathlib.Core.Option.{Option, none, some}
 use Prim.Native.Nat.{ℕ, _≤_, _<_}
@@ -12,7 +12,7 @@ use Rattle.rules.specs.Store.{Request, Log, Store}
 use Rattle.rules.specs.Logged.{codeOf, Stage, at, finished, follow}
 use Rattle.rules.specs.Calls.{Agent, State}
 use Rattle.rules.specs.Plain.{Reply, Run, Machine, Tally, Tallies, firstReplies}
-use Rattle.questions.proofs.Updates.{none-some, update-same, update-other, update-each}
+use Rattle.questions.proofs.Updates.{update-same, update-other, update-each}
 use Rattle.rules.proofs.Follow.{Free, Grows, follow-stays}
 use Rattle.rules.proofs.Replies.{replyTo}
 
@@ -125,6 +125,3 @@ module _
         update-each slots slot o (λ j a. Live pack log book runs (update t slot tally j) a)
         (λ a e. subst (λ w. Live pack log book runs w a) (sym (update-same t slot tally)) (new a e))
         (λ j a n e. subst (λ w. Live pack log book runs w a) (sym (update-other t slot tally j n)) (h j a e))
-
-    pub slots-clear : Slots pack log book runs t (update slots slot none)
-    slots-clear = update-each slots slot none (λ j a. Live pack log book runs (t j) a) (λ a e. none-some a refl e) (λ j a n e. h j a e)

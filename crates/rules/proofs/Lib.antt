@@ -1,4 +1,5 @@
 pub mod Shapes
+pub mod Alike
 pub mod Follow
 pub mod Replies
 pub mod Invariant
@@ -6,6 +7,7 @@ pub mod Core
 pub mod Positions
 pub mod Stands
 pub mod Turn
+pub mod ByFeed
 pub mod Calls
 pub mod Logged
 pub mod Blocks
@@ -14,3 +16,4 @@ pub mod RequestZero
 pub mod ByLog
 pub mod NeverWritten
 pub mod WholeCase
+pub mod States

@@ -1,5 +1,5 @@
 -- Logged through: the reply worked out from the log is the end of the follow, it takes no more moves than a checked workflow has
--- instructions, it stays while the log grows, and there is one only. Assumes nothing.
+-- instructions, it stays while the log grows, and there is one only.
 use mathlib.Core.Path.{_≡_, refl, sym, _∙_, ap}
 use mathlib.Core.Logic.{_⊎_, inl, inr}
 use mathlib.Core.Option.{Option, none, some}

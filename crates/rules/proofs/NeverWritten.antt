@@ -1,4 +1,4 @@
--- W-206, reading a key never written: proved of every block's run, by the table of operations. Assumes nothing.
+-- W-206, reading a key never written: proved of every block's run, by the table of operations.
 use mathlib.Core.List.{List}
 use mathlib.Core.Option.{Option, none, some, Option·getD}
 use mathlib.Core.Path.{_≡_, refl, sym, ap, _∙_}
@@ -66,7 +66,8 @@ pub of-the-copy : OfTheCopy
 unfolding act within runBlock
 of-the-copy code from table d s v h first second third e =
     let n : ℕ = length code - (from .position + 4) in
-    let ahead : length code - suc (from .position) ≡ suc (suc (suc n)) = omega (arith, end-below code (suc (suc (suc (from .position)))) d third) in
+    let ahead : length code - suc (from .position) ≡ suc (suc (suc n)) =
+    omega (arith, end-below code (suc (suc (suc (from .position)))) d third) in
     let w : Work = record { place = next from; table = table; newKeys = 0 } in
     let w′ : Work = movedTo w (becomes (next from) d v) in
     let w″ : Work = movedTo w (next (becomes (next from) d v)) in

@@ -1,5 +1,4 @@
 -- In a checked workflow each move goes forward and stays in the code, so that a request under way after n moves stands at n or further.
--- Assumes nothing.
 use mathlib.Core.Bool.{true, false}
 use mathlib.Core.Path.{_≡_, refl, sym, _∙_, ap, subst}
 use mathlib.Core.Logic.{_⊎_, inl, inr}

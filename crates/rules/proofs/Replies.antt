@@ -1,4 +1,4 @@
--- Replies by id: the first reply to an id in a list, and how it changes. Assumes nothing.
+-- Replies by id: the first reply to an id in a list, and how it changes.
 use mathlib.Core.Bool.{Bool, true, false}
 use mathlib.Core.Path.{_≡_, refl, sym, _∙_, ap}
 use mathlib.Core.Logic.{_⊎_, inl, inr}

@@ -1,4 +1,4 @@
--- W-201, request number zero: an arrival with id 0 is turned down, and no call books a new 0. Assumes nothing.
+-- W-201, request number zero: an arrival with id 0 is turned down, and no call books a new 0.
 use mathlib.Core.Bool.{Bool, true, false, not}
 use mathlib.Core.Path.{_≡_, refl, sym, _∙_, ap}
 use mathlib.Core.List.{List, [], _∷_}
@@ -11,7 +11,7 @@ use Rattle.questions.specs.Questions.{No, number, ask}
 use Rattle.rules.specs.Instructions.{Code, Pack, Place}
 use Rattle.rules.specs.Blocks.{Result}
 use Rattle.rules.specs.Courses.{Course, Next, goes, does, says, nextOf}
-use Rattle.rules.specs.Store.{Request, sought, found}
+use Rattle.rules.specs.Store.{Request, Store, sought, found}
 use Rattle.rules.specs.Calls.{Agent, State, Call, arrival, retry, turn, crash, restart, order, stopped, codeBy}
 use Rattle.rules.specs.Calls.{refusal, rule, arrive, again, throughBlock, turnOn, turnIn, unless, call, History, stateAfter}
 use Rattle.rules.specs.Plain.{machineAfter}
@@ -19,6 +19,7 @@ use Rattle.rules.specs.RequestZero.{zeroNo, RequestZero, NoZero}
 use Rattle.questions.proofs.Updates.{none-some, false-true, update-other}
 use Rattle.questions.proofs.Questions.{ask-none}
 use Rattle.rules.proofs.Replies.{replyTo}
+use Rattle.rules.proofs.ByFeed.{Kind, an-arrival, a-retry, a-turn, an-idle, kind}
 use Rattle.rules.proofs.Theorem.{invariant}
 
 -- ── the questions ──
@@ -76,41 +77,38 @@ module _ (pack : Pack) (s : State) where
   -- what a call does books no new 0, when no question says no
   pub rule-books-no-new : (c : Call) → refusal pack s c ≡ none → s .store .book 0 ≡ none → rule pack s c .state .store .book 0 ≡ none
   unfolding refusal rule arrive again turnIn turnOn throughBlock
-  rule-books-no-new (arrival slot id w args) allow free = go (s .store .book id)
+  rule-books-no-new c allow free = by-kind c (kind pack s c) allow
     where
-      q : Request
-      q = record { workflow = w; arguments = args }
+      arrived : (slot id : ℕ) (q : Request) → (0 ≡ id → ⊥) → (o : Option Request) → arrive s slot id q o .state .store .book 0 ≡ none
+      arrived slot id q other none = update-other (s .store .book) id (some q) 0 other ∙ free
+      arrived slot id q other (some known) = free
 
-      other : 0 ≡ id → ⊥
-      other = not-zero id (ask-none _ _ _ (ask-none _ _ _ (ask-none _ _ _ allow .1) .1) .0)
+      again-started : (slot id : ℕ) (o : Option Request) → again s slot id o .state .store .book 0 ≡ none
+      again-started slot id none = free
+      again-started slot id (some known) = free
 
-      go : (o : Option Request) → arrive s slot id q o .state .store .book 0 ≡ none
-      go none = update-other (s .store .book) id (some q) 0 other ∙ free
-      go (some known) = free
-  rule-books-no-new (retry slot id) allow free = go (s .store .book id)
-    where
-      go : (o : Option Request) → again s slot id o .state .store .book 0 ≡ none
-      go none = free
-      go (some known) = free
-  rule-books-no-new (turn slot) allow free = go (s .slots slot)
-    where
-      through : (a : Agent) (code : Code) (from : Place) (p : ℕ) (onto : Result → Course) (o : Option Result) →
+      through : (slot : ℕ) (a : Agent) (code : Code) (from : Place) (p : ℕ) (onto : Result → Course) (o : Option Result) →
           throughBlock s slot a code from p onto o .state .store .book 0 ≡ none
-      through a code from p onto none = free
-      through a code from p onto (some v) = free
+      through slot a code from p onto none = free
+      through slot a code from p onto (some v) = free
 
-      on : (a : Agent) (code : Code) (x : Next) → turnOn s slot a code x .state .store .book 0 ≡ none
-      on a code (says v) = free
-      on a code (does from p onto) = through a code from p onto (found (s .store .log) p (a .id) (a .step))
-      on a code (goes to) = free
+      on : (slot : ℕ) (a : Agent) (code : Code) (x : Next) → turnOn s slot a code x .state .store .book 0 ≡ none
+      on slot a code (says v) = free
+      on slot a code (does from p onto) = through slot a code from p onto (found (s .store .log) p (a .id) (a .step))
+      on slot a code (goes to) = free
 
-      go : (o : Option Agent) → turnIn pack s slot o .state .store .book 0 ≡ none
-      go none = free
-      go (some a) = on a (codeBy pack (s .store .book (a .id))) (nextOf (codeBy pack (s .store .book (a .id))) (a .course))
-  rule-books-no-new (crash slot) allow free = free
-  rule-books-no-new restart allow free = free
-  rule-books-no-new order allow free = free
-  rule-books-no-new (stopped n) allow free = free
+      turned : (slot : ℕ) (o : Option Agent) → turnIn pack s slot o .state .store .book 0 ≡ none
+      turned slot none = free
+      turned slot (some a) =
+          on slot a (codeBy pack (s .store .book (a .id))) (nextOf (codeBy pack (s .store .book (a .id))) (a .course))
+
+      by-kind : (c : Call) → Kind pack s c → refusal pack s c ≡ none → rule pack s c .state .store .book 0 ≡ none
+      by-kind c (an-arrival slot id w args) allow =
+          arrived slot id (record { workflow = w; arguments = args })
+          (not-zero id (ask-none _ _ _ (ask-none _ _ _ (ask-none _ _ _ allow .1) .1) .0)) (s .store .book id)
+      by-kind c (a-retry slot id) allow = again-started slot id (s .store .book id)
+      by-kind c (a-turn slot) allow = turned slot (s .slots slot)
+      by-kind c (an-idle _ i) allow = ap (λ (st : Store). st .book 0) (i .store-left) ∙ free
 
   books-no-new : (c : Call) → s .store .book 0 ≡ none → call pack s c .state .store .book 0 ≡ none
   unfolding call unless

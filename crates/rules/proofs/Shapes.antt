@@ -1,5 +1,4 @@
 -- What an instruction asks for agrees with its shape: one line for each operation, and the cases of `Act` serve for the rest.
--- Assumes nothing.
 use mathlib.Core.Bool.{Bool, true, false}
 use mathlib.Core.Path.{_≡_, refl}
 use mathlib.Core.Logic.{_⊎_, inl, inr}

@@ -1,5 +1,5 @@
 -- An agent that stands where the log leads its request: its turn, what the turn counts, and that the last one which its workflow's size
--- allows is a reply. Assumes nothing.
+-- allows is a reply.
 use mathlib.Core.Path.{_≡_, ap}
 use mathlib.Core.Option.{Option, some}
 use Prim.Native.Nat.{ℕ, suc, _≤_}
@@ -13,7 +13,7 @@ use Rattle.rules.specs.Checked.{Checked}
 use Rattle.rules.specs.Store.{Request, Store}
 use Rattle.rules.specs.Logged.{codeOf, at, follow}
 use Rattle.rules.specs.Calls.{codeBy, Agent, State, turn, reply, turnOn, turnIn}
-use Rattle.rules.specs.Plain.{Tally, Tallies, tallied, oneMore}
+use Rattle.rules.specs.Plain.{Tally, Tallies, feeds, tallied, oneMore}
 use Rattle.rules.proofs.Positions.{follow-position}
 
 -- an agent of a booked request stands where the log leads that in as many moves as the agent has had turns
@@ -34,7 +34,7 @@ module _ (pack : Pack) (s : State) (t : Tallies) (slot : ℕ) (a : Agent) (h : S
   turn-is = ap (λ (q : Option Request). turnOn s slot a (codeBy pack q) (nextOf (codeBy pack q) (a .course))) (h .book-is)
 
   -- and counts one more
-  pub turn-counted : tallied t (turn slot) ≡ update t slot (some (record { id = a .id; turns = suc (h .moves) }))
+  pub turn-counted : tallied t (feeds (turn slot)) ≡ update t slot (some (record { id = a .id; turns = suc (h .moves) }))
   unfolding tallied oneMore
   turn-counted = ap (λ o. update t slot (oneMore o)) (h .counted)
 

@@ -1,17 +1,18 @@
--- Demand 3: the runtime is the plain machine. Assumes nothing.
-use mathlib.Core.Bool.{Bool, true}
+-- Demand 3: the runtime is the plain machine.
+use mathlib.Core.Bool.{true}
 use mathlib.Core.Path.{_≡_, refl, sym, _∙_, ap, subst}
 use mathlib.Core.List.{List, [], _∷_, reverse, List·Memᴰ, List·Memᴰ·not-nil}
 use mathlib.Core.Option.{Option, none, some, Option·some-injective}
 use Prim.Native.Nat.{ℕ, suc, _<_}
 use lib.ListN.{length}
-use Rattle.questions.specs.Basics.{if_then_else_, isSome}
+use Rattle.questions.specs.Basics.{isSome}
 use Rattle.questions.specs.Questions.{No}
 use Rattle.rules.specs.Instructions.{Pack}
 use Rattle.rules.specs.Store.{Request}
 use Rattle.rules.specs.Logged.{codeOf, replyLogged}
 use Rattle.rules.specs.Calls.{State, Agent, Outcome, refusal, rule, unless, turnIn, turn, call, History, stateAfter}
-use Rattle.rules.specs.Plain.{Reply, Run, Machine, Tallies, accepted, tallied, machineAfter, talliesAfter, repliesAfter, firstReplies}
+use Rattle.rules.specs.Plain.{Reply, Run, Machine, Tallies, accepted, Feed, tallied, talliesOf, machineOf, repliesOf, firstReplies}
+use Rattle.rules.specs.Plain.{eventsAfter, talliesAfter, machineAfter, repliesAfter}
 use Rattle.rules.specs.Checked.{Checked, CheckedPack}
 use Rattle.rules.specs.Demand3.{InTime, PlainRun, Demand3, SoundAgent}
 use Rattle.questions.proofs.Updates.{none-some, false-true, update-same}
@@ -21,13 +22,13 @@ use Rattle.rules.proofs.Logged.{ends-logged}
 use Rattle.rules.proofs.Stands.{turn-is, turn-counted, turns-at-most, last-replies}
 use Rattle.rules.proofs.Turn.{live-stands, tallyOf}
 use Rattle.questions.proofs.Questions.{ask-none}
-use Rattle.rules.proofs.Calls.{call-keeps}
+use Rattle.rules.proofs.Calls.{feed-accepted, call-keeps}
 use Rattle.rules.proofs.Positions.{follow-position}
 
 -- The invariant holds after each list of calls.
 pub invariant : (pack : Pack) (room : ℕ) (calls : History) →
     Inv pack (stateAfter pack room calls) (machineAfter pack room calls) (talliesAfter pack room calls) (repliesAfter pack room calls)
-unfolding stateAfter machineAfter talliesAfter repliesAfter firstReplies
+unfolding stateAfter eventsAfter machineOf talliesOf repliesOf firstReplies
 invariant pack room [] =
     record {
       core =
@@ -65,7 +66,7 @@ module _ (pack : Pack) (checked : CheckedPack pack) (room : ℕ) (calls : Histor
   live-in-time : (a : Agent) → s .slots slot ≡ some a → (live : Live pack (s .store .log) (s .store .book) (m .runs) (t slot) a) →
       call pack s (turn slot) .answer ≡ turnIn pack s slot (some a) .answer →
       accepted (call pack s (turn slot) .answer) ≡ true → InTime pack room calls slot
-  unfolding talliesAfter
+  unfolding eventsAfter talliesOf
   live-in-time a held live same allow =
       let inv = invariant pack room calls in
       let own = live .book-is in
@@ -77,7 +78,7 @@ module _ (pack : Pack) (checked : CheckedPack pack) (room : ℕ) (calls : Histor
         request = live .run .request;
         in-slot = held;
         counted =
-            ap (λ (b : Bool). if_then_else_ b (tallied t (turn slot)) t slot) allow
+            ap (λ (f : Feed). tallied t f slot) (feed-accepted (turn slot) (call pack s (turn slot) .answer) allow)
             ∙ ap (λ (f : Tallies). f slot) (turn-counted pack s t slot a st)
             ∙ update-same t slot (tallyOf (a .id) (suc (live .turns)));
         booked = own;

@@ -1,4 +1,4 @@
--- A turn keeps the invariant. Assumes nothing.
+-- A turn keeps the invariant.
 use mathlib.Core.Bool.{Bool, true, false}
 use mathlib.Core.Path.{_≡_, refl, sym, _∙_, ap, subst}
 use mathlib.Core.Logic.{_⊎_, inl, inr}
@@ -11,12 +11,11 @@ use Rattle.questions.specs.Basics.{if_then_else_, update, isSome}
 use Rattle.rules.specs.Instructions.{Code, Pack, Place}
 use Rattle.rules.specs.Blocks.{Table, Result, Block, runBlock}
 use Rattle.rules.specs.Courses.{Course, Next, goes, does, says, nextOf}
-use Rattle.questions.specs.Questions.{No}
 use Rattle.rules.specs.Store.{Log, Store, found, withRow, written}
 use Rattle.rules.specs.Logged.{codeOf, Stage, at, finished, behind}
-use Rattle.rules.specs.Calls.{Agent, State, Outcome, unless, withSlot, throughBlock, turnOn, turnIn, turn}
-use Rattle.rules.specs.Plain.{Reply, Run, Machine, Tally, Tallies, answered, firstReplies, accepted, withAnswer, ahead, moveOn}
-use Rattle.rules.specs.Plain.{move, fed, fedTurn, fedRun, tallied}
+use Rattle.rules.specs.Calls.{Agent, State, Outcome, withSlot, throughBlock, turnOn, turnIn, turn, withStore}
+use Rattle.rules.specs.Plain.{Reply, Run, Machine, Tally, Tallies, answered, firstReplies, withAnswer, ahead, moveOn}
+use Rattle.rules.specs.Plain.{move, feeds, fed, fedTurn, fedRun, tallied}
 use Rattle.questions.proofs.Updates.{none-some, false-true, le-cases, T-true, eqb-cases, update-same}
 use Rattle.rules.proofs.Follow.{Free, Same, same-here, Grows, same-grows, free-none, row-grows, row-elsewhere, row-later, row-here}
 use Rattle.rules.proofs.Follow.{follow-stays, follow-below, follow-next}
@@ -25,17 +24,9 @@ use Rattle.rules.proofs.Invariant.{followed, Progress, underway, over, 
 use Rattle.rules.proofs.Core.{come, come-to, run-ahead, core-moved}
 use Rattle.rules.proofs.Stands.{Stands, turn-is, turn-counted}
 
--- the invariant after a call with this outcome, which fed the machine to become m′ and the tallies t′ if it was accepted
-pub record Keeps (pack : Pack) (m m′ : Machine) (t t′ : Tallies) (rs : List Reply) (o : Outcome) : Type 0 where
-  pub kept : Inv pack (o .state) (if_then_else_ (accepted (o .answer)) m′ m) (if_then_else_ (accepted (o .answer)) t′ t)
-      (withAnswer (o .answer) rs)
-
--- questions: where one says no, nothing has changed
-pub unless-keeps : {pack : Pack} {m m′ : Machine} {t t′ : Tallies} {rs : List Reply} (no : Option No) {s : State} {o : Outcome} →
-    Inv pack s m t rs → (no ≡ none → Keeps pack m m′ t t′ rs o) → Keeps pack m m′ t t′ rs (unless no s o)
-unfolding unless
-unless-keeps none inv carried = carried refl
-unless-keeps (some n) inv carried = record { kept = inv }
+-- the invariant after what a call did, with the machine and the tallies behind what it feeds; rs are the replies before it
+pub record Keeps (pack : Pack) (m : Machine) (t : Tallies) (rs : List Reply) (o : Outcome) : Type 0 where
+  pub kept : Inv pack (o .state) m t (withAnswer (o .answer) rs)
 
 abbrev pub tallyOf : ℕ → ℕ → Option Tally
 tallyOf id k = some (record { id = id; turns = k })
@@ -75,7 +66,7 @@ module _
         firstReplies rs′ ≡ replies →
         ((a : Agent) → o ≡ some a →
         (a .id ≡ id) × (followed pack (s′ .log) id (r .request) (suc (r .moveCount)) ≡ some (at (a .course) (a .step)))) →
-        Inv pack (record { store = s′; slots = update (s .slots) slot o })
+        Inv pack (withSlot (withStore s s′) slot o)
         (record { tables = tables; runs = update (m .runs) id (some r₁); replies = replies })
         (update t slot (tallyOf id (suc (r .moveCount)))) rs′
     front s′ rs′ r₁ o tables replies request-is moved-is grows elsewhere same-rows same-book progress others settled firsts agent =
@@ -175,7 +166,7 @@ module _
     -- a block that has no log row
     front-block : (from : Place) (p : ℕ) (onto : Result → Course) (b : Block) → nextOf code (r .course) ≡ does from p onto →
         Inv pack
-        (withSlot (record { store = written (s .store) p id step b; slots = s .slots }) slot
+        (withSlot (withStore s (written (s .store) p id step b)) slot
         (some (record { id = id; course = onto (b .result); step = suc step })))
         (record { tables = update (s .store .rows) p (b .table); runs = ahead m id r (onto (b .result)); replies = m .replies })
         (update t slot (tallyOf id (suc (r .moveCount)))) rs
@@ -225,13 +216,13 @@ module _
     front-does : (from : Place) (p : ℕ) (onto : Result → Course) → nextOf code (r .course) ≡ does from p onto → (o : Option Result) →
         o ≡ none →
         (T : ℕ → Table) → s .store .rows ≡ T →
-        Keeps pack m (blockDone from p onto T) t (update t slot (tallyOf id (suc (r .moveCount)))) rs
+        Keeps pack (blockDone from p onto T) (update t slot (tallyOf id (suc (r .moveCount)))) rs
         (throughBlock s slot agent code from p onto o)
     unfolding throughBlock
     front-does from p onto e o no-row T same =
-        subst (λ (x : Option Result). Keeps pack m (blockDone from p onto T) t counted rs (throughBlock s slot agent code from p onto x))
+        subst (λ (x : Option Result). Keeps pack (blockDone from p onto T) counted rs (throughBlock s slot agent code from p onto x))
         (sym no-row)
-        (subst (λ (x : ℕ → Table). Keeps pack m (blockDone from p onto x) t counted rs
+        (subst (λ (x : ℕ → Table). Keeps pack (blockDone from p onto x) counted rs
         (throughBlock s slot agent code from p onto none)) same
         (record { kept = front-block from p onto (runBlock code from (s .store .rows p)) e }))
       where
@@ -240,7 +231,7 @@ module _
 
     -- whatever the agent does next
     pub front-keeps : (x : Next) → nextOf code (r .course) ≡ x →
-        Keeps pack m (moveOn m id r code x) t (update t slot (tallyOf id (suc (r .moveCount)))) rs (turnOn s slot agent code x)
+        Keeps pack (moveOn m id r code x) (update t slot (tallyOf id (suc (r .moveCount)))) rs (turnOn s slot agent code x)
     unfolding moveOn turnOn
     front-keeps (goes to) e = record { kept = front-moves to e (follow-next _ _ _ _ _ _ _ _ _ open-at e refl) }
     front-keeps (says v) e = record { kept = front-returns v (follow-next _ _ _ _ _ _ _ _ _ open-at e refl) }
@@ -339,7 +330,7 @@ module _
 
     back-does : (from : Place) (p : ℕ) (onto : Result → Course) → nextOf (codeOf pack (r .request)) (a .course) ≡ does from p onto →
         (o : Option Result) → found (s .store .log) p (a .id) (a .step) ≡ o →
-        Keeps pack m m t (update t slot (tallyOf (a .id) (suc k))) rs (throughBlock s slot a (codeOf pack (r .request)) from p onto o)
+        Keeps pack m (update t slot (tallyOf (a .id) (suc k))) rs (throughBlock s slot a (codeOf pack (r .request)) from p onto o)
     unfolding throughBlock behind
     back-does from p onto e none h =
         let n : followed pack (s .store .log) (a .id) (r .request) (suc k) ≡ none =
@@ -349,7 +340,7 @@ module _
         record { kept = back-moves (onto v) (suc (a .step)) (follow-next _ _ _ _ _ _ _ _ _ there e (ap (behind onto (a .step)) h)) }
 
     pub back-keeps : (x : Next) → nextOf (codeOf pack (r .request)) (a .course) ≡ x →
-        Keeps pack m m t (update t slot (tallyOf (a .id) (suc k))) rs (turnOn s slot a (codeOf pack (r .request)) x)
+        Keeps pack m (update t slot (tallyOf (a .id) (suc k))) rs (turnOn s slot a (codeOf pack (r .request)) x)
     unfolding turnOn
     back-keeps (goes to) e = record { kept = back-moves to (a .step) (follow-next _ _ _ _ _ _ _ _ _ there e refl) }
     back-keeps (says v) e = record { kept = back-returns v (follow-next _ _ _ _ _ _ _ _ _ there e refl) }
@@ -357,11 +348,11 @@ module _
 
 -- ── A turn ──
 
-pub keeps-by : (pack : Pack) (m m′ m″ : Machine) (t t′ t″ : Tallies) (rs : List Reply) (o o′ : Outcome) → m′ ≡ m″ → t′ ≡ t″ → o ≡ o′ →
-    Keeps pack m m″ t t″ rs o′ → Keeps pack m m′ t t′ rs o
-keeps-by pack m m′ m″ t t′ t″ rs o o′ em et eo h =
-    subst (λ (x : Machine). Keeps pack m x t t′ rs o) (sym em)
-    (subst (λ (x : Tallies). Keeps pack m m″ t x rs o) (sym et) (subst (λ (x : Outcome). Keeps pack m m″ t t″ rs x) (sym eo) h))
+pub keeps-by : (pack : Pack) (m m′ : Machine) (t t′ : Tallies) (rs : List Reply) (o o′ : Outcome) → m ≡ m′ → t ≡ t′ → o ≡ o′ →
+    Keeps pack m′ t′ rs o′ → Keeps pack m t rs o
+keeps-by pack m m′ t t′ rs o o′ em et eo h =
+    subst (λ (x : Machine). Keeps pack x t rs o) (sym em)
+    (subst (λ (x : Tallies). Keeps pack m′ x rs o) (sym et) (subst (λ (x : Outcome). Keeps pack m′ t′ rs x) (sym eo) h))
 
 ltb-yes : (n k : ℕ) → n < k → ltb n k ≡ true
 ltb-yes n k h = T-true (ltb n k) (lt→ltb n k h)
@@ -405,23 +396,23 @@ module _
         ≡ turnOn s slot a (codeOf pack (r .request)) (nextOf (codeOf pack (r .request)) (a .course))
     outcome-is = turn-is pack s t slot a live-stands
 
-    fed-is : fed pack m t (turn slot) ≡ if_then_else_ (ltb (r .moveCount) (suc k)) (move pack m (a .id) r) m
+    fed-is : fed pack m t (feeds (turn slot)) ≡ if_then_else_ (ltb (r .moveCount) (suc k)) (move pack m (a .id) r) m
     unfolding fed fedTurn fedRun
     fed-is = ap (fedTurn pack m) (live .tally-is) ∙ ap (fedRun pack m (a .id) (suc k)) (live .run-is)
 
-    tallied-is : tallied t (turn slot) ≡ update t slot (tallyOf (a .id) (suc k))
+    tallied-is : tallied t (feeds (turn slot)) ≡ update t slot (tallyOf (a .id) (suc k))
     tallied-is = turn-counted pack s t slot a live-stands
 
     -- at the front
     front-turn : k ≡ r .moveCount → Progress pack (s .store .log) (m .replies) (a .id) r →
-        Keeps pack m (fed pack m t (turn slot)) t (tallied t (turn slot)) rs (turnIn pack s slot (some a))
+        Keeps pack (fed pack m t (feeds (turn slot))) (tallied t (feeds (turn slot))) rs (turnIn pack s slot (some a))
     unfolding move
     front-turn e (over v f h) =
         let there : followed pack (s .store .log) (a .id) (r .request) (r .moveCount) ≡ some (at (a .course) (a .step)) =
         ap (followed pack (s .store .log) (a .id) (r .request)) (sym e) ∙ live .there in
         absurd (let z : _≡_ {A = ℕ} 0 1 = cc in omega arith)
     front-turn e (underway step f none-from no-reply) =
-        keeps-by pack m (fed pack m t (turn slot)) (move pack m (a .id) r) t (tallied t (turn slot))
+        keeps-by pack (fed pack m t (feeds (turn slot))) (move pack m (a .id) r) (tallied t (feeds (turn slot)))
         (update t slot (tallyOf (a .id) (suc (r .moveCount)))) rs
         (turnIn pack s slot (some a)) (turnOn s slot stands (codeOf pack (r .request)) (nextOf (codeOf pack (r .request)) (r .course)))
         (fed-is ∙ ap (λ b. if_then_else_ b (move pack m (a .id) r) m) (ltb-yes (r .moveCount) (suc k) (omega arith)))
@@ -446,29 +437,30 @@ module _
         same = λ i. record { id = a .id; course = same-course i; step = same-step i }
 
     -- behind it
-    back-turn : k < r .moveCount → Keeps pack m (fed pack m t (turn slot)) t (tallied t (turn slot)) rs (turnIn pack s slot (some a))
+    back-turn : k < r .moveCount →
+        Keeps pack (fed pack m t (feeds (turn slot))) (tallied t (feeds (turn slot))) rs (turnIn pack s slot (some a))
     back-turn l =
-        keeps-by pack m (fed pack m t (turn slot)) m t (tallied t (turn slot)) (update t slot (tallyOf (a .id) (suc k))) rs
+        keeps-by pack (fed pack m t (feeds (turn slot))) m (tallied t (feeds (turn slot))) (update t slot (tallyOf (a .id) (suc k))) rs
         (turnIn pack s slot (some a)) (turnOn s slot a (codeOf pack (r .request)) (nextOf (codeOf pack (r .request)) (a .course)))
         (fed-is ∙ ap (λ b. if_then_else_ b (move pack m (a .id) r) m) (ltb-no (r .moveCount) (suc k) l))
         tallied-is outcome-is
         (back-keeps pack s m t rs inv slot a r k (live .run-is) (live .book-is) progress l (live .there)
         (nextOf (codeOf pack (r .request)) (a .course)) refl)
 
-    pub live-turn : Keeps pack m (fed pack m t (turn slot)) t (tallied t (turn slot)) rs (turnIn pack s slot (some a))
+    pub live-turn : Keeps pack (fed pack m t (feeds (turn slot))) (tallied t (feeds (turn slot))) rs (turnIn pack s slot (some a))
     live-turn = go (le-cases k (r .moveCount) (live .behind))
       where
         go : (k ≡ r .moveCount) ⊎ (k < r .moveCount) →
-            Keeps pack m (fed pack m t (turn slot)) t (tallied t (turn slot)) rs (turnIn pack s slot (some a))
+            Keeps pack (fed pack m t (feeds (turn slot))) (tallied t (feeds (turn slot))) rs (turnIn pack s slot (some a))
         go (inl e) = front-turn e progress
         go (inr l) = back-turn l
 
 pub turn-keeps : (pack : Pack) (s : State) (m : Machine) (t : Tallies) (rs : List Reply) → Inv pack s m t rs → (slot : ℕ) →
     isSome (s .slots slot) ≡ true →
-    Keeps pack m (fed pack m t (turn slot)) t (tallied t (turn slot)) rs (turnIn pack s slot (s .slots slot))
+    Keeps pack (fed pack m t (feeds (turn slot))) (tallied t (feeds (turn slot))) rs (turnIn pack s slot (s .slots slot))
 turn-keeps pack s m t rs inv slot used = go (s .slots slot) refl used
   where
     go : (o : Option Agent) → s .slots slot ≡ o → isSome o ≡ true →
-        Keeps pack m (fed pack m t (turn slot)) t (tallied t (turn slot)) rs (turnIn pack s slot o)
+        Keeps pack (fed pack m t (feeds (turn slot))) (tallied t (feeds (turn slot))) rs (turnIn pack s slot o)
     go none e u = false-true refl u
     go (some a) e u = live-turn pack s m t rs inv slot a (inv .slots slot a e)

@@ -1,4 +1,4 @@
--- The whole case of document 01 on the rules, by computation: MOVE, ten calls, their answers, the rows and the log. Assumes nothing.
+-- The whole case of document 01 on the rules, by computation: MOVE, ten calls, their answers, the rows and the log.
 use mathlib.Core.Path.{_≡_, refl}
 use mathlib.Core.List.{List, [], _∷_}
 use mathlib.Core.Option.{Option, none, some}
@@ -11,7 +11,8 @@ use Rattle.rules.specs.Store.{Store, withRow}
 use Rattle.rules.specs.Logged.{behind, replyFrom, replyLogged}
 use Rattle.rules.specs.Calls.{arrival, retry, turn, crash, Answer, done, moved, reply, refused, History, refusal, canTurn, canDo}
 use Rattle.rules.specs.Calls.{canWrite, unless, rule, arrive, again, throughBlock, turnOn, turnIn, call, stateAfter, answerTo}
-use Rattle.rules.specs.Plain.{oneMore, tallied, fedArrival, fedRun, fedTurn, fed, moveOn, move, talliesAfter, machineAfter}
+use Rattle.rules.specs.Plain.{oneMore, tallied, fedArrival, fedRun, fedTurn, fed, moveOn, move, talliesOf, machineOf}
+use Rattle.rules.specs.Plain.{eventsAfter, machineAfter}
 
 -- MOVE takes the amount in register 2 from the key in register 0 of partition 0, and adds it to the key in register 1 of partition 1.
 abbrev pub MOVE : Code
@@ -77,7 +78,9 @@ pub record WholeCase : Type 0 where
   pub plain-replies : machineAfter (MOVE ∷ []) 5 ten .replies ≡ record { id = 7; value = yields 30 } ∷ []
 
 pub whole-case : WholeCase
-unfolding replyLogged replyFrom behind stateAfter call unless refusal ask canTurn canDo canWrite rule arrive again turnIn turnOn throughBlock actAt act within runFrom runBlock afterBlock passed nextBy nextOf withRow talliesAfter tallied oneMore machineAfter fed fedArrival fedTurn fedRun move moveOn
+unfolding replyLogged replyFrom behind stateAfter call unless refusal ask canTurn canDo canWrite rule arrive again turnIn turnOn
+    throughBlock actAt act within runFrom runBlock afterBlock passed nextBy nextOf withRow eventsAfter talliesOf tallied oneMore machineOf
+    fed fedArrival fedTurn fedRun move moveOn
 whole-case =
     record {
       all-answers = refl;

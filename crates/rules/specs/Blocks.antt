@@ -1,5 +1,4 @@
 -- The run of a block, one definition for runtime and plain machine; its result, the rows that it needs, and the position behind END.
--- Assumes nothing: these are definitions.
 use mathlib.Core.Bool.{Bool, true, false}
 use mathlib.Core.List.{[], _∷_}
 use mathlib.Core.Option.{Option, none, some}

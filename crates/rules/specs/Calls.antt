@@ -1,4 +1,4 @@
--- Agents and slots, and the six calls: the questions 15 to 21 and 24 of each, then what it does. Assumes nothing: these are definitions.
+-- Agents and slots, and the six calls: the questions 15 to 21 and 24 of each, then what it does.
 use mathlib.Core.Bool.{Bool, true, not}
 use mathlib.Core.List.{List, [], _∷_}
 use mathlib.Core.Option.{Option, none, some}
@@ -110,16 +110,24 @@ pub record Outcome : Type 0 where
 abbrev pub gives : Answer → State → Outcome
 gives a s = record { answer = a; state = s }
 
+-- the state with another store
+abbrev pub withStore : State → Store → State
+withStore s store = record { store = store; slots = s .slots }
+
 -- the state with something else in one slot
 abbrev pub withSlot : State → (slot : ℕ) → Option Agent → State
 withSlot s slot a = record { store = s .store; slots = update (s .slots) slot a }
+
+-- the state with every slot empty
+abbrev pub emptied : State → State
+emptied s = record { store = s .store; slots = λ slot. none }
 
 abbrev pub started : State → (slot id : ℕ) → Request → State
 started s slot id q = withSlot s slot (some (record { id = id; course = start q; step = 0 }))
 
 -- Arrival, by what the book has of the id: books a new id, then starts an agent. A known id only starts an agent.
 unfoldable pub arrive : State → (slot id : ℕ) → Request → Option Request → Outcome
-arrive s slot id q none = gives done (started (record { store = booked (s .store) id q; slots = s .slots }) slot id q)
+arrive s slot id q none = gives done (started (withStore s (booked (s .store) id q)) slot id q)
 arrive s slot id q (some known) = gives done (started s slot id known)
 
 -- Retry starts an agent from the book. (An id that isn't booked is refused, by 20.)
@@ -138,7 +146,7 @@ unfoldable pub throughBlock : State → (slot : ℕ) → Agent → Code → (beg
 throughBlock s slot a code from p onto (some r) = movesTo s slot a (onto r) (suc (a .step))
 throughBlock s slot a code from p onto none =
     let b = runBlock code from (s .store .rows p) in
-    movesTo (record { store = written (s .store) p (a .id) (a .step) b; slots = s .slots }) slot a (onto (b .result)) (suc (a .step))
+    movesTo (withStore s (written (s .store) p (a .id) (a .step) b)) slot a (onto (b .result)) (suc (a .step))
 
 -- Turn, by what the agent does next: one instruction; a whole block; or it replies with id and value and empties the slot.
 unfoldable pub turnOn : State → (slot : ℕ) → Agent → Code → Next → Outcome
@@ -158,7 +166,7 @@ rule pack s (arrival slot id w args) = arrive s slot id (record { workflow = w; 
 rule pack s (retry slot id) = again s slot id (s .store .book id)
 rule pack s (turn slot) = turnIn pack s slot (s .slots slot)
 rule pack s (crash slot) = gives done (withSlot s slot none)
-rule pack s restart = gives done (record { store = s .store; slots = λ slot. none })
+rule pack s restart = gives done (emptied s)
 rule pack s order = gives done s
 rule pack s (stopped n) = gives done s
 

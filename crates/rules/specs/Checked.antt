@@ -1,5 +1,4 @@
 -- What the pack check guarantees of each workflow: the hypothesis of demand 3, which the pack's crate proves of every accepted pack.
--- Assumes nothing: these are definitions.
 use mathlib.Core.Path.{_≡_}
 use mathlib.Core.List.{[], _∷_}
 use mathlib.Core.Option.{Option, none, some, Option·getD}

@@ -1,5 +1,4 @@
 -- Where an agent stands and what it does next: one definition, which the turn, the plain machine and the walk by the log act on.
--- Assumes nothing: these are definitions.
 use Prim.Native.Nat.{ℕ}
 use Rattle.rules.specs.Instructions.{Code, Place, next, Act, moves, opens, closes, reads, puts, returns, actAt}
 use Rattle.rules.specs.Blocks.{Result, yields, afterBlock}

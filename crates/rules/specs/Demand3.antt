@@ -1,4 +1,4 @@
--- Demand 3: one claim about any list of calls from a fresh store without agents. Assumes nothing: these are definitions.
+-- Demand 3: one claim about any list of calls from a fresh store without agents.
 use mathlib.Core.Bool.{true}
 use mathlib.Core.Path.{_≡_}
 use mathlib.Core.List.{List, _∷_, reverse, List·Memᴰ}

@@ -1,4 +1,4 @@
--- The instructions of a workflow, and the table of operations, once: what each asks for. Assumes nothing: these are definitions.
+-- The instructions of a workflow, and the table of operations, once: what each asks for.
 use mathlib.Core.List.{List}
 use mathlib.Core.Option.{Option, Option·getD}
 use Prim.Native.Nat.{ℕ, suc, _+_, _-_, _%_, _^_}

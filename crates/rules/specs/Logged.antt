@@ -1,5 +1,4 @@
 -- How far its log leads a request: where it stands after some moves, if each block among them has its log row; and logged through.
--- Assumes nothing: these are definitions.
 use mathlib.Core.Bool.{Bool}
 use mathlib.Core.List.{[], _∷_, _++_}
 use mathlib.Core.Option.{Option, none, some}

@@ -1,4 +1,4 @@
--- W-206, reading a key never written: what the changed line of the table of operations comes to. Assumes nothing: these are definitions.
+-- W-206, reading a key never written: what the changed line of the table of operations comes to.
 use mathlib.Core.Option.{none, some, Option·getD}
 use mathlib.Core.Path.{_≡_}
 use Prim.Native.Nat.{ℕ, suc, _<_}

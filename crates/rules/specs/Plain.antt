@@ -1,4 +1,4 @@
--- The plain machine, what it is fed, and the replies: the plain run of document 01. Assumes nothing: these are definitions.
+-- The plain machine, what it is fed, and the replies: the plain run of document 01.
 use mathlib.Core.Bool.{Bool, true, false}
 use mathlib.Core.List.{List, [], _∷_, _++_}
 use mathlib.Core.Option.{Option, none, some}
@@ -73,12 +73,37 @@ move pack m id r = moveOn m id r (codeOf pack (r .request)) (nextOf (codeOf pack
 
 -- ── What it is fed ──
 
+-- a call that was made, and the answer that it got
+pub record Event : Type 0 where
+  pub made : Call
+  pub answer : Answer
+
 -- whether a call was accepted
 abbrev pub accepted : Answer → Bool
 accepted done = true
 accepted moved = true
 accepted (reply id v) = true
 accepted (refused n) = false
+
+-- What a call feeds: an agent starts in a slot, and with an arrival its request may be booked; a move; nothing.
+pub data Feed : Type 0 where
+  starts : (slot id : ℕ) (request : Option Request) → Feed
+  moves : (slot : ℕ) → Feed
+  nothing : Feed
+
+-- what an accepted call feeds, said once for each call
+abbrev pub feeds : Call → Feed
+feeds (arrival slot id w args) = starts slot id (some (record { workflow = w; arguments = args }))
+feeds (retry slot id) = starts slot id none
+feeds (turn slot) = moves slot
+feeds (crash slot) = nothing
+feeds restart = nothing
+feeds order = nothing
+feeds (stopped n) = nothing
+
+-- by its answer: a call that isn't accepted feeds nothing. (A later answer that is neither accepted nor refused has its place here.)
+abbrev pub feedOf : Event → Feed
+feedOf e = if accepted (e .answer) then feeds (e .made) else nothing
 
 -- Of a slot: the id that the last accepted arrival or retry there named, and the number of accepted turns there since.
 pub record Tally : Type 0 where
@@ -93,15 +118,11 @@ unfoldable pub oneMore : Option Tally → Option Tally
 oneMore none = none
 oneMore (some t) = some (record { id = t .id; turns = suc (t .turns) })
 
--- the tallies behind an accepted call
-unfoldable pub tallied : Tallies → Call → Tallies
-tallied t (arrival slot id w args) = update t slot (some (record { id = id; turns = 0 }))
-tallied t (retry slot id) = update t slot (some (record { id = id; turns = 0 }))
-tallied t (turn slot) = update t slot (oneMore (t slot))
-tallied t (crash slot) = t
-tallied t restart = t
-tallied t order = t
-tallied t (stopped n) = t
+-- the tallies behind what a call feeds
+unfoldable pub tallied : Tallies → Feed → Tallies
+tallied t (starts slot id q) = update t slot (some (record { id = id; turns = 0 }))
+tallied t (moves slot) = update t slot (oneMore (t slot))
+tallied t nothing = t
 
 -- Accepted arrival of an id that the machine hasn't booked: one booking.
 unfoldable pub fedArrival : Machine → (id : ℕ) → Request → Option Run → Machine
@@ -118,31 +139,22 @@ unfoldable pub fedTurn : Pack → Machine → Option Tally → Machine
 fedTurn pack m none = m
 fedTurn pack m (some t) = fedRun pack m (t .id) (suc (t .turns)) (m .runs (t .id))
 
--- What an accepted call feeds the machine; t is what the tallies were before it. Any other call: nothing.
-unfoldable pub fed : Pack → Machine → Tallies → Call → Machine
-fed pack m t (arrival slot id w args) = fedArrival m id (record { workflow = w; arguments = args }) (m .runs id)
-fed pack m t (turn slot) = fedTurn pack m (t slot)
-fed pack m t (retry slot id) = m
-fed pack m t (crash slot) = m
-fed pack m t restart = m
-fed pack m t order = m
-fed pack m t (stopped n) = m
+-- the machine behind what a call feeds; t is what the tallies were before it
+unfoldable pub fed : Pack → Machine → Tallies → Feed → Machine
+fed pack m t (starts slot id (some q)) = fedArrival m id q (m .runs id)
+fed pack m t (starts slot id none) = m
+fed pack m t (moves slot) = fedTurn pack m (t slot)
+fed pack m t nothing = m
 
--- The tallies after the calls: a refused call counts nothing.
-unfoldable pub talliesAfter : Pack → (room : ℕ) → History → Tallies
-talliesAfter pack room [] = λ slot. none
-talliesAfter pack room (c ∷ before) =
-    if accepted (answerTo pack room before c)
-    then tallied (talliesAfter pack room before) c
-    else talliesAfter pack room before
+-- The tallies after the events, of which the latest stands first.
+unfoldable pub talliesOf : List Event → Tallies
+talliesOf [] = λ slot. none
+talliesOf (e ∷ before) = tallied (talliesOf before) (feedOf e)
 
--- The plain machine after the calls: a refused call feeds nothing.
-unfoldable pub machineAfter : Pack → (room : ℕ) → History → Machine
-machineAfter pack room [] = empty
-machineAfter pack room (c ∷ before) =
-    if accepted (answerTo pack room before c)
-    then fed pack (machineAfter pack room before) (talliesAfter pack room before) c
-    else machineAfter pack room before
+-- The plain machine after the events: fed by the calls' arguments, in order, and by whether each was accepted.
+unfoldable pub machineOf : Pack → List Event → Machine
+machineOf pack [] = empty
+machineOf pack (e ∷ before) = fed pack (machineOf pack before) (talliesOf before) (feedOf e)
 
 -- ── Replies ──
 
@@ -154,9 +166,9 @@ withAnswer moved rs = rs
 withAnswer (refused n) rs = rs
 
 -- the replies among the answers, the latest first
-unfoldable pub repliesAfter : Pack → (room : ℕ) → History → List Reply
-repliesAfter pack room [] = []
-repliesAfter pack room (c ∷ before) = withAnswer (answerTo pack room before c) (repliesAfter pack room before)
+unfoldable pub repliesOf : List Event → List Reply
+repliesOf [] = []
+repliesOf (e ∷ before) = withAnswer (e .answer) (repliesOf before)
 
 -- did an earlier turn reply to this id?
 abbrev pub answered : (id : ℕ) → (earlier : List Reply) → Bool
@@ -168,3 +180,22 @@ unfoldable pub firstReplies : List Reply → List Reply
 firstReplies [] = []
 firstReplies (r ∷ earlier) =
     if answered (r .id) earlier then firstReplies earlier else firstReplies earlier ++ r ∷ []
+
+-- ── Of a list of calls ──
+
+-- each call, with the answer that it gets after those before it
+unfoldable pub eventsAfter : Pack → (room : ℕ) → History → List Event
+eventsAfter pack room [] = []
+eventsAfter pack room (c ∷ before) = record { made = c; answer = answerTo pack room before c } ∷ eventsAfter pack room before
+
+-- the tallies after the calls
+abbrev pub talliesAfter : Pack → (room : ℕ) → History → Tallies
+talliesAfter pack room calls = talliesOf (eventsAfter pack room calls)
+
+-- the plain machine after the calls
+abbrev pub machineAfter : Pack → (room : ℕ) → History → Machine
+machineAfter pack room calls = machineOf pack (eventsAfter pack room calls)
+
+-- the replies among the answers to the calls, the latest first
+abbrev pub repliesAfter : Pack → (room : ℕ) → History → List Reply
+repliesAfter pack room calls = repliesOf (eventsAfter pack room calls)

@@ -1,4 +1,4 @@
--- W-201, request number zero: what the changed questions come to. Assumes nothing: these are definitions.
+-- W-201, request number zero: what the changed questions come to.
 use mathlib.Core.Bool.{not}
 use mathlib.Core.Path.{_≡_}
 use mathlib.Core.List.{List, List·Memᴰ}

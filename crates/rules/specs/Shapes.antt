@@ -1,5 +1,4 @@
--- The shape of each instruction, in one table: where it stands, what begins behind it, where it leads. Assumes nothing: these are
--- definitions.
+-- The shape of each instruction, in one table: where it stands, what begins behind it, where it leads.
 use mathlib.Core.Bool.{Bool, true, false}
 use mathlib.Core.Option.{Option, none, some}
 use Prim.Native.Nat.{ℕ}

@@ -1,4 +1,4 @@
--- The store as rows by key: data, log and book, with the used counts and the room; without bytes. Assumes nothing: these are definitions.
+-- The store as rows by key: data, log and book, with the used counts and the room; without bytes.
 use mathlib.Core.Bool.{Bool, true, false, _&&_}
 use mathlib.Core.List.{List, [], _∷_}
 use mathlib.Core.Option.{Option, none, some}
@@ -62,16 +62,32 @@ freshStore room =
 abbrev pub rowsPerRequest : ℕ
 rowsPerRequest = 5
 
--- a new request in the book
-abbrev pub booked : Store → (id : ℕ) → Request → Store
-booked s id q =
+-- the store with another book: its used count and its requests
+abbrev pub withBook : Store → (used : ℕ) → (book : (id : ℕ) → Option Request) → Store
+withBook s used book =
     record {
       room = s .room;
       used = s .used;
       rows = s .rows;
       log = s .log;
-      bookUsed = s .bookUsed + rowsPerRequest;
-      book = update (s .book) id (some q);
+      bookUsed = used;
+      book = book;
+    }
+
+-- a new request in the book
+abbrev pub booked : Store → (id : ℕ) → Request → Store
+booked s id q = withBook s (s .bookUsed + rowsPerRequest) (update (s .book) id (some q))
+
+-- the store with another used count and other data rows in one partition, and another log
+abbrev pub withPartition : Store → (partition used : ℕ) → Table → Log → Store
+withPartition s p used table log =
+    record {
+      room = s .room;
+      used = update (s .used) p used;
+      rows = update (s .rows) p table;
+      log = log;
+      bookUsed = s .bookUsed;
+      book = s .book;
     }
 
 -- one row more: the block's result as value
@@ -84,12 +100,4 @@ withRow log p id t (yields v) = record { usual = logged (log .usual) p id t v }
 
 -- a block's data rows and its log row, written together
 abbrev pub written : Store → (partition id step : ℕ) → Block → Store
-written s p id t b =
-    record {
-      room = s .room;
-      used = update (s .used) p (s .used p + rowsNeeded b);
-      rows = update (s .rows) p (b .table);
-      log = withRow (s .log) p id t (b .result);
-      bookUsed = s .bookUsed;
-      book = s .book;
-    }
+written s p id t b = withPartition s p (s .used p + rowsNeeded b) (b .table) (withRow (s .log) p id t (b .result))

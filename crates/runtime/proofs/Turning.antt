@@ -1,14 +1,17 @@
--- The turn of a slot, by that of its agent. Assumes nothing.
+-- The turn of a slot, by that of its agent.
 use mathlib.Core.Bool.{Bool, true, false}
 use mathlib.Core.List.{List, []}
 use mathlib.Core.Option.{none, some}
 use mathlib.Core.Path.{_≡_, refl, sym, _∙_, ap, subst}
-use Prim.Native.Nat.{ℕ, _<_}
-use native.Mathlib.Decide.{ℕ-discrete}
+use Prim.Native.Nat.{ℕ}
 use native.Mathlib.Omega.{arith}
-use lib.ListN.{length, set, length-set}
-use lib.Seq.{ext-getD, getD-set-same, getD-set-other}
-use Rattle.questions.specs.Questions.{number}
+use lib.ListN.{set}
+use lib.Seq.{set-getD}
+use Rattle.questions.specs.Questions as Questions
+use Rattle.meaning.proofs.Begun.{begun-lent, begun-below, begun-used, turn-left}
+use Rattle.meaning.proofs.Tests.{slot-used}
+use Rattle.contents.specs.Contents.{contentsOf}
+use Rattle.questions.specs.Questions.{number, ask}
 use Rattle.rules.specs.Calls.{canTurn, turnIn}
 use Rattle.rules.specs.Calls as Calls
 use Rattle.questions.proofs.Each.{each-at}
@@ -20,68 +23,72 @@ use Rattle.agents.specs.declared.Outcome.{Outcome}
 use Rattle.agents.specs.Slots.{agentAt, held, agentOf, slotsOf, Tidy}
 use Rattle.agents.specs.Answers.{answerOf, outcome}
 use Rattle.agents.proofs.Slots.{slot-held, agent-back}
-use Rattle.meaning.specs.State.{contentsOf, stateOf}
-use Rattle.meaning.specs.Questions.{slotRight, question14, lentRefusal, lentFor}
+use Rattle.meaning.specs.State.{stateOf, Lent}
+use Rattle.meaning.specs.Questions.{slotRight, question14, lentRefusal, firstSixteen, refusalFor}
 use Rattle.meaning.specs.Carried.{Carried}
 use Rattle.meaning.proofs.Asked.{lent-pack, lent-store, lent-13, lent-14}
-use Rattle.meaning.proofs.Steps.{slot-used}
-use Rattle.meaning.proofs.Carry.{carried-refused, refused-by, is-done}
+use Rattle.meaning.proofs.Carry.{is-done, is-refused}
 use Rattle.turn.specs.declared.Turned.{Turned}
 use Rattle.turn.specs.Turned.{Turnable, TurnedBy}
-use Rattle.runtime.proofs.Rules.{turn-21, turn-yes}
 
+-- what stands past the last record, as `agentAt` has it
 abbrev past : Agent
 past = record { «in_use» = false; id = 0; position = 0; step = 0; registers = [] }
 
--- the record in a slot, put there again
-set-again : (records : List Agent) (slot : ℕ) → slot < length records → set records slot (agentAt records slot) ≡ records
-set-again records slot h =
-    ext-getD past (set records slot (agentAt records slot)) records (length-set records slot (agentAt records slot)) (λ i l. go i (ℕ-discrete i slot))
-  where
-    go : (i : ℕ) → Dec (i ≡ slot) → agentAt (set records slot (agentAt records slot)) i ≡ agentAt records i
-    go i (yes e) =
-        ap (agentAt (set records slot (agentAt records slot))) e ∙ getD-set-same records slot (agentAt records slot) past h ∙ ap (agentAt records) (sym e)
-    go i (no n) = getD-set-other records slot i (agentAt records slot) past n
-
-module _ (pack store : List ℕ) (records : List Agent) (slot : ℕ) (e : lentRefusal pack store records ≡ none) (h : slot < 8) (used : agentAt records slot .«in_use» ≡ true) where
+module _ (pack : List ℕ) (lent : Lent) (slot : ℕ) (e : firstSixteen pack lent slot true ≡ none) where
   abbrev a : Agent
-  a = agentAt records slot
+  a = agentAt (lent .records) slot
 
-  -- questions 1 to 14 say yes
-  pub may-turn : Turnable pack store a
+  lent-yes : lentRefusal pack lent ≡ none
+  lent-yes = begun-lent pack lent slot true e
+
+  used : a .«in_use» ≡ true
+  used = begun-used pack lent slot e
+
+  -- questions 1 to 16 say yes
+  pub may-turn : Turnable pack (lent .store) a
   unfolding question14
   may-turn =
       record {
-        accepted = lent-pack pack store records e;
-        stored = lent-store pack store records e;
-        right = lent-13 pack store records e;
+        accepted = lent-pack pack lent lent-yes;
+        stored = lent-store pack lent lent-yes;
+        right = lent-13 pack lent lent-yes;
         used = used;
         sound =
-            sym (slot-used pack store a used)
-            ∙ each-at (λ i. slotRight pack store (agentAt records i)) 8 0 (lent-14 pack store records e) slot (omega arith) (omega arith);
+            sym (slot-used pack (lent .store) a used)
+            ∙ each-at (λ i. slotRight pack (lent .store) (agentAt (lent .records) i)) 8 0 (lent-14 pack lent lent-yes) slot (omega arith)
+            (omega (arith, begun-below pack lent slot true e));
       }
 
-  there : stateOf store records .slots slot ≡ some (held a)
-  unfolding stateOf
-  there = slot-held records slot used
+  there : slotsOf (lent .records) slot ≡ some (held a)
+  there = slot-held (lent .records) slot used
 
-  pub is-turned : Tidy records → (store′ : List ℕ) (r : Turned) (o : Outcome) → TurnedBy pack store a r store′ → o ≡ outcome (r .answer) (set records slot (r .agent)) →
-      Carried pack store records (Calls.turn slot) (o .answer) (o .agents) store′
-  unfolding lentFor Calls.rule stateOf answerOf
-  is-turned tidy store′ r o t p = go (canTurn (packOf pack) (contentsOf (storeOf store)) (some (held a))) refl
+  -- 21 is left
+  may : (b : Bool) → canTurn (packOf pack) (contentsOf (storeOf (lent .store))) (some (held a)) ≡ b →
+      refusalFor pack lent (Calls.turn slot) ≡ ask (number 21) b none
+  may b y =
+      turn-left pack lent slot e
+      ∙ ap (λ (t : Bool). ask (number 21) t none) (ap (canTurn (packOf pack) (contentsOf (storeOf (lent .store)))) there ∙ y)
+
+  pub is-turned : Tidy (lent .records) → (store′ : List ℕ) (r : Turned) (o : Outcome) → TurnedBy pack (lent .store) a r store′ →
+      o ≡ outcome (r .answer) (set (lent .records) slot (r .agent)) →
+      Carried pack lent (Calls.turn slot) (o .answer) (record { store = store′; records = o .agents })
+  unfolding Calls.rule stateOf answerOf Questions.ask
+  is-turned tidy store′ r o t p = go (canTurn (packOf pack) (contentsOf (storeOf (lent .store))) (some (held a))) refl
     where
-      go : (b : Bool) → canTurn (packOf pack) (contentsOf (storeOf store)) (some (held a)) ≡ b → Carried pack store records (Calls.turn slot) (o .answer) (o .agents) store′
+      go : (b : Bool) → canTurn (packOf pack) (contentsOf (storeOf (lent .store))) (some (held a)) ≡ b →
+          Carried pack lent (Calls.turn slot) (o .answer) (record { store = store′; records = o .agents })
       go true y =
-          is-done pack store store′ records (Calls.turn slot) o slot (agentOf (r .agent)) (contentsOf (storeOf store′)) (answerOf (r .answer)) tidy h e
-          (turn-yes (packOf pack) (stateOf store records) slot h (held a) there y)
-          (ap (turnIn (packOf pack) (stateOf store records) slot) there ∙ t .turned y (slotsOf records) slot)
+          is-done pack lent (record { store = store′; records = o .agents }) (Calls.turn slot) (o .answer) slot (agentOf (r .agent))
+          (contentsOf (storeOf store′)) (answerOf (r .answer))
+          tidy (begun-below pack lent slot true e) (may true y)
+          (ap (turnIn (packOf pack) (stateOf lent) slot) there ∙ t .turned y (stateOf lent) slot)
           (t .written) (ap (λ (x : Outcome). answerOf (x .answer)) p)
-          (ap (λ (x : Outcome). x .agents) p ∙ ap (set records slot) (sym (agent-back (r .agent) (t .whole))))
+          (ap (λ (x : Outcome). x .agents) p ∙ ap (set (lent .records) slot) (sym (agent-back (r .agent) (t .whole))))
       go false n =
           let f = t .refused n in
-          let q : o ≡ outcome (Refused 21 0 0) records =
-          p ∙ ap (λ (x : Turned). outcome (x .answer) (set records slot (x .agent))) (f .0) ∙ ap (outcome (Refused 21 0 0)) (set-again records slot (omega (arith, tidy .eight))) in
-          subst (λ (x : List ℕ). Carried pack store records (Calls.turn slot) (o .answer) (o .agents) x) (sym (f .1))
-          (subst (λ (x : Outcome). Carried pack store records (Calls.turn slot) (x .answer) (x .agents) store) (sym q)
-          (carried-refused pack store records (Calls.turn slot) (number 21) (Refused 21 0 0)
-          (refused-by pack store records (Calls.turn slot) (some (number 21)) e (turn-21 (packOf pack) (stateOf store records) slot h (held a) there n)) refl))
+          let q : o ≡ outcome (Refused 21 0 0) (lent .records) =
+          p ∙ ap (λ (x : Turned). outcome (x .answer) (set (lent .records) slot (x .agent))) (f .0)
+          ∙ ap (outcome (Refused 21 0 0)) (set-getD (lent .records) slot past) in
+          subst (λ (x : List ℕ). Carried pack lent (Calls.turn slot) (o .answer) (record { store = x; records = o .agents })) (sym (f .1))
+          (is-refused pack lent (Calls.turn slot) o 21 0 0 (may false n) q)

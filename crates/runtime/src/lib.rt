@@ -1,7 +1,8 @@
-// The calls: entry points without a `requires`, each with one promise, `Carried`.
+// The calls: entry points without a `requires`, each with the promise `Carried`; order, which changes no contents, with one more.
 ghost use mathlib.Core.Path.{_≡_};
-ghost use mathlib.Core.List.{List, [], _∷_};
+ghost use mathlib.Core.List.{List};
 ghost use Prim.Native.Nat.{ℕ};
+ghost use Rattle.agents.specs.Requests.{asked};
 ghost use Rattle.rules.specs.Calls.{Call};
 ghost use Rattle.agents.specs.declared.Agent.{Agent};
 ghost use Rattle.meaning.specs.Carried.{Carried};
@@ -12,25 +13,17 @@ ghost use Rattle.store.specs.Ordered.{InOrder};
 use agents::Agent;
 use agents::Answer;
 use agents::Outcome;
+use agents::Request;
 use questions::Verdict;
 use store::rows::Got;
 
 // Crash empties a slot.
 pub fn crash(pack: &[u8], store: &[u8], agents: [Agent; 8], slot: usize) -> Outcome
-    ensures { λ r. ⌜ Carried (now (pack .entry)) (now (store .entry)) agents (Call.crash slot) (r .answer) (r .agents) (now (store .entry)) ⌝ }
+    ensures { λ r. ⌜ Carried (now (pack .entry)) (record { store = now (store .entry); records = agents }) (Call.crash slot) (r .answer) (record { store = now (store .entry); records = r .agents }) ⌝ }
 {
-    let v = meaning::check_lent(pack, store, agents);
+    let v = lent_check::check_to_16(pack, store, agents, slot, true);
     match v {
-        Verdict::Accepted => {
-            if 8 <= slot {
-                return agents::refused(15, 0, 0, agents);
-            }
-            let a = agents[slot];
-            if a.in_use {
-                return agents::done(agents::with_agent(agents, slot, agents::no_agent()));
-            }
-            agents::refused(16, 0, 0, agents)
-        }
+        Verdict::Accepted => agents::done(agents::with_agent(agents, slot, agents::no_agent())),
         Verdict::Refused {
             question,
             workflow,
@@ -41,7 +34,7 @@ pub fn crash(pack: &[u8], store: &[u8], agents: [Agent; 8], slot: usize) -> Outc
 
 // Restart empties all slots; it asks nothing and never refuses.
 pub fn restart() -> Outcome
-    ensures { λ r. ⌜ ((pack store : List ℕ) (records : List Agent) → Carried pack store records Call.restart (r .answer) (r .agents) store) ⌝ }
+    ensures { λ r. ⌜ ((pack store : List ℕ) (records : List Agent) → Carried pack (record { store = store; records = records }) Call.restart (r .answer) (record { store = store; records = r .agents })) ⌝ }
 {
     agents::done(agents::no_agents())
 }
@@ -49,7 +42,7 @@ pub fn restart() -> Outcome
 // Order puts the rows of an earlier store in order. It gets the store only: no pack is asked and no slot is looked at. `Carried` sees a store
 // by its contents, which order leaves; that the rows are in order afterwards is said beside it.
 pub fn order(store: &mut [u8]) -> Answer
-    ensures { λ r. ⌜ ((pack : List ℕ) (records : List Agent) → Carried pack (now (store .entry)) records Call.order r records (now (store .exit)))
+    ensures { λ r. ⌜ ((pack : List ℕ) (records : List Agent) → Carried pack (record { store = now (store .entry); records = records }) Call.order r (record { store = now (store .exit); records = records }))
         × (accepted (answerOf r) ≡ true → InOrder (now (store .entry)) (now (store .exit))) ⌝ }
 {
     let v = ordering::order(store);
@@ -69,22 +62,16 @@ pub fn order(store: &mut [u8]) -> Answer
 
 // Retry starts an agent from the book.
 pub fn retry(pack: &[u8], store: &[u8], agents: [Agent; 8], slot: usize, id: u32) -> Outcome
-    ensures { λ r. ⌜ Carried (now (pack .entry)) (now (store .entry)) agents (Call.retry slot id) (r .answer) (r .agents) (now (store .entry)) ⌝ }
+    ensures { λ r. ⌜ Carried (now (pack .entry)) (record { store = now (store .entry); records = agents }) (Call.retry slot id) (r .answer) (record { store = now (store .entry); records = r .agents }) ⌝ }
 {
-    let v = meaning::check_lent(pack, store, agents);
+    let v = lent_check::check_to_16(pack, store, agents, slot, false);
     match v {
         Verdict::Accepted => {
-            if 8 <= slot {
-                return agents::refused(15, 0, 0, agents);
-            }
-            let a = agents[slot];
-            if a.in_use {
-                return agents::refused(16, 0, 0, agents);
-            }
-            let g = meaning::booked_workflow(store, id);
+            let g = book::booked_workflow(store, id);
             match g {
-                Got::Value(_) => {
-                    agents::done(agents::with_agent(agents, slot, booking::started_from(store, id)))
+                Got::Value(w) => {
+                    let known = book::booked_request(store, id, w);
+                    agents::done(agents::with_agent(agents, slot, agents::started(id, known)))
                 }
                 Got::Absent => agents::refused(20, 0, 0, agents),
             }
@@ -104,74 +91,55 @@ pub fn arrival(
     agents: [Agent; 8],
     slot: usize,
     id: u32,
-    workflow: u32,
-    a0: u32,
-    a1: u32,
-    a2: u32,
-    a3: u32,
+    q: Request,
 ) -> Outcome
-    ensures { λ r. ⌜ Carried (now (pack .entry)) (now (store .entry)) agents (Call.arrival slot id workflow (a0 ∷ a1 ∷ a2 ∷ a3 ∷ [])) (r .answer) (r .agents) (now (store .exit)) ⌝ }
+    ensures { λ r. ⌜ Carried (now (pack .entry)) (record { store = now (store .entry); records = agents }) (Call.arrival slot id (q .workflow) (asked q .arguments)) (r .answer) (record { store = now (store .exit); records = r .agents }) ⌝ }
 {
-    let v = meaning::check_lent(pack, store, agents);
+    let v = lent_check::check_to_16(pack, store, agents, slot, false);
     match v {
         Verdict::Accepted => {
-            if 8 <= slot {
-                return agents::refused(15, 0, 0, agents);
-            }
-            let a = agents[slot];
-            if a.in_use {
-                return agents::refused(16, 0, 0, agents);
-            }
-            let m = pack::count_of(pack);
             if id == 0 {
                 return agents::refused(24, 0, 0, agents);
             }
-            if m <= workflow {
+            if pack::count_of(pack) <= q.workflow {
                 return agents::refused(17, 0, 0, agents);
             }
-            let b = booking::book_request(store, id, workflow, a0, a1, a2, a3);
+            let b = booking::book_request(store, id, q);
             match b {
                 Verdict::Accepted => {
-                    let next = agents::started(id, a0, a1, a2, a3);
-                    agents::done(agents::with_agent(agents, slot, next))
+                    agents::done(agents::with_agent(agents, slot, agents::started(id, q)))
                 }
                 Verdict::Refused {
                     question,
-                    workflow: w,
+                    workflow,
                     instruction,
-                } => agents::refused(question, w, instruction, agents),
+                } => agents::refused(question, workflow, instruction, agents),
             }
         }
         Verdict::Refused {
             question,
-            workflow: w,
+            workflow,
             instruction,
-        } => agents::refused(question, w, instruction, agents),
+        } => agents::refused(question, workflow, instruction, agents),
     }
 }
 
 // Turn: the agent in a slot does its next instruction, its whole block, or its reply.
 pub fn turn(pack: &[u8], store: &mut [u8], agents: [Agent; 8], slot: usize) -> Outcome
-    ensures { λ r. ⌜ Carried (now (pack .entry)) (now (store .entry)) agents (Call.turn slot) (r .answer) (r .agents) (now (store .exit)) ⌝ }
+    ensures { λ r. ⌜ Carried (now (pack .entry)) (record { store = now (store .entry); records = agents }) (Call.turn slot) (r .answer) (record { store = now (store .exit); records = r .agents }) ⌝ }
 {
-    let v = meaning::check_lent(pack, store, agents);
+    let v = lent_check::check_to_16(pack, store, agents, slot, true);
     match v {
         Verdict::Accepted => {
-            if 8 <= slot {
-                return agents::refused(15, 0, 0, agents);
-            }
             let a = agents[slot];
-            if a.in_use {
-                let t = turn::turn_agent(pack, store, a);
-                let answer = t.answer;
-                let next = t.agent;
-                let all = agents::with_agent(agents, slot, next);
-                return Outcome {
-                    answer,
-                    agents: all,
-                };
+            let t = turn::turn_agent(pack, store, a);
+            let answer = t.answer;
+            let next = t.agent;
+            let all = agents::with_agent(agents, slot, next);
+            Outcome {
+                answer,
+                agents: all,
             }
-            agents::refused(16, 0, 0, agents)
         }
         Verdict::Refused {
             question,

@@ -1,4 +1,4 @@
--- A run under way, call by call. Assumes nothing.
+-- A run under way, call by call.
 use mathlib.Core.Path.{_≡_, refl, sym, ap, subst, _∙_}
 use mathlib.Core.Bool.{true}
 use mathlib.Core.List.{List, [], _∷_, _++_}
@@ -12,7 +12,7 @@ use lib.Dec.{leb}
 use lib.ListN.{length, take, replicate}
 use Rattle.questions.specs.Questions.{No, ask}
 use Rattle.questions.specs.Verdicts.{verdictOf}
-use Rattle.rules.specs.Calls.{Call}
+use Rattle.rules.specs.Plain.{Event}
 use Rattle.questions.specs.declared.Verdict.{Verdict}
 use Rattle.questions.specs.declared.Verdict.the-variants.{Accepted, Refused}
 use Rattle.questions.proofs.Questions.{ask-none, orElse-none}
@@ -31,12 +31,12 @@ use Rattle.text.proofs.Laws.{appended-none, appended-then}
 use Rattle.lines.specs.Lines.{eventsLine, refusedLine, answerLine}
 use Rattle.listing.specs.Store.{storeText}
 use Rattle.meaning.specs.Carried.{Carried}
-use Rattle.chain.specs.Chain.{Event, Chain, begins, goes-on}
+use Rattle.chain.specs.Chain.{Chain, begins, goes-on}
 use Rattle.chain.proofs.Theorem.{sized}
 use Rattle.schedule_check.specs.Layout.{eventCount}
-use Rattle.schedule_check.specs.Questions.{Laid, question22, question23, bytesRefusal, Allowed, scheduleRefusal}
+use Rattle.schedule_check.specs.Questions.{bytesRefusal, Allowed, scheduleRefusal}
 use Rattle.schedule.specs.Events.{callAt, callsOf}
-use Rattle.schedule.specs.Run.{madeIn, answerLines, Ran, Run, Printed}
+use Rattle.schedule.specs.Run.{madeIn, answerLines, Run, Printed}
 use Rattle.schedule.specs.Going.{Going, Went}
 use Rattle.schedule_check.proofs.Steps.{laid}
 
@@ -56,10 +56,13 @@ verdict-none none e = refl
 verdict-none (some n) e = let z : _≡_ {A = ℕ} 0 1 = cc in absurd (omega arith)
 
 -- a create on a store of that length is accepted, and begins a list of calls
-pub fresh-chain : (pack s xs ys : List ℕ) (P C : ℕ) (v : Verdict) → P ≡ partsOf s → C ≡ capOf s → Allowed s → length xs ≡ sizeOf (partsOf s) (capOf s) → Created xs ys P C v
-    → Chain pack (partsOf s) (capOf s) [] ys (replicate 8 noAgent)
+pub fresh-chain : (pack s xs ys : List ℕ) (P C : ℕ) (v : Verdict) → P ≡ partsOf s → C ≡ capOf s → Allowed s →
+    length xs ≡ sizeOf (partsOf s) (capOf s) → Created xs ys P C v
+    → Chain pack (partsOf s) (capOf s) [] (record { store = ys; records = replicate 8 noAgent })
 unfolding createRefusal ask
-fresh-chain pack s xs ys P C v p q h l c = begins xs ys (accepted (partsOf s) (capOf s) (subst (λ (k : ℕ). Created xs ys (partsOf s) k v) q (subst (λ (k : ℕ). Created xs ys k C v) p c)))
+fresh-chain pack s xs ys P C v p q h l c =
+    begins xs ys (accepted (partsOf s) (capOf s)
+    (subst (λ (k : ℕ). Created xs ys (partsOf s) k v) q (subst (λ (k : ℕ). Created xs ys k C v) p c)))
   where
     accepts : verdictOf (createRefusal (partsOf s) (capOf s) (length xs)) ≡ Accepted
     accepts = rw (h .numbers, eq-eqb (length xs) (sizeOf (partsOf s) (capOf s)) l) refl
@@ -91,43 +94,57 @@ length-made [] = refl
 length-made (e ∷ es) = ap suc (length-made es)
 
 module _ {pack s out : List ℕ} {n : ℕ} where
-  pub going-none : (store : List ℕ) (records : List Agent) → Chain pack (partsOf s) (capOf s) [] store (replicate 8 noAgent) → records ≡ replicate 8 noAgent → n ≤ length out
+  pub going-none : (store : List ℕ) (records : List Agent) →
+      Chain pack (partsOf s) (capOf s) [] (record { store = store; records = replicate 8 noAgent }) → records ≡ replicate 8 noAgent →
+      n ≤ length out
       → Going pack s out n 0 store records out n
   unfolding callsOf madeIn answerLines
   going-none store records c e h =
       record {
         events = [];
-        ran = record { chain = subst (λ (rs : List Agent). Chain pack (partsOf s) (capOf s) [] store rs) (sym e) c; calls = refl };
+        ran = record {
+          chain = subst (λ (rs : List Agent). Chain pack (partsOf s) (capOf s) [] (record { store = store; records = rs }))
+              (sym e) c;
+          calls = refl;
+        };
         said = appended-none out n h;
       }
 
-  pub going-more : {i : ℕ} {store : List ℕ} {records : List Agent} {out′ : List ℕ} {at : ℕ} {answer : Answer} {records′ : List Agent} {store′ out″ : List ℕ} {at′ : ℕ}
-      → Going pack s out n i store records out′ at → Carried pack store records (callAt s i) answer records′ store′ → Appended out′ at (answerLine i (answerOf answer)) out″ at′
+  pub going-more : {i : ℕ} {store : List ℕ} {records : List Agent} {out′ : List ℕ} {at : ℕ} {answer : Answer} {records′ : List Agent}
+      {store′ out″ : List ℕ} {at′ : ℕ}
+      → Going pack s out n i store records out′ at →
+      Carried pack (record { store = store; records = records }) (callAt s i) answer (record { store = store′; records = records′ }) →
+      Appended out′ at (answerLine i (answerOf answer)) out″ at′
       → Going pack s out n (i + 1) store′ records′ out″ at′
   unfolding callsOf madeIn answerLines
   going-more {i} {store} {records} {out′} {at} {answer} {records′} {store′} {out″} {at′} g c a =
       let many : length (g .events) ≡ i = sym (length-made (g .events)) ∙ ap length (g .ran .calls) ∙ length-calls s i in
       record {
-        events = record { made = callAt s i; answer = answer } ∷ g .events;
+        events = record { made = callAt s i; answer = answerOf answer } ∷ g .events;
         ran =
             record {
-              chain = goes-on _ _ _ _ _ _ _ (g .ran .chain) c;
+              chain = goes-on _ _ _ _ _ (g .ran .chain) c;
               calls = rw (add-one i) (ap (λ cs. callAt s i ∷ cs) (g .ran .calls));
             };
         said = appended-then (g .said) (rw many a);
       }
 
-  pub gone : {i : ℕ} {store : List ℕ} {records : List Agent} {out′ : List ℕ} {at : ℕ} → i ≡ eventCount s → Going pack s out n i store records out′ at → Went pack s out n store out′ at
-  gone {i} {store} {records} {out′} {at} e g = record { records = records; going = subst (λ (k : ℕ). Going pack s out n k store records out′ at) e g }
+  pub gone : {i : ℕ} {store : List ℕ} {records : List Agent} {out′ : List ℕ} {at : ℕ} → i ≡ eventCount s →
+      Going pack s out n i store records out′ at → Went pack s out n store out′ at
+  gone {i} {store} {records} {out′} {at} e g =
+      record { records = records; going = subst (λ (k : ℕ). Going pack s out n k store records out′ at) e g }
 
 -- ---- the store that is left is sound
 
-pub chain-sound : {pack : List ℕ} {P C : ℕ} {events : List Event} {store : List ℕ} {records : List Agent} → Chain pack P C events store records → Sound store
-chain-sound {pack} {P} {C} {events} {store} {records} h = store-ok store (sized pack P C events store records h .passes) .0
+pub chain-sound : {pack : List ℕ} {P C : ℕ} {events : List Event} {store : List ℕ} {records : List Agent} →
+    Chain pack P C events (record { store = store; records = records }) → Sound store
+chain-sound {pack} {P} {C} {events} {store} {records} h =
+    store-ok store (sized pack P C events (record { store = store; records = records }) h .passes) .0
 
 -- ---- what is printed
 
-pub prints : {pack s out : List ℕ} {e a b r : ℕ} {store out1 out2 out3 : List ℕ} → e ≡ eventCount s → Appended out 0 (eventsLine e) out1 a → Went pack s out1 a store out2 b
+pub prints : {pack s out : List ℕ} {e a b r : ℕ} {store out1 out2 out3 : List ℕ} → e ≡ eventCount s →
+    Appended out 0 (eventsLine e) out1 a → Went pack s out1 a store out2 b
     → Appended out2 b (storeText store) out3 r → Run pack s (take r out3)
 prints {r = r} {store = store} {out3 = out3} q x w z =
     let g = w .going in
@@ -136,7 +153,8 @@ prints {r = r} {store = store} {out3 = out3} q x w z =
       store = store;
       records = w .records;
       ran = g .ran;
-      prints = subst (λ (k : ℕ). take r out3 ≡ eventsLine k ++ (answerLines (g .events) ++ storeText store)) q (appended-then x (appended-then (g .said) z) .says);
+      prints = subst (λ (k : ℕ). take r out3 ≡ eventsLine k ++ (answerLines (g .events) ++ storeText store)) q
+          (appended-then x (appended-then (g .said) z) .says);
     }
 
 module _ (p s : List ℕ) (v : Verdict) (said : v ≡ verdictOf (scheduleRefusal p s)) where
@@ -150,11 +168,14 @@ module _ (p s : List ℕ) (v : Verdict) (said : v ≡ verdictOf (scheduleRefusal
         run = λ q. r;
       }
 
-  pub printed-refused : (out out′ : List ℕ) (r question workflow instruction : ℕ) → v ≡ Refused question workflow instruction → Appended out 0 (refusedLine question) out′ r
+  pub printed-refused : (out out′ : List ℕ) (r question workflow instruction : ℕ) → v ≡ Refused question workflow instruction →
+      Appended out 0 (refusedLine question) out′ r
       → Printed p s (take r out′)
   printed-refused out out′ r question workflow instruction e a =
       record {
-        refused = λ n q. let z : Refused question workflow instruction ≡ Refused (n .question) (n .workflow) (n .instruction) = sym e ∙ said ∙ ap verdictOf q in
+        refused = λ n q. let z : Refused question workflow instruction ≡ Refused (n .question) (n .workflow) (n .instruction) =
+            sym e ∙ said ∙ ap verdictOf q in
             let f : n .question ≡ question = cc in a .says ∙ ap refusedLine (sym f);
-        run = λ q. let y : Refused question workflow instruction ≡ Accepted = sym e ∙ said ∙ ap verdictOf q in let z : _≡_ {A = ℕ} 0 1 = cc in absurd (omega arith);
+        run = λ q. let y : Refused question workflow instruction ≡ Accepted = sym e ∙ said ∙ ap verdictOf q in let z : _≡_ {A = ℕ} 0 1 =
+            cc in absurd (omega arith);
       }

@@ -1,8 +1,8 @@
--- The call that an event lists, from what the code has in hand. Assumes nothing.
-use mathlib.Core.Path.{_≡_, refl, sym, ap, subst}
+-- The call that an event lists, from what the code has in hand.
+use mathlib.Core.Path.{_≡_, refl, sym, subst}
 use mathlib.Core.Bool.{true}
 use mathlib.Core.List.{List, [], _∷_}
-use Prim.Native.Nat.{ℕ, _+_, _*_, _/_, _%_, _<_}
+use Prim.Native.Nat.{ℕ, _+_, _*_, _<_}
 use native.Mathlib.Nat.{add-zero}
 use native.Mathlib.Omega.{arith}
 use borrow.Author.Tests.{ltb-true, ne-eqb}
@@ -18,16 +18,21 @@ use Rattle.schedule_check.specs.Questions.{eventRight, rightAt, question23}
 use Rattle.schedule.specs.Events.{callOf, callAt}
 
 -- a call that is the same
-pub same-call : {pack store : List ℕ} {records : List Agent} {answer : Answer} {records′ : List Agent} {store′ : List ℕ} (c c′ : Call) → c′ ≡ c
-    → Carried pack store records c answer records′ store′ → Carried pack store records c′ answer records′ store′
-same-call {pack} {store} {records} {answer} {records′} {store′} c c′ e h = subst (λ (x : Call). Carried pack store records x answer records′ store′) (sym e) h
+pub same-call : {pack store : List ℕ} {records : List Agent} {answer : Answer} {records′ : List Agent} {store′ : List ℕ} (c c′ : Call) →
+    c′ ≡ c
+    → Carried pack (record { store = store; records = records }) c answer (record { store = store′; records = records′ }) →
+    Carried pack (record { store = store; records = records }) c′ answer (record { store = store′; records = records′ })
+same-call {pack} {store} {records} {answer} {records′} {store′} c c′ e h =
+    subst (λ (x : Call). Carried pack (record { store = store; records = records }) x answer
+    (record { store = store′; records = records′ })) (sym e) h
 
 -- the words of a request
 module _ (s : List ℕ) (slot r : ℕ) where
   pub retries : (id : ℕ) → id ≡ le 4 s (6 + 24 * r) → retry slot (idOf s r) ≡ retry slot id
   retries id e = rw (add-zero (6 + 24 * r), ← e) refl
 
-  pub arrives : (id w a0 a1 a2 a3 : ℕ) → id ≡ le 4 s (6 + 24 * r) → w ≡ le 4 s (6 + 24 * r + 4) → a0 ≡ le 4 s (6 + 24 * r + 8) → a1 ≡ le 4 s (6 + 24 * r + 12)
+  pub arrives : (id w a0 a1 a2 a3 : ℕ) → id ≡ le 4 s (6 + 24 * r) → w ≡ le 4 s (6 + 24 * r + 4) → a0 ≡ le 4 s (6 + 24 * r + 8) →
+      a1 ≡ le 4 s (6 + 24 * r + 12)
       → a2 ≡ le 4 s (6 + 24 * r + 16) → a3 ≡ le 4 s (6 + 24 * r + 20)
       → arrival slot (idOf s r) (workflowOf s r) (argumentsOf s r) ≡ arrival slot id w (a0 ∷ a1 ∷ a2 ∷ a3 ∷ [])
   arrives id w a0 a1 a2 a3 e0 e1 e2 e3 e4 e5 = rw (add-zero (6 + 24 * r), ← e0, ← e1, ← e2, ← e3, ← e4, ← e5) refl
@@ -65,7 +70,8 @@ module _ (s : List ℕ) (kind slot r : ℕ) where
 
 -- event i, where the code has read e
 module _ (s : List ℕ) (i e : ℕ) (is : e ≡ eventCount s) where
-  pub right-there : question23 s ≡ true → i < eventCount s → eventRight (requestCount s) (kindAt s i) (getD s (6 + 24 * requestCount s + e + i) 0) ≡ true
+  pub right-there : question23 s ≡ true → i < eventCount s →
+      eventRight (requestCount s) (kindAt s i) (getD s (6 + 24 * requestCount s + e + i) 0) ≡ true
   unfolding question23 rightAt
   right-there h l = rw is (each-at (rightAt s) (eventCount s) 0 h i (omega arith) (omega arith))
 

@@ -1,4 +1,4 @@
--- The calls that a schedule lists. Assumes nothing: these are definitions.
+-- The calls that a schedule lists.
 use mathlib.Core.List.{List, [], _∷_}
 use Prim.Native.Nat.{ℕ, zero, suc}
 use lib.Dec.{eqb}

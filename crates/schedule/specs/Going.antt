@@ -1,9 +1,9 @@
--- A run under way. Assumes nothing: these are definitions.
+-- A run under way.
 use mathlib.Core.List.{List}
 use Prim.Native.Nat.{ℕ}
+use Rattle.rules.specs.Plain.{Event}
 use Rattle.agents.specs.declared.Agent.{Agent}
 use Rattle.text.specs.Text.{Appended}
-use Rattle.chain.specs.Chain.{Event}
 use Rattle.schedule_check.specs.Layout.{eventCount}
 use Rattle.schedule.specs.Run.{answerLines, Ran}
 

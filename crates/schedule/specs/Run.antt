@@ -1,4 +1,4 @@
--- A run of a schedule, and what it prints. Assumes nothing: these are definitions.
+-- A run of a schedule, and what it prints.
 use mathlib.Core.List.{List, [], _∷_, _++_}
 use mathlib.Core.Option.{none, some}
 use mathlib.Core.Path.{_≡_}
@@ -6,12 +6,12 @@ use Prim.Native.Nat.{ℕ}
 use lib.ListN.{length}
 use Rattle.questions.specs.Questions.{No}
 use Rattle.rules.specs.Calls.{Call}
+use Rattle.rules.specs.Plain.{Event}
 use Rattle.store.specs.Layout.{partsOf, capOf}
 use Rattle.agents.specs.declared.Agent.{Agent}
-use Rattle.agents.specs.Answers.{answerOf}
 use Rattle.lines.specs.Lines.{eventsLine, refusedLine, answerLine}
 use Rattle.listing.specs.Store.{storeText}
-use Rattle.chain.specs.Chain.{Event, Chain}
+use Rattle.chain.specs.Chain.{Chain}
 use Rattle.schedule_check.specs.Layout.{eventCount}
 use Rattle.schedule_check.specs.Questions.{scheduleRefusal}
 use Rattle.schedule.specs.Events.{callsOf}
@@ -24,12 +24,12 @@ madeIn (e ∷ before) = e .made ∷ madeIn before
 -- the lines of the answers, each with its event's number
 unfoldable pub answerLines : List Event → List ℕ
 answerLines [] = []
-answerLines (e ∷ before) = answerLines before ++ answerLine (length before) (answerOf (e .answer))
+answerLines (e ∷ before) = answerLines before ++ answerLine (length before) (e .answer)
 
 -- The calls of a schedule's first n events were made, in order, each with its answer, from a fresh store of the schedule's P and C, and
 -- left this store. Demand 3 speaks of every such list (crate `chain`).
 pub record Ran (pack schedule : List ℕ) (n : ℕ) (events : List Event) (store : List ℕ) (records : List Agent) : Type 0 where
-  pub chain : Chain pack (partsOf schedule) (capOf schedule) events store records
+  pub chain : Chain pack (partsOf schedule) (capOf schedule) events (record { store = store; records = records })
   pub calls : madeIn events ≡ callsOf schedule n
 
 -- A whole run prints the event total, the answers, and the store that is left.

@@ -1,6 +1,7 @@
 // The call that an event lists, made on the runtime.
 use agents::Agent;
 use agents::Outcome;
+use agents::Request;
 ghost use mathlib.Core.Bool.{true};
 ghost use mathlib.Core.Path.{_≡_};
 ghost use Prim.Native.Nat.{_<_};
@@ -20,16 +21,18 @@ fn arrival_of(
     r: usize,
 ) -> Outcome
     requires { ⌜ Laid (now s) × (r < requestCount (now s)) ⌝ }
-    ensures { λ o. ⌜ Carried (now (pack .entry)) (now (store .entry)) agents (Call.arrival slot (idOf (now (s .entry)) r) (workflowOf (now (s .entry)) r) (argumentsOf (now (s .entry)) r)) (o .answer) (o .agents) (now (store .exit)) ⌝ }
+    ensures { λ o. ⌜ Carried (now (pack .entry)) (record { store = now (store .entry); records = agents }) (Call.arrival slot (idOf (now (s .entry)) r) (workflowOf (now (s .entry)) r) (argumentsOf (now (s .entry)) r)) (o .answer) (record { store = now (store .exit); records = o .agents }) ⌝ }
 {
     let at = 6 + 24 * r;
     let id = words::read32(s, at);
-    let workflow = words::read32(s, at + 4);
-    let a0 = words::read32(s, at + 8);
-    let a1 = words::read32(s, at + 12);
-    let a2 = words::read32(s, at + 16);
-    let a3 = words::read32(s, at + 20);
-    runtime::arrival(pack, store, agents, slot, id, workflow, a0, a1, a2, a3)
+    let q = Request {
+        workflow: words::read32(s, at + 4),
+        a0: words::read32(s, at + 8),
+        a1: words::read32(s, at + 12),
+        a2: words::read32(s, at + 16),
+        a3: words::read32(s, at + 20),
+    };
+    runtime::arrival(pack, store, agents, slot, id, q)
 }
 
 // The retry of request `r`.
@@ -42,7 +45,7 @@ fn retry_of(
     r: usize,
 ) -> Outcome
     requires { ⌜ Laid (now s) × (r < requestCount (now s)) ⌝ }
-    ensures { λ o. ⌜ Carried (now (pack .entry)) (now (store .entry)) agents (Call.retry slot (idOf (now (s .entry)) r)) (o .answer) (o .agents) (now (store .entry)) ⌝ }
+    ensures { λ o. ⌜ Carried (now (pack .entry)) (record { store = now (store .entry); records = agents }) (Call.retry slot (idOf (now (s .entry)) r)) (o .answer) (record { store = now (store .entry); records = o .agents }) ⌝ }
 {
     let id = words::read32(s, 6 + 24 * r);
     runtime::retry(pack, store, agents, slot, id)
@@ -59,7 +62,7 @@ fn call_of(
     r: u8,
 ) -> Outcome
     requires { ⌜ Laid (now s) × (eventRight (requestCount (now s)) kind r ≡ true) ⌝ }
-    ensures { λ o. ⌜ Carried (now (pack .entry)) (now (store .entry)) agents (callOf (now (s .entry)) kind slot r) (o .answer) (o .agents) (now (store .exit)) ⌝ }
+    ensures { λ o. ⌜ Carried (now (pack .entry)) (record { store = now (store .entry); records = agents }) (callOf (now (s .entry)) kind slot r) (o .answer) (record { store = now (store .exit); records = o .agents }) ⌝ }
 {
     if kind == 0 {
         return arrival_of(pack, s, store, agents, slot, r as usize);
@@ -79,7 +82,7 @@ fn call_of(
 // The call of event `i`.
 pub fn call_event(pack: &[u8], s: &[u8], store: &mut [u8], agents: [Agent; 8], i: usize) -> Outcome
     requires { ⌜ Allowed (now s) × (i < eventCount (now s)) ⌝ }
-    ensures { λ o. ⌜ Carried (now (pack .entry)) (now (store .entry)) agents (callAt (now (s .entry)) i) (o .answer) (o .agents) (now (store .exit)) ⌝ }
+    ensures { λ o. ⌜ Carried (now (pack .entry)) (record { store = now (store .entry); records = agents }) (callAt (now (s .entry)) i) (o .answer) (record { store = now (store .exit); records = o .agents }) ⌝ }
 {
     let events = 6 + 24 * s[3] as usize;
     let e = words::read16(s, 4) as usize;

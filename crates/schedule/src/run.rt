@@ -4,7 +4,7 @@ use questions::Verdict;
 use schedule_check::check_schedule;
 ghost use mathlib.Core.List.{[]};
 ghost use mathlib.Core.Path.{_≡_};
-ghost use Prim.Native.Nat.{_+_, _*_, _≤_};
+ghost use Prim.Native.Nat.{_+_, _≤_};
 ghost use lib.ListN.{length, take, replicate};
 ghost use Rattle.store.specs.Layout.{partsOf, capOf, sizeOf};
 ghost use Rattle.agents.specs.Slots.{noAgent};
@@ -15,7 +15,7 @@ ghost use Rattle.schedule.specs.Going.{Went};
 
 // Makes the calls of all events, and prints their answers.
 fn run_events(pack: &[u8], s: &[u8], store: &mut [u8], out: &mut [u8], n: usize) -> usize
-    requires { ⌜ Allowed (now s) × Chain (now pack) (partsOf (now s)) (capOf (now s)) [] (now store) (replicate 8 noAgent) × (n + 70656 ≤ length (now out)) ⌝ }
+    requires { ⌜ Allowed (now s) × Chain (now pack) (partsOf (now s)) (capOf (now s)) [] (record { store = now store; records = replicate 8 noAgent }) × (n + 70656 ≤ length (now out)) ⌝ }
     ensures { λ r. ⌜ Went (now (pack .entry)) (now (s .entry)) (now (out .entry)) n (now (store .exit)) (now (out .exit)) r × (r ≤ n + 70656) ⌝ }
 {
     let e = words::read16(s, 4) as usize;
@@ -53,6 +53,20 @@ fn run_in(pack: &[u8], s: &[u8], store: &mut [u8], out: &mut [u8]) -> usize
 {
     let size = store::head::store_size(store::head::partition_count(s), store::head::capacity(s));
     run_on(pack, s, &mut store[..size], out)
+}
+
+// The longest store, 3 + 2 × 9 + 12 × 256 × 9.
+pub fn store_buffer() -> [u8; 27_669]
+    ensures { λ r. ⌜ 27669 ≡ length r ⌝ }
+{
+    [0; 27_669]
+}
+
+// Room for all that a run can print.
+pub fn text_buffer() -> [u8; 524_288]
+    ensures { λ r. ⌜ 524288 ≡ length r ⌝ }
+{
+    [0; 524_288]
 }
 
 // What the program prints: its first bytes in `out`, as many as it answers. No bytes of pack and schedule are taken for granted.

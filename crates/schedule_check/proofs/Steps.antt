@@ -1,4 +1,4 @@
--- The questions step by step, from what the code has in hand. Assumes nothing.
+-- The questions step by step, from what the code has in hand.
 use mathlib.Core.Path.{_≡_, refl, sym, ap, _∙_}
 use mathlib.Core.Bool.{Bool, true, false, not, _&&_}
 use mathlib.Core.List.{List}
@@ -51,7 +51,8 @@ not-laid s f = go (question22 s) refl where
   go true h = absurd (f (laid s h))
   go false h = sym h
 
-pub laid-as : (s : List ℕ) (e : ℕ) → requestCount s ≤ 64 → e ≡ eventCount s → e ≤ 1024 → eqb (length s) (lengthFor (requestCount s) e) ≡ question22 s
+pub laid-as : (s : List ℕ) (e : ℕ) → requestCount s ≤ 64 → e ≡ eventCount s → e ≤ 1024 →
+    eqb (length s) (lengthFor (requestCount s) e) ≡ question22 s
 unfolding question22
 laid-as s e h q h′ = rw (← q, le-leb (requestCount s) 64 h, le-leb e 1024 h′) refl
 
@@ -61,7 +62,8 @@ module _ (s : List ℕ) where
   unfolding bytesRefusal ask
   no-22 r q h = rw (sym q ∙ not-true r h) refl
 
-  pub no-23 : (r t : Bool) → r ≡ question22 s → not r ≡ false → t ≡ question23 s → not t ≡ true → verdictOf (some (number 23)) ≡ verdictOf (bytesRefusal s)
+  pub no-23 : (r t : Bool) → r ≡ question22 s → not r ≡ false → t ≡ question23 s → not t ≡ true →
+      verdictOf (some (number 23)) ≡ verdictOf (bytesRefusal s)
   unfolding bytesRefusal ask
   no-23 r t q h q′ h′ = rw (sym q ∙ not-false r h, sym q′ ∙ not-true t h′) refl
 
@@ -86,7 +88,8 @@ unfolding orElse
 then-accepted none rest v e e′ = refl
 then-accepted (some n) rest v e e′ = let z : _≡_ {A = ℕ} 0 1 = cc in absurd (omega arith)
 
-pub then-refused : (o rest : Option No) (v : Verdict) (question workflow instruction : ℕ) → v ≡ verdictOf o → v ≡ Refused question workflow instruction
+pub then-refused : (o rest : Option No) (v : Verdict) (question workflow instruction : ℕ) → v ≡ verdictOf o →
+    v ≡ Refused question workflow instruction
     → verdictOf (some (no question workflow instruction)) ≡ verdictOf (orElse o rest)
 unfolding orElse
 then-refused none rest v q w i e e′ = let z : _≡_ {A = ℕ} 0 1 = cc in absurd (omega arith)

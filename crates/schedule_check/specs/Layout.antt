@@ -1,5 +1,5 @@
 -- A schedule in bytes: P (1), C (2), request count g (1), event count e (2); g requests of six 4-byte words; e event bytes; e request
--- indexes. P and C stand where a store has them, and are read as there. Assumes nothing: these are definitions.
+-- indexes. P and C stand where a store has them, and are read as there.
 use mathlib.Core.List.{List, [], _∷_}
 use Prim.Native.Nat.{ℕ, _+_, _*_, _/_, _%_}
 use lib.ListN.{getD}

@@ -1,4 +1,4 @@
--- Questions 22 and 23, and the first no of a schedule with its pack. Assumes nothing: these are definitions.
+-- Questions 22 and 23, and the first no of a schedule with its pack.
 use mathlib.Core.Bool.{Bool, true, _&&_, _||_}
 use mathlib.Core.List.{List}
 use mathlib.Core.Option.{Option, none}

@@ -1,4 +1,4 @@
--- Records in bytes: what the code reads is the record there, and records written are read back. Assumes nothing.
+-- Records in bytes: what the code reads is the record there, and records written are read back.
 use mathlib.Core.Bool.{Bool, true, false, _&&_}
 use mathlib.Core.List.{List, _∷_}
 use mathlib.Core.Logic.{inl}
@@ -17,11 +17,13 @@ use Rattle.questions.specs.Basics.{if_then_else_}
 use Rattle.words.specs.Words.{le, put, fields}
 use Rattle.agents.specs.declared.Agent.{Agent}
 use Rattle.agents.specs.Slots.{agentAt}
-use Rattle.slots.specs.Records.{noRecord, isRecord, recordBy, recordIn, recordsIn, slotsIn, wordsOf, puts, withRecord, withRecords, withSlots}
+use Rattle.slots.specs.Records.{noRecord, isRecord, recordBy, recordIn, recordsIn, slotsIn, wordsOf, puts, withRecord, withRecords}
+use Rattle.slots.specs.Records.{withSlots}
 use Rattle.slots.proofs.Words.{length-puts, fields-puts, fields-beside}
 use Rattle.slots.proofs.Typed.{Fitting}
 
-twelve : (xs : List ℕ) (at : ℕ) → fields 4 xs at 12 ≡ le 4 xs at ∷ le 4 xs (at + 4) ∷ le 4 xs (at + 8) ∷ le 4 xs (at + 12) ∷ fields 4 xs (at + 16) 8
+twelve : (xs : List ℕ) (at : ℕ) →
+    fields 4 xs at 12 ≡ le 4 xs at ∷ le 4 xs (at + 4) ∷ le 4 xs (at + 8) ∷ le 4 xs (at + 12) ∷ fields 4 xs (at + 16) 8
 unfolding fields
 twelve xs at = simp add-assoc
 
@@ -35,7 +37,8 @@ record-read xs i u p s eu ep es = rw (eu, ep, es, twelve xs (48 * i)) refl
 
 -- the words of a record, written as the code does: four, then the registers
 pub record-written : (xs : List ℕ) (at : ℕ) (a : Agent)
-    → puts 4 (put 4 (put 4 (put 4 (put 4 xs at (boolByte (a .«in_use»))) (at + 4) (a .id)) (at + 8) (a .position)) (at + 12) (a .step)) (at + 16) (a .registers) 8
+    → puts 4 (put 4 (put 4 (put 4 (put 4 xs at (boolByte (a .«in_use»))) (at + 4) (a .id)) (at + 8) (a .position)) (at + 12) (a .step))
+    (at + 16) (a .registers) 8
     ≡ puts 4 xs at (wordsOf a) 12
 unfolding puts wordsOf
 record-written xs at a = rw (bit (a .«in_use»)) (simp (add-zero, add-assoc))
@@ -51,7 +54,8 @@ back a f = rw (lt-ltb (a .position) (2 ^ 16) (f .position), lt-ltb (a .step) (2 
   where
     go : (b : Bool) → a .«in_use» ≡ b
         → if_then_else_ (ltb (if_then_else_ b 1 0) 2 && true)
-        (record { «in_use» = eqb (if_then_else_ b 1 0) 1; id = a .id; position = a .position; step = a .step; registers = a .registers }) noRecord
+        (record { «in_use» = eqb (if_then_else_ b 1 0) 1; id = a .id; position = a .position; step = a .step; registers = a .registers })
+        noRecord
         ≡ a
     go true e = λ j. record { «in_use» = sym e j; id = a .id; position = a .position; step = a .step; registers = a .registers }
     go false e = λ j. record { «in_use» = sym e j; id = a .id; position = a .position; step = a .step; registers = a .registers }
@@ -77,10 +81,12 @@ record-back xs rs (suc n) i f l h = go (ℕ-discrete i n) (λ h′. record-back 
     go (yes e) ih =
         let g = f n (omega arith) in
         rw e
-        (ap recordBy (fields-puts 4 (withRecords xs rs n) (48 * n) (wordsOf (agentAt rs n)) 12 (g .twelve) (omega (arith, length-records xs rs n)) (g .small))
+        (ap recordBy (fields-puts 4 (withRecords xs rs n) (48 * n) (wordsOf (agentAt rs n)) 12 (g .twelve)
+        (omega (arith, length-records xs rs n)) (g .small))
         ∙ back (agentAt rs n) g)
     go (no d) ih =
-        ap recordBy (fields-beside 4 4 (withRecords xs rs n) (48 * i) 12 (48 * n) (wordsOf (agentAt rs n)) 12 (inl (omega arith))) ∙ ih (omega arith)
+        ap recordBy (fields-beside 4 4 (withRecords xs rs n) (48 * i) 12 (48 * n) (wordsOf (agentAt rs n)) 12 (inl (omega arith)))
+        ∙ ih (omega arith)
 
 length-in : (xs : List ℕ) (n i : ℕ) → length (recordsIn xs n i) ≡ n
 unfolding recordsIn

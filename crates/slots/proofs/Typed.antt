@@ -1,5 +1,4 @@
 -- What the type of a record says of its words: there are twelve, each below 2 ^ 32, and position and step number are below 2 ^ 16.
--- Assumes nothing.
 use mathlib.Core.Bool.{Bool, true, false}
 use mathlib.Core.Path.{_≡_, ap}
 use mathlib.Core.List.{List, [], _∷_, map}
@@ -27,7 +26,8 @@ pub record Fitting (a : Agent) : Type 0 where
   pub position : a .position < 2 ^ 16
   pub step : a .step < 2 ^ 16
 
-registers-small : (l : List ℕ) (us : List Val) → shadow (each (u32-field .row .Denot) (u32-field .row .own) (map {A = ℕ} {B = ℕ} (λ v. v) l) us)
+registers-small : (l : List ℕ) (us : List Val) →
+    shadow (each (u32-field .row .Denot) (u32-field .row .own) (map {A = ℕ} {B = ℕ} (λ v. v) l) us)
     → (j : ℕ) → getD l j 0 < 256 ^ 4
 registers-small [] us s j = omega arith
 registers-small (x ∷ l) [] s j = absurd s
@@ -49,14 +49,16 @@ fitting a vs eight is =
       step = owed .1 .1 .1 .0 .1;
     }
   where
-    small : a .id < 2 ^ 32 → a .position < 2 ^ 16 → a .step < 2 ^ 16 → ((j : ℕ) → getD (a .registers) j 0 < 256 ^ 4) → (j : ℕ) → getD (wordsOf a) j 0 < 256 ^ 4
+    small : a .id < 2 ^ 32 → a .position < 2 ^ 16 → a .step < 2 ^ 16 → ((j : ℕ) → getD (a .registers) j 0 < 256 ^ 4) → (j : ℕ) →
+        getD (wordsOf a) j 0 < 256 ^ 4
     small id p s rs zero = bit (a .«in_use»)
     small id p s rs (suc zero) = id
     small id p s rs (suc (suc zero)) = omega arith
     small id p s rs (suc (suc (suc zero))) = omega arith
     small id p s rs (suc (suc (suc (suc j)))) = rs j
 
-each-fitting : (rs : List Agent) (us : List Val) → shadow (each Agent (T.the-row .own) rs us) → (i : ℕ) → i < length rs → length (agentAt rs i .registers) ≡ 8
+each-fitting : (rs : List Agent) (us : List Val) → shadow (each Agent (T.the-row .own) rs us) → (i : ℕ) → i < length rs →
+    length (agentAt rs i .registers) ≡ 8
     → Fitting (agentAt rs i)
 each-fitting [] us s i h e = absurd (omega arith)
 each-fitting (r ∷ rs) [] s i h e = absurd s

@@ -1,4 +1,4 @@
--- Numbers written in a row are read back, and what stands beside them stays. Assumes nothing.
+-- Numbers written in a row are read back, and what stands beside them stays.
 use mathlib.Core.Path.{_≡_, refl, sym, _∙_}
 use mathlib.Core.List.{List}
 use mathlib.Core.Logic.{inl, inr, ⊎-elim}
@@ -14,7 +14,8 @@ use Rattle.words.proofs.Laws.{length-put, le-put, le-put-other, length-fields, 
 use Rattle.slots.specs.Records.{puts}
 
 -- one number more
-pub puts-more : (w : ℕ) (xs : List ℕ) (at : ℕ) (vs : List ℕ) (n : ℕ) → puts w xs at vs (n + 1) ≡ put w (puts w xs at vs n) (at + n * w) (getD vs n 0)
+pub puts-more : (w : ℕ) (xs : List ℕ) (at : ℕ) (vs : List ℕ) (n : ℕ) →
+    puts w xs at vs (n + 1) ≡ put w (puts w xs at vs n) (at + n * w) (getD vs n 0)
 unfolding puts
 puts-more w xs at vs n = rw add-one
 
@@ -24,7 +25,7 @@ length-puts w xs at vs zero = refl
 length-puts w xs at vs (suc n) = length-put w (puts w xs at vs n) (at + n * w) (getD vs n 0) ∙ length-puts w xs at vs n
 
 -- the i-th of n numbers written is what stands at its place
-pub le-puts : (w : ℕ) (xs : List ℕ) (at : ℕ) (vs : List ℕ) (n i : ℕ) → i < n → at + n * w ≤ length xs → ((j : ℕ) → getD vs j 0 < 256 ^ w)
+le-puts : (w : ℕ) (xs : List ℕ) (at : ℕ) (vs : List ℕ) (n i : ℕ) → i < n → at + n * w ≤ length xs → ((j : ℕ) → getD vs j 0 < 256 ^ w)
     → le w (puts w xs at vs n) (at + i * w) ≡ getD vs i 0
 unfolding puts
 le-puts w xs at vs zero i h l f = absurd (omega arith)
@@ -33,7 +34,8 @@ le-puts w xs at vs (suc n) i h l f = go (ℕ-discrete i n) (λ h′. le-puts w x
     room : at + n * w + w ≤ length (puts w xs at vs n)
     room = omega (arith, suc-mul n w, length-puts w xs at vs n)
 
-    go : Dec (i ≡ n) → (i < n → le w (puts w xs at vs n) (at + i * w) ≡ getD vs i 0) → le w (puts w xs at vs (suc n)) (at + i * w) ≡ getD vs i 0
+    go : Dec (i ≡ n) → (i < n → le w (puts w xs at vs n) (at + i * w) ≡ getD vs i 0) →
+        le w (puts w xs at vs (suc n)) (at + i * w) ≡ getD vs i 0
     go (yes e) ih = rw e (le-put w (puts w xs at vs n) (at + n * w) (getD vs n 0) room (f n))
     go (no d) ih =
         le-put-other w w (puts w xs at vs n) (at + i * w) (at + n * w) (getD vs n 0)
@@ -41,7 +43,8 @@ le-puts w xs at vs (suc n) i h l f = go (ℕ-discrete i n) (λ h′. le-puts w x
         ∙ ih (omega arith)
 
 -- numbers written in a row are read back
-pub fields-puts : (w : ℕ) (xs : List ℕ) (at : ℕ) (vs : List ℕ) (n : ℕ) → length vs ≡ n → at + n * w ≤ length xs → ((j : ℕ) → getD vs j 0 < 256 ^ w)
+pub fields-puts : (w : ℕ) (xs : List ℕ) (at : ℕ) (vs : List ℕ) (n : ℕ) → length vs ≡ n → at + n * w ≤ length xs →
+    ((j : ℕ) → getD vs j 0 < 256 ^ w)
     → fields w (puts w xs at vs n) at n ≡ vs
 fields-puts w xs at vs n e l f =
     ext-getD 0 _ _ (length-fields w (puts w xs at vs n) at n ∙ sym e)

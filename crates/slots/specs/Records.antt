@@ -1,5 +1,5 @@
--- Eight agent records in 384 lent bytes, 48 to a record: twelve words of 4 bytes, which are in use (0 or 1), id, position, step number
--- and the eight registers. Assumes nothing: these are definitions.
+-- Eight agent records in 384 lent bytes, 48 to a record: twelve words of 4 bytes, which are in use (0 or 1), id, position, step number and
+-- the eight registers.
 use mathlib.Core.Bool.{Bool, false, _&&_}
 use mathlib.Core.List.{List, [], _∷_}
 use Prim.Native.Nat.{ℕ, zero, suc, _+_, _*_, _^_}

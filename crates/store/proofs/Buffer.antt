@@ -1,4 +1,4 @@
--- A partition's bytes under way: rows put behind those that it holds. Assumes nothing.
+-- A partition's bytes under way: rows put behind those that it holds.
 use mathlib.Core.List.{List, [], _∷_, _++_}
 use mathlib.Core.Logic.{inl, inr}
 use mathlib.Core.Path.{_≡_, refl, sym, ap, ap₂, _∙_}
@@ -102,18 +102,22 @@ module _ (C : ℕ) (bs cs : List ℕ) (n m : ℕ) (rs : List Row) (h : Holds C b
   rows-more =
       ap₂ pairs (fields-append 8 cs 2 (2 + 8 * n) n m (omega arith)) (fields-append 4 cs (2 + 8 * C) (2 + 8 * C + 4 * n) n m (omega arith))
       ∙ pairs-append (fields 8 cs 2 n) _ (fields 4 cs (2 + 8 * C) n) _ (length-fields 8 cs 2 n ∙ sym (length-fields 4 cs (2 + 8 * C) n))
-      ∙ ap (λ (front : List Row). front ++ pairs (fields 8 cs (2 + 8 * n) m) (fields 4 cs (2 + 8 * C + 4 * n) m)) (ap₂ pairs first-keys first-values ∙ (unfold firstRows in h .rows))
+      ∙ ap (λ (front : List Row). front ++ pairs (fields 8 cs (2 + 8 * n) m) (fields 4 cs (2 + 8 * C + 4 * n) m))
+      (ap₂ pairs first-keys first-values ∙ (unfold firstRows in h .rows))
 
-  holds-more : (more : List Row) → pairs (fields 8 cs (2 + 8 * n) m) (fields 4 cs (2 + 8 * C + 4 * n) m) ≡ more → Holds C cs (n + m) (rs ++ more)
+  holds-more : (more : List Row) → pairs (fields 8 cs (2 + 8 * n) m) (fields 4 cs (2 + 8 * C + 4 * n) m) ≡ more →
+      Holds C cs (n + m) (rs ++ more)
   holds-more more e =
       record {
         long = long ∙ h .long;
         fit = fit;
         rows = rows-more ∙ ap (λ (l : List Row). rs ++ l) e;
         blank-keys =
-            λ i a b. le-same 8 cs bs (2 + 8 * i) (λ j c d. others j ((λ x y. omega arith), (λ x y. omega arith))) ∙ h .blank-keys i (omega arith) b;
+            λ i a b. le-same 8 cs bs (2 + 8 * i) (λ j c d. others j ((λ x y. omega arith), (λ x y. omega arith)))
+            ∙ h .blank-keys i (omega arith) b;
         blank-values =
-            λ i a b. le-same 4 cs bs (2 + 8 * C + 4 * i) (λ j c d. others j ((λ x y. omega arith), (λ x y. omega arith))) ∙ h .blank-values i (omega arith) b;
+            λ i a b. le-same 4 cs bs (2 + 8 * C + 4 * i) (λ j c d. others j ((λ x y. omega arith), (λ x y. omega arith)))
+            ∙ h .blank-values i (omega arith) b;
       }
 
 apart-from : (j at n : ℕ) → (at ≤ j → j < at + n → ⊥) → Apart j 1 at n
@@ -128,7 +132,8 @@ piece-long : (n at : ℕ) (l : List ℕ) → at + n ≤ length l → length (pie
 piece-long n at l h = simp (length-take, length-drop) (omega arith)
 
 -- rows copied: two runs of bytes
-module _ (C : ℕ) (bs xs : List ℕ) (n m ka va : ℕ) (rs : List Row) (h : Holds C bs n rs) (fit : n + m ≤ C) (hk : ka + 8 * m ≤ length xs) (hv : va + 4 * m ≤ length xs) where
+module _ (C : ℕ) (bs xs : List ℕ) (n m ka va : ℕ) (rs : List Row) (h : Holds C bs n rs) (fit : n + m ≤ C) (hk : ka + 8 * m ≤ length xs)
+    (hv : va + 4 * m ≤ length xs) where
   abbrev with-keys : List ℕ
   with-keys = sets bs (2 + 8 * n) (piece (8 * m) ka xs)
 
@@ -146,8 +151,10 @@ module _ (C : ℕ) (bs xs : List ℕ) (n m ka va : ℕ) (rs : List Row) (h : Hol
 
   others-stay : (j : ℕ) → Elsewhere C n m j → getD with-both j 0 ≡ getD bs j 0
   others-stay j e =
-      sets-out (piece (4 * m) va xs) with-keys (2 + 8 * C + 4 * n) j (apart-from j (2 + 8 * C + 4 * n) (length (piece (4 * m) va xs)) (λ a b. e .1 a (omega (arith, values-long))))
-      ∙ sets-out (piece (8 * m) ka xs) bs (2 + 8 * n) j (apart-from j (2 + 8 * n) (length (piece (8 * m) ka xs)) (λ a b. e .0 a (omega (arith, keys-long))))
+      sets-out (piece (4 * m) va xs) with-keys (2 + 8 * C + 4 * n) j
+      (apart-from j (2 + 8 * C + 4 * n) (length (piece (4 * m) va xs)) (λ a b. e .1 a (omega (arith, values-long))))
+      ∙ sets-out (piece (8 * m) ka xs) bs (2 + 8 * n) j
+      (apart-from j (2 + 8 * n) (length (piece (8 * m) ka xs)) (λ a b. e .0 a (omega (arith, keys-long))))
 
   keys-copied : fields 8 with-both (2 + 8 * n) m ≡ fields 8 xs ka m
   keys-copied =
@@ -161,7 +168,8 @@ module _ (C : ℕ) (bs xs : List ℕ) (n m ka va : ℕ) (rs : List Row) (h : Hol
   values-copied =
       fields-shift 4 m with-both xs (2 + 8 * C + 4 * n) va
       (λ i l. let s : i < 4 * m = omega arith in
-      sets-in (piece (4 * m) va xs) with-keys (2 + 8 * C + 4 * n) i (omega (arith, values-long, length-sets bs (2 + 8 * n) (piece (8 * m) ka xs), h .long)) (omega (arith, values-long))
+      sets-in (piece (4 * m) va xs) with-keys (2 + 8 * C + 4 * n) i
+      (omega (arith, values-long, length-sets bs (2 + 8 * n) (piece (8 * m) ka xs), h .long)) (omega (arith, values-long))
       ∙ getD-take (4 * m) (drop va xs) i 0 s ∙ getD-drop va xs i 0)
 
   holds-copied : Holds C with-both (n + m) (rs ++ pairs (fields 8 xs ka m) (fields 4 xs va m))
@@ -194,10 +202,12 @@ added-row C bs n k v rs h fit bk bv = holds-more C bs both n 1 rs h both-long (o
     both-long = length-put 4 one (2 + 8 * C + 4 * n) v ∙ one-long
 
     stay : (j : ℕ) → Elsewhere C n 1 j → getD both j 0 ≡ getD bs j 0
-    stay j e = getD-put 4 one (2 + 8 * C + 4 * n) v j (λ a b. e .1 a (omega arith)) ∙ getD-put 8 bs (2 + 8 * n) k j (λ a b. e .0 a (omega arith))
+    stay j e = getD-put 4 one (2 + 8 * C + 4 * n) v j (λ a b. e .1 a (omega arith))
+        ∙ getD-put 8 bs (2 + 8 * n) k j (λ a b. e .0 a (omega arith))
 
     key-new : le 8 both (2 + 8 * n) ≡ k
-    key-new = le-put-other 8 4 one (2 + 8 * n) (2 + 8 * C + 4 * n) v (inl (omega arith)) ∙ le-put 8 bs (2 + 8 * n) k (omega (arith, h .long)) bk
+    key-new = le-put-other 8 4 one (2 + 8 * n) (2 + 8 * C + 4 * n) v (inl (omega arith))
+        ∙ le-put 8 bs (2 + 8 * n) k (omega (arith, h .long)) bk
 
     value-new : le 4 both (2 + 8 * C + 4 * n) ≡ v
     value-new = le-put 4 one (2 + 8 * C + 4 * n) v (omega (arith, one-long, h .long)) bv
@@ -227,7 +237,8 @@ holds-none C n e =
         go (no l) = List·getD-eq-default (replicate n 0) 0 {n = j} (omega (arith, length-replicate {A = ℕ} n 0))
 
 -- the used count is written last
-pub holds-counted : (C : ℕ) (bs : List ℕ) (n : ℕ) (rs : List Row) → Holds C bs n rs → C ≤ 256 → Holds C (put 2 bs 0 n) n rs × (usedHeld (put 2 bs 0 n) ≡ n)
+pub holds-counted : (C : ℕ) (bs : List ℕ) (n : ℕ) (rs : List Row) → Holds C bs n rs → C ≤ 256 →
+    Holds C (put 2 bs 0 n) n rs × (usedHeld (put 2 bs 0 n) ≡ n)
 holds-counted C bs n rs h small = (
   record {
     long = length-put 2 bs 0 n ∙ h .long;

@@ -1,4 +1,4 @@
--- From a store's bytes to what it holds: rows read, and rows written. Assumes nothing.
+-- From a store's bytes to what it holds: rows read, and rows written.
 use mathlib.Core.List.{List, []}
 use mathlib.Core.Path.{_≡_, refl, sym, ap, ap₂, _∙_}
 use Prim.Native.Nat.{ℕ, _+_, _*_, _≤_, _<_}
@@ -50,8 +50,10 @@ module _ (xs : List ℕ) (p : ℕ) where
     unfolding rowsOf
     row-is =
         let l : i < usedOf xs p = omega (arith, count-is) in
-        getD-pairs (fields 8 xs (keyAt xs p 0) (usedOf xs p)) (fields 4 xs (valueAt xs p 0) (usedOf xs p)) i same-count (omega (arith, length-fields 8 xs (keyAt xs p 0) (usedOf xs p)))
-        ∙ ap₂ (λ (k v : ℕ). (k, v)) (getD-fields 8 xs (keyAt xs p 0) (usedOf xs p) i (keyAt xs p i) l (omega arith)) (getD-fields 4 xs (valueAt xs p 0) (usedOf xs p) i (valueAt xs p i) l (omega arith))
+        getD-pairs (fields 8 xs (keyAt xs p 0) (usedOf xs p)) (fields 4 xs (valueAt xs p 0) (usedOf xs p)) i same-count
+        (omega (arith, length-fields 8 xs (keyAt xs p 0) (usedOf xs p)))
+        ∙ ap₂ (λ (k v : ℕ). (k, v)) (getD-fields 8 xs (keyAt xs p 0) (usedOf xs p) i (keyAt xs p i) l (omega arith))
+        (getD-fields 4 xs (valueAt xs p 0) (usedOf xs p) i (valueAt xs p i) l (omega arith))
 
     pub key-is : getD (rowsOf xs p) i (0, 0) .0 ≡ le 8 xs (keyAt xs p i)
     key-is = ap (λ (r : Row). r .0) row-is
@@ -88,6 +90,9 @@ module _ (xs : List ℕ) (s : Shape xs) (p : ℕ) (l : p ≤ partsOf xs) where
 
   pub value-within : (i : ℕ) → i < capOf xs → valueAt xs p i + 4 ≤ length xs
   value-within i h = omega (arith, s .size, within (capOf xs) (partsOf xs) p i l h)
+
+  pub values-within : (n : ℕ) → n ≤ capOf xs → valueAt xs p 0 + 4 * n ≤ length xs
+  values-within n h = omega (arith, s .size, before (capOf xs) {p = p} {q = partsOf xs + 1} (omega arith))
 
 module _ (xs : List ℕ) (f : Formed xs) (p : ℕ) (l : p ≤ partsOf xs) where
   pub used-le : length (rowsOf xs p) ≤ capOf xs

@@ -1,4 +1,4 @@
--- Equal contents mean equal bytes: rows by rising key are told apart by what is found at each key, and bytes by their rows. Assumes nothing.
+-- Equal contents mean equal bytes: rows by rising key are told apart by what is found at each key, and bytes by their rows.
 use mathlib.Core.Bool.{true}
 use mathlib.Core.List.{List, [], _∷_}
 use mathlib.Core.Logic.{_≢_}
@@ -43,7 +43,9 @@ unfolding rising keysIn
 same-rows [] [] u w h = refl
 same-rows [] (q ∷ qs) u w h = none-some (q .1) (lookup (q .0) []) (unfold lookup in refl) (h (q .0) ∙ head-found q qs)
 same-rows (r ∷ rs) [] u w h = none-some (r .1) (lookup (r .0) []) (unfold lookup in refl) (sym (h (r .0)) ∙ head-found r rs)
-same-rows (r ∷ rs) (q ∷ qs) u w h = go (same-rows rs qs (and-right (ahead (r .0) (keysIn rs)) _ u) (and-right (ahead (q .0) (keysIn qs)) _ w)) (decLt (r .0) (q .0)) (decLt (q .0) (r .0))
+same-rows (r ∷ rs) (q ∷ qs) u w h =
+    go (same-rows rs qs (and-right (ahead (r .0) (keysIn rs)) _ u) (and-right (ahead (q .0) (keysIn qs)) _ w)) (decLt (r .0) (q .0))
+    (decLt (q .0) (r .0))
   where
     tails : r .0 ≡ q .0 → (k : ℕ) → lookup k rs ≡ lookup k qs
     tails e k = at (ℕ-discrete k (r .0))
@@ -70,7 +72,8 @@ split : (C P q : ℕ) → q < (P + 1) * C → (p : ℕ) × (i : ℕ) × (p ≤ P
 split C zero q h = (0, q, omega arith, omega (arith, suc-mul 0 C, zero-mul C), omega (arith, zero-mul C))
 split C (suc P) q h = go (decLt q ((P + 1) * C)) (split C P q)
   where
-    go : Dec (q < (P + 1) * C) → (q < (P + 1) * C → (p : ℕ) × (i : ℕ) × (p ≤ P) × (i < C) × (q ≡ p * C + i)) → (p : ℕ) × (i : ℕ) × (p ≤ suc P) × (i < C) × (q ≡ p * C + i)
+    go : Dec (q < (P + 1) * C) → (q < (P + 1) * C → (p : ℕ) × (i : ℕ) × (p ≤ P) × (i < C) × (q ≡ p * C + i)) →
+        (p : ℕ) × (i : ℕ) × (p ≤ suc P) × (i < C) × (q ≡ p * C + i)
     go (yes l) ih = let a = ih l in (a .0, a .1, omega (arith, a .2), a .3, a .4)
     go (no n) ih =
         let e : (P + 1) * C ≡ suc P * C = ap (λ (k : ℕ). k * C) (omega arith) in
@@ -105,7 +108,8 @@ module _ (xs ys : List ℕ) (f : Formed xs) (g : Formed ys) (bx : AllBytes xs) (
           ∙ key-is ys p i (omega (arith, count-is ys p, used-same p)) ∙ ap (le 8 ys) (key-place p i)
       go (no n) =
           f .filled p l .blank-keys i (omega arith) h
-          ∙ sym (ap (le 8 ys) (sym (key-place p i)) ∙ g .filled p (omega (arith, parts-same)) .blank-keys i (omega (arith, used-same p)) (omega (arith, cap-same)))
+          ∙ sym (ap (le 8 ys) (sym (key-place p i))
+          ∙ g .filled p (omega (arith, parts-same)) .blank-keys i (omega (arith, used-same p)) (omega (arith, cap-same)))
 
   value-same : (p i : ℕ) → p ≤ partsOf xs → i < capOf xs → le 4 xs (valueAt xs p i) ≡ le 4 ys (valueAt xs p i)
   value-same p i l h = go (decLt i (usedOf xs p))
@@ -116,7 +120,8 @@ module _ (xs ys : List ℕ) (f : Formed xs) (g : Formed ys) (bx : AllBytes xs) (
           ∙ value-is ys p i (omega (arith, count-is ys p, used-same p)) ∙ ap (le 4 ys) (value-place p i)
       go (no n) =
           f .filled p l .blank-values i (omega arith) h
-          ∙ sym (ap (le 4 ys) (sym (value-place p i)) ∙ g .filled p (omega (arith, parts-same)) .blank-values i (omega (arith, used-same p)) (omega (arith, cap-same)))
+          ∙ sym (ap (le 4 ys) (sym (value-place p i))
+          ∙ g .filled p (omega (arith, parts-same)) .blank-values i (omega (arith, used-same p)) (omega (arith, cap-same)))
 
   abbrev all : ℕ
   all = (partsOf xs + 1) * capOf xs
@@ -141,7 +146,8 @@ module _ (xs ys : List ℕ) (f : Formed xs) (g : Formed ys) (bx : AllBytes xs) (
       ext-getD 0 _ _ (length-fields 4 xs _ all ∙ sym (length-fields 4 ys _ all))
       (λ q h. let l : q < all = omega (arith, length-fields 4 xs (valuesFrom (partsOf xs) (capOf xs)) all) in
       let s = split (capOf xs) (partsOf xs) q l in
-      getD-fields 4 xs (valuesFrom (partsOf xs) (capOf xs)) all q (valueAt xs (s .0) (s .1)) l (omega (arith, s .4)) ∙ value-same (s .0) (s .1) (s .2) (s .3)
+      getD-fields 4 xs (valuesFrom (partsOf xs) (capOf xs)) all q (valueAt xs (s .0) (s .1)) l (omega (arith, s .4))
+      ∙ value-same (s .0) (s .1) (s .2) (s .3)
       ∙ sym (getD-fields 4 ys (valuesFrom (partsOf xs) (capOf xs)) all q (valueAt xs (s .0) (s .1)) l (omega (arith, s .4))))
 
   -- stores that hold the same have the same bytes
@@ -150,12 +156,14 @@ module _ (xs ys : List ℕ) (f : Formed xs) (g : Formed ys) (bx : AllBytes xs) (
       ext-getD 0 xs ys (f .shape .size ∙ ap₂ sizeOf parts-same cap-same ∙ sym (g .shape .size))
       (λ j h. go j h (decLt j 1) (decLt j 3) (decLt j (keysFrom (partsOf xs))) (decLt j (valuesFrom (partsOf xs) (capOf xs))))
     where
-      go : (j : ℕ) → j < length xs → Dec (j < 1) → Dec (j < 3) → Dec (j < keysFrom (partsOf xs)) → Dec (j < valuesFrom (partsOf xs) (capOf xs)) → getD xs j 0 ≡ getD ys j 0
+      go : (j : ℕ) → j < length xs → Dec (j < 1) → Dec (j < 3) → Dec (j < keysFrom (partsOf xs)) →
+          Dec (j < valuesFrom (partsOf xs) (capOf xs)) → getD xs j 0 ≡ getD ys j 0
       go j h (yes a) b c d = le-bytes 1 xs ys 0 bx by parts-same j (omega arith) (omega arith)
       go j h (no a) (yes b) c d = le-bytes 2 xs ys 1 bx by cap-same j (omega arith) (omega arith)
       go j h (no a) (no b) (yes c) d = fields-bytes 2 (partsOf xs + 1) xs ys 3 bx by used-fields j (omega arith) (omega arith)
       go j h (no a) (no b) (no c) (yes d) = fields-bytes 8 all xs ys (keysFrom (partsOf xs)) bx by key-fields j (omega arith) (omega arith)
-      go j h (no a) (no b) (no c) (no d) = fields-bytes 4 all xs ys (valuesFrom (partsOf xs) (capOf xs)) bx by value-fields j (omega arith) (omega (arith, f .shape .size))
+      go j h (no a) (no b) (no c) (no d) =
+          fields-bytes 4 all xs ys (valuesFrom (partsOf xs) (capOf xs)) bx by value-fields j (omega arith) (omega (arith, f .shape .size))
 
 -- Stores with the same P and C whose rows are by rising key and the same by key have the same bytes.
 pub equal-bytes : (xs ys : List ℕ) → Formed xs → Formed ys → AllBytes xs → AllBytes ys → partsOf xs ≡ partsOf ys → capOf xs ≡ capOf ys

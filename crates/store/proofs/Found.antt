@@ -1,4 +1,4 @@
--- The search for a key: what it comes to key by key, and that a reading of all rising keys comes to the same. Assumes nothing.
+-- The search for a key: what it comes to key by key, and that a reading of all rising keys comes to the same.
 use mathlib.Core.Bool.{Bool, true, false}
 use mathlib.Core.List.{List, [], _∷_, _++_}
 use mathlib.Core.Path.{_≡_, refl, sym, ap, _∙_}
@@ -51,7 +51,8 @@ found-later : (k x : ℕ) (ks : List ℕ) → x < k → foundIn k (x ∷ ks) ≡
 unfolding foundIn member indexOf smaller shift
 found-later k x ks l = rw (ne-eqb x k (omega arith), lt-ltb x k l) (go (member k ks))
   where
-    go : (b : Bool) → if_then_else_ b (At (suc (indexOf k ks))) (Belongs (1 + smaller k ks)) ≡ shift 1 (if_then_else_ b (At (indexOf k ks)) (Belongs (smaller k ks)))
+    go : (b : Bool) → if_then_else_ b (At (suc (indexOf k ks))) (Belongs (1 + smaller k ks)) ≡ shift 1
+        (if_then_else_ b (At (indexOf k ks)) (Belongs (smaller k ks)))
     go true = ap At (omega arith)
     go false = refl
 
@@ -94,7 +95,8 @@ unfolding upTo
 read-is k [] = unfold foundIn sought member smaller in refl
 read-is k (x ∷ ks) = go (read-is k ks) (ltb x k) refl (eqb x k) refl
   where
-    go : foundIn k (upTo k ks) ≡ sought k ks → (b : Bool) → ltb x k ≡ b → (c : Bool) → eqb x k ≡ c → foundIn k (upTo k (x ∷ ks)) ≡ sought k (x ∷ ks)
+    go : foundIn k (upTo k ks) ≡ sought k ks → (b : Bool) → ltb x k ≡ b → (c : Bool) → eqb x k ≡ c →
+        foundIn k (upTo k (x ∷ ks)) ≡ sought k (x ∷ ks)
     go ih true e c f = let l : x < k = ltb-true x k e in rw e (found-later k x (upTo k ks) l ∙ ap (shift 1) ih ∙ sym (sought-more k x ks l))
     go ih false e true f = let q : x ≡ k = eqb-true x k f in rw e (found-here k x [] q ∙ sym (sought-here k x ks q))
     go ih false e false f =
@@ -128,7 +130,8 @@ searched k ks found e =
     record {
       all = λ u. e ∙ sym (all-is k ks u);
       read = e ∙ sym (read-is k ks);
-      behind = λ low more other g l same u. e ∙ ap (sought k) same ∙ sought-behind k g low more other l ∙ sym (all-is k (low ++ g ∷ other) u);
+      behind = λ low more other g l same u. e ∙ ap (sought k) same ∙ sought-behind k g low more other l
+          ∙ sym (all-is k (low ++ g ∷ other) u);
     }
 
 -- ---- keys that lie in bytes, one behind the other
@@ -167,7 +170,8 @@ unfolding keysIn rankOf
 ended-rank k [] = unfold endedAt sought in refl
 ended-rank k (r ∷ rs) = go (ended-rank k rs) (ltb (r .0) k) refl (eqb (r .0) k) refl
   where
-    go : endedAt (sought k (keysIn rs)) ≡ rankOf k rs → (b : Bool) → ltb (r .0) k ≡ b → (c : Bool) → eqb (r .0) k ≡ c → endedAt (sought k (r .0 ∷ keysIn rs)) ≡ rankOf k (r ∷ rs)
+    go : endedAt (sought k (keysIn rs)) ≡ rankOf k rs → (b : Bool) → ltb (r .0) k ≡ b → (c : Bool) → eqb (r .0) k ≡ c →
+        endedAt (sought k (r .0 ∷ keysIn rs)) ≡ rankOf k (r ∷ rs)
     go ih true e c f = rw (e, sought-more k (r .0) (keysIn rs) (ltb-true (r .0) k e)) (ended-more (sought k (keysIn rs)) ∙ ap suc ih)
     go ih false e true f = rw (e, sought-here k (r .0) (keysIn rs) (eqb-true (r .0) k f)) (unfold endedAt in refl)
     go ih false e false f =
@@ -178,12 +182,14 @@ unfolding keysIn rankOf
 found-first-has k [] = unfold rowsFound sought firstHas in refl
 found-first-has k (r ∷ rs) = go (found-first-has k rs) (ltb (r .0) k) refl (eqb (r .0) k) refl
   where
-    go : rowsFound (sought k (keysIn rs)) ≡ firstHas k (drop (rankOf k rs) rs) → (b : Bool) → ltb (r .0) k ≡ b → (c : Bool) → eqb (r .0) k ≡ c
+    go : rowsFound (sought k (keysIn rs)) ≡ firstHas k (drop (rankOf k rs) rs) → (b : Bool) → ltb (r .0) k ≡ b → (c : Bool) →
+        eqb (r .0) k ≡ c
         → rowsFound (sought k (r .0 ∷ keysIn rs)) ≡ firstHas k (drop (rankOf k (r ∷ rs)) (r ∷ rs))
     go ih true e c f = rw (e, sought-more k (r .0) (keysIn rs) (ltb-true (r .0) k e)) (found-more (sought k (keysIn rs)) ∙ ih)
     go ih false e true f = rw (e, sought-here k (r .0) (keysIn rs) (eqb-true (r .0) k f)) (unfold rowsFound firstHas in rw f refl)
     go ih false e false f =
-        rw (e, sought-first k (r .0) (keysIn rs) (omega (arith, ltb-false (r .0) k e, eqb-false (r .0) k f))) (unfold rowsFound firstHas in rw f refl)
+        rw (e, sought-first k (r .0) (keysIn rs) (omega (arith, ltb-false (r .0) k e, eqb-false (r .0) k f)))
+        (unfold rowsFound firstHas in rw f refl)
 
 module _ (k : ℕ) (rs : List Row) (f : Found) (s : Searched k (keysIn rs) f) where
   is-sought : f ≡ sought k (keysIn rs)
@@ -204,4 +210,5 @@ module _ (k : ℕ) (rs : List Row) (u : rising (keysIn rs) ≡ true) (i : ℕ) (
   belongs-at = unfold endedAt in (sym (ap endedAt not-found) ∙ ended-rank k rs)
 
   pub none-first : 0 ≡ firstHas k (drop i rs)
-  none-first = unfold rowsFound in (sym (ap rowsFound not-found) ∙ found-first-has k rs ∙ ap (λ (n : ℕ). firstHas k (drop n rs)) (sym belongs-at))
+  none-first = unfold rowsFound in
+      (sym (ap rowsFound not-found) ∙ found-first-has k rs ∙ ap (λ (n : ℕ). firstHas k (drop n rs)) (sym belongs-at))

@@ -1,23 +1,33 @@
--- The rows of a store by its partitions' bytes: a change of one partition's bytes is a change of its rows. Assumes nothing.
+-- The rows of a store by its partitions' bytes, and question 11 by them: a change of one partition's bytes is a change of its rows, and
+-- question 11 of it is that of the new bytes, wherever they lie.
+use mathlib.Core.Bool.{Bool}
 use mathlib.Core.List.{List, _∷_, _++_}
 use mathlib.Core.Logic.{_≢_}
 use mathlib.Core.Path.{_≡_, refl, sym, ap, ap₂, subst, _∙_}
-use Prim.Native.Nat.{ℕ, zero, suc, _+_, _*_, _≤_, _<_}
+use Prim.Native.Nat.{ℕ, zero, suc, _+_, _-_, _*_, _≤_, _<_}
 use native.Mathlib.Decide.{decLe, ℕ-discrete}
 use native.Mathlib.Nat.{suc-mul, add-zero}
 use native.Mathlib.Omega.{arith}
+use borrow.Author.Tests.{lt-leb}
+use lib.Dec.{eqb}
 use lib.ListN.{length, getD, drop, length-take, length-drop, List·getD-append}
 use lib.Seq.{getD-take, getD-drop, getD-append-add}
 use Rattle.words.specs.Words as Words
 use Rattle.words.specs.Words.{le, fields}
 use Rattle.words.proofs.Laws.{le-same}
+use Rattle.questions.specs.Basics.{eachFrom}
 use Rattle.store.specs.Layout.{partsOf, capOf, sizeOf, keysFrom, valuesFrom, usedAt, keyAt, valueAt, usedOf}
 use Rattle.store.specs.Rows.{Row, pairs, rowsOf, storeOf, alter}
+use Rattle.store.specs.Questions.{blankRow, partOkAt, partOkBy}
 use Rattle.store.specs.Sound.{Shape, Filled, Formed, Changed}
 use Rattle.store.proofs.Bytes.{used-here, used-past, past-rows}
 use Rattle.store.proofs.Lists.{altered}
 use Rattle.store.specs.Parts.{keysAt, valuesAt, piece, partSize, bytesIn, withPart, usedHeld, firstRows, rowsHeld, Holds}
 use Rattle.store.proofs.Parts.{keys-fit, values-fit, length-with, with-here, with-there, with-head}
+
+-- 11 of a partition's bytes by themselves
+abbrev pub partOkHeld : (keys : Bool → List ℕ → Bool) → (book : Bool) → (C : ℕ) → (bs : List ℕ) → Bool
+partOkHeld keys b C bs = partOkAt keys b bs C (usedHeld bs) 2 (2 + 8 * C)
 
 -- ---- the same bytes at other places
 
@@ -27,23 +37,63 @@ le-shift zero xs ys at to h = refl
 le-shift (suc w) xs ys at to h =
     ap₂ (λ (a b : ℕ). a + 256 * b)
     (ap (λ (i : ℕ). getD xs i 0) (sym (add-zero at)) ∙ h 0 (omega arith) ∙ ap (λ (i : ℕ). getD ys i 0) (add-zero to))
-    (le-shift w xs ys (at + 1) (to + 1) (λ i l. ap (λ (j : ℕ). getD xs j 0) (one at i) ∙ h (suc i) (omega arith) ∙ ap (λ (j : ℕ). getD ys j 0) (sym (one to i))))
+    (le-shift w xs ys (at + 1) (to + 1)
+    (λ i l. ap (λ (j : ℕ). getD xs j 0) (one at i) ∙ h (suc i) (omega arith) ∙ ap (λ (j : ℕ). getD ys j 0) (sym (one to i))))
   where
     one : (a i : ℕ) → a + 1 + i ≡ a + suc i
     one a i = omega arith
 
-pub fields-shift : (w n : ℕ) (xs ys : List ℕ) (at to : ℕ) → ((i : ℕ) → i < n * w → getD xs (at + i) 0 ≡ getD ys (to + i) 0) → fields w xs at n ≡ fields w ys to n
+pub fields-shift : (w n : ℕ) (xs ys : List ℕ) (at to : ℕ) → ((i : ℕ) → i < n * w → getD xs (at + i) 0 ≡ getD ys (to + i) 0) →
+    fields w xs at n ≡ fields w ys to n
 unfolding Words.fields
 fields-shift w zero xs ys at to h = refl
 fields-shift w (suc n) xs ys at to h =
     ap₂ _∷_ (le-shift w xs ys at to (λ i l. h i (omega (arith, suc-mul n w))))
-    (fields-shift w n xs ys (at + w) (to + w) (λ i l. ap (λ (j : ℕ). getD xs j 0) (more at i) ∙ h (w + i) (omega (arith, suc-mul n w)) ∙ ap (λ (j : ℕ). getD ys j 0) (sym (more to i))))
+    (fields-shift w n xs ys (at + w) (to + w)
+    (λ i l. ap (λ (j : ℕ). getD xs j 0) (more at i) ∙ h (w + i) (omega (arith, suc-mul n w))
+    ∙ ap (λ (j : ℕ). getD ys j 0) (sym (more to i))))
   where
     more : (a i : ℕ) → a + w + i ≡ a + (w + i)
     more a i = omega arith
 
 sum : (a b c : ℕ) → a + b + c ≡ a + (b + c)
 sum a b c = omega arith
+
+-- ---- question 11 goes by the bytes of a partition, wherever they lie
+
+each-same : (f g : ℕ → Bool) (m i : ℕ) → ((j : ℕ) → j < i + m → f j ≡ g j) → eachFrom f m i ≡ eachFrom g m i
+unfolding eachFrom
+each-same f g zero i h = refl
+each-same f g (suc m) i h = rw (h i (omega arith), each-same f g m (i + 1) (λ j l. h j (omega arith))) refl
+
+module _ (xs ys : List ℕ) (C k v k′ v′ : ℕ) (hk : (i : ℕ) → i < 8 * C → getD xs (k + i) 0 ≡ getD ys (k′ + i) 0)
+    (hv : (i : ℕ) → i < 4 * C → getD xs (v + i) 0 ≡ getD ys (v′ + i) 0) where
+  same-key : (i : ℕ) → i < C → le 8 xs (k + 8 * i) ≡ le 8 ys (k′ + 8 * i)
+  same-key i h =
+      le-shift 8 xs ys (k + 8 * i) (k′ + 8 * i)
+      (λ j l. ap (λ (m : ℕ). getD xs m 0) (sum k (8 * i) j) ∙ hk (8 * i + j) (omega arith)
+      ∙ ap (λ (m : ℕ). getD ys m 0) (sym (sum k′ (8 * i) j)))
+
+  same-value : (i : ℕ) → i < C → le 4 xs (v + 4 * i) ≡ le 4 ys (v′ + 4 * i)
+  same-value i h =
+      le-shift 4 xs ys (v + 4 * i) (v′ + 4 * i)
+      (λ j l. ap (λ (m : ℕ). getD xs m 0) (sum v (4 * i) j) ∙ hv (4 * i + j) (omega arith)
+      ∙ ap (λ (m : ℕ). getD ys m 0) (sym (sum v′ (4 * i) j)))
+
+  same-blank : (i : ℕ) → i < C → blankRow xs k v i ≡ blankRow ys k′ v′ i
+  unfolding blankRow
+  same-blank i h = rw (same-key i h, same-value i h) refl
+
+  pub part-elsewhere : (keys : Bool → List ℕ → Bool) (b : Bool) (n : ℕ) → partOkAt keys b xs C n k v ≡ partOkAt keys b ys C n k′ v′
+  unfolding partOkAt
+  part-elsewhere keys b n = go (decLe n C)
+    where
+      go : Dec (n ≤ C) → partOkAt keys b xs C n k v ≡ partOkAt keys b ys C n k′ v′
+      go (yes h) =
+          let q = fields-shift 8 n xs ys k k′ (λ i l. hk i (omega arith)) in
+          let e = each-same (blankRow xs k v) (blankRow ys k′ v′) (C - n) n (λ j l. same-blank j (omega arith)) in
+          rw (q, e) refl
+      go (no h) = rw (lt-leb n C (omega arith)) refl
 
 -- ---- a partition's bytes, byte by byte
 
@@ -79,13 +129,15 @@ module _ (P C p : ℕ) (xs : List ℕ) (l : p ≤ P) (s : length xs ≡ sizeOf P
   unfolding bytesIn
   at-keys i h =
       let z : 2 + i ≡ length a₁ + i = omega (arith, n₁) in
-      ap (λ (j : ℕ). getD (a₁ ++ (a₂ ++ a₃)) j 0) z ∙ getD-append-add a₁ (a₂ ++ a₃) i 0 ∙ List·getD-append a₂ a₃ 0 i (omega (arith, n₂)) ∙ in-piece (8 * C) (keysAt P C p) i h
+      ap (λ (j : ℕ). getD (a₁ ++ (a₂ ++ a₃)) j 0) z ∙ getD-append-add a₁ (a₂ ++ a₃) i 0 ∙ List·getD-append a₂ a₃ 0 i (omega (arith, n₂))
+      ∙ in-piece (8 * C) (keysAt P C p) i h
 
   at-values : (i : ℕ) → i < 4 * C → getD (bytesIn P C p xs) (2 + 8 * C + i) 0 ≡ getD xs (valuesAt P C p + i) 0
   unfolding bytesIn
   at-values i h =
       let z : 2 + 8 * C + i ≡ length a₁ + (length a₂ + i) = omega (arith, n₁, n₂) in
-      ap (λ (j : ℕ). getD (a₁ ++ (a₂ ++ a₃)) j 0) z ∙ getD-append-add a₁ (a₂ ++ a₃) (length a₂ + i) 0 ∙ getD-append-add a₂ a₃ i 0 ∙ in-piece (4 * C) (valuesAt P C p) i h
+      ap (λ (j : ℕ). getD (a₁ ++ (a₂ ++ a₃)) j 0) z ∙ getD-append-add a₁ (a₂ ++ a₃) (length a₂ + i) 0 ∙ getD-append-add a₂ a₃ i 0
+      ∙ in-piece (4 * C) (valuesAt P C p) i h
 
   pub used-by : usedHeld (bytesIn P C p xs) ≡ le 2 xs (usedAt p)
   used-by = le-shift 2 (bytesIn P C p xs) xs 0 (usedAt p) at-used
@@ -110,14 +162,29 @@ module _ (P C p : ℕ) (xs : List ℕ) (l : p ≤ P) (s : length xs ≡ sizeOf P
       ∙ ap (λ (m : ℕ). getD xs m 0) (sym (sum (valuesAt P C p) (4 * i) j)))
 
 -- The rows of a partition are those that its bytes hold.
-pub rows-by : (xs : List ℕ) (p : ℕ) → Shape xs → p ≤ partsOf xs → usedOf xs p ≤ capOf xs → rowsOf xs p ≡ rowsHeld (capOf xs) (bytesIn (partsOf xs) (capOf xs) p xs)
+pub rows-by : (xs : List ℕ) (p : ℕ) → Shape xs → p ≤ partsOf xs → usedOf xs p ≤ capOf xs →
+    rowsOf xs p ≡ rowsHeld (capOf xs) (bytesIn (partsOf xs) (capOf xs) p xs)
 unfolding rowsOf firstRows
 rows-by xs p s l fit =
     let u = used-here xs p l ∙ sym (used-by (partsOf xs) (capOf xs) p xs l (s .size)) in
     let n : usedHeld (bytesIn (partsOf xs) (capOf xs) p xs) ≤ capOf xs = omega (arith, u, fit) in
     let k : keyAt xs p 0 ≡ keysAt (partsOf xs) (capOf xs) p = omega arith in
     let v : valueAt xs p 0 ≡ valuesAt (partsOf xs) (capOf xs) p = omega arith in
-    rw (u, k, v) (sym (ap₂ pairs (keys-by (partsOf xs) (capOf xs) p xs l (s .size) _ n) (values-by (partsOf xs) (capOf xs) p xs l (s .size) _ n)))
+    rw (u, k, v) (sym (ap₂ pairs (keys-by (partsOf xs) (capOf xs) p xs l (s .size) _ n)
+    (values-by (partsOf xs) (capOf xs) p xs l (s .size) _ n)))
+
+-- Question 11 of a partition is that of its bytes by themselves.
+pub part-by : (keys : Bool → List ℕ → Bool) (xs : List ℕ) (p : ℕ) → Shape xs → p ≤ partsOf xs
+    → partOkBy keys xs p ≡ partOkHeld keys (eqb p (partsOf xs)) (capOf xs) (bytesIn (partsOf xs) (capOf xs) p xs)
+unfolding partOkBy
+part-by keys xs p s l =
+    let bs = bytesIn (partsOf xs) (capOf xs) p xs in
+    let u : usedOf xs p ≡ usedHeld bs = used-here xs p l ∙ sym (used-by (partsOf xs) (capOf xs) p xs l (s .size)) in
+    let k : keyAt xs p 0 ≡ keysAt (partsOf xs) (capOf xs) p = omega arith in
+    let v : valueAt xs p 0 ≡ valuesAt (partsOf xs) (capOf xs) p = omega arith in
+    rw (u, k, v)
+    (part-elsewhere xs bs (capOf xs) _ _ _ _ (λ i h. sym (at-keys (partsOf xs) (capOf xs) p xs l (s .size) i h))
+    (λ i h. sym (at-values (partsOf xs) (capOf xs) p xs l (s .size) i h)) keys (eqb p (partsOf xs)) (usedHeld bs))
 
 -- ---- a change of a partition's bytes is one of its rows
 
@@ -172,7 +239,8 @@ module _ (xs : List ℕ) (p : ℕ) (bs : List ℕ) (s : Shape xs) (l : p ≤ par
     where
       go : Dec (q ≤ P) → usedOf ys q ≡ usedOf xs q
       go (yes h) =
-          used-here ys q (omega (arith, numbers .0)) ∙ sym (used-by P C q ys h size-ys) ∙ ap usedHeld (with-there P C p bs xs l long (s .size) q h n)
+          used-here ys q (omega (arith, numbers .0)) ∙ sym (used-by P C q ys h size-ys)
+          ∙ ap usedHeld (with-there P C p bs xs l long (s .size) q h n)
           ∙ used-by P C q xs h (s .size) ∙ sym (used-here xs q h)
       go (no h) = used-past ys q (omega (arith, numbers .0)) ∙ sym (used-past xs q (omega arith))
 
@@ -189,15 +257,32 @@ module _ (xs : List ℕ) (p : ℕ) (bs : List ℕ) (s : Shape xs) (l : p ≤ par
 
   -- The store with p's bytes changed holds the store with p's rows changed.
   pub with-store : usedHeld bs ≤ C → ((q : ℕ) → q ≤ P → usedOf xs q ≤ C) → storeOf ys ≡ alter p (λ rs. rowsHeld C bs) (storeOf xs)
-  with-store fit fits = altered (storeOf xs) (storeOf ys) p (λ rs. rowsHeld C bs) (numbers .0) (numbers .1) (rows-here fit) (λ q n. rows-there q n fits)
+  with-store fit fits =
+      altered (storeOf xs) (storeOf ys) p (λ rs. rowsHeld C bs) (numbers .0) (numbers .1) (rows-here fit) (λ q n. rows-there q n fits)
+
+  -- Question 11 of p is that of bs, wherever they lie, and of every other partition what it was.
+  pub part-here : (keys : Bool → List ℕ → Bool) → partOkBy keys ys p ≡ partOkHeld keys (eqb p P) C bs
+  part-here keys =
+      part-by keys ys p with-shape (omega (arith, numbers .0))
+      ∙ ap₂ (λ (a b : ℕ). partOkHeld keys (eqb p a) b (bytesIn a b p ys)) (numbers .0) (numbers .1)
+      ∙ ap (partOkHeld keys (eqb p P) C) (with-here P C p bs xs l long (s .size))
+
+  pub part-there : (keys : Bool → List ℕ → Bool) (q : ℕ) → q ≤ P → q ≢ p → partOkBy keys ys q ≡ partOkBy keys xs q
+  part-there keys q h n =
+      part-by keys ys q with-shape (omega (arith, numbers .0))
+      ∙ ap₂ (λ (a b : ℕ). partOkHeld keys (eqb q a) b (bytesIn a b q ys)) (numbers .0) (numbers .1)
+      ∙ ap (partOkHeld keys (eqb q P) C) (with-there P C p bs xs l long (s .size) q h n)
+      ∙ sym (part-by keys xs q s h)
 
   key-now : (q : ℕ) → q ≤ P → (i : ℕ) → i < C → le 8 ys (keyAt ys q i) ≡ le 8 (bytesIn P C q ys) (2 + 8 * i)
   key-now q h i k =
-      ap (le 8 ys) (ap₂ (λ (a b : ℕ). keysFrom a + 8 * (q * b + i)) (numbers .0) (numbers .1) ∙ omega arith) ∙ sym (key-by P C q ys h size-ys i k)
+      ap (le 8 ys) (ap₂ (λ (a b : ℕ). keysFrom a + 8 * (q * b + i)) (numbers .0) (numbers .1) ∙ omega arith)
+      ∙ sym (key-by P C q ys h size-ys i k)
 
   value-now : (q : ℕ) → q ≤ P → (i : ℕ) → i < C → le 4 ys (valueAt ys q i) ≡ le 4 (bytesIn P C q ys) (2 + 8 * C + 4 * i)
   value-now q h i k =
-      ap (le 4 ys) (ap₂ (λ (a b : ℕ). valuesFrom a b + 4 * (q * b + i)) (numbers .0) (numbers .1) ∙ omega arith) ∙ sym (value-by P C q ys h size-ys i k)
+      ap (le 4 ys) (ap₂ (λ (a b : ℕ). valuesFrom a b + 4 * (q * b + i)) (numbers .0) (numbers .1) ∙ omega arith)
+      ∙ sym (value-by P C q ys h size-ys i k)
 
   -- p's unused rows are zero, and the others' stay so
   filled-here : (n : ℕ) (rs : List Row) → Holds C bs n rs → usedHeld bs ≡ n → Filled ys p
@@ -205,10 +290,12 @@ module _ (xs : List ℕ) (p : ℕ) (bs : List ℕ) (s : Shape xs) (l : p ≤ par
       record {
         fit = omega (arith, used-new, e, f .fit, numbers .1);
         blank-keys =
-            λ i a b. key-now p l i (omega (arith, numbers .1)) ∙ ap (λ (t : List ℕ). le 8 t (2 + 8 * i)) (with-here P C p bs xs l long (s .size))
+            λ i a b. key-now p l i (omega (arith, numbers .1))
+            ∙ ap (λ (t : List ℕ). le 8 t (2 + 8 * i)) (with-here P C p bs xs l long (s .size))
             ∙ f .blank-keys i (omega (arith, used-new, e)) (omega (arith, numbers .1));
         blank-values =
-            λ i a b. value-now p l i (omega (arith, numbers .1)) ∙ ap (λ (t : List ℕ). le 4 t (2 + 8 * C + 4 * i)) (with-here P C p bs xs l long (s .size))
+            λ i a b. value-now p l i (omega (arith, numbers .1))
+            ∙ ap (λ (t : List ℕ). le 4 t (2 + 8 * C + 4 * i)) (with-here P C p bs xs l long (s .size))
             ∙ f .blank-values i (omega (arith, used-new, e)) (omega (arith, numbers .1));
       }
 
@@ -231,7 +318,10 @@ pub with-changed : (xs : List ℕ) (p : ℕ) (bs : List ℕ) (n : ℕ) (rs : Lis
     usedHeld bs ≡ n → Changed xs (withPart (partsOf xs) (capOf xs) p bs xs) p (λ old. rs)
 with-changed xs p bs n rs f l h e =
     record {
-      formed = record { shape = with-shape xs p bs (f .shape) l (h .long); filled = λ q k. filled q (omega (arith, k, same)) (ℕ-discrete q p) };
+      formed = record {
+        shape = with-shape xs p bs (f .shape) l (h .long);
+        filled = λ q k. filled q (omega (arith, k, same)) (ℕ-discrete q p);
+      };
       is =
           with-store xs p bs (f .shape) l (h .long) (omega (arith, e, h .fit)) (λ q k. f .filled q k .fit)
           ∙ ap (λ (now : List Row). alter p (λ old. now) (storeOf xs)) (ap (firstRows (capOf xs) bs) e ∙ h .rows);

@@ -1,4 +1,4 @@
--- Laws of rows and of parts of arrays, with no word of bytes. Assumes nothing.
+-- Laws of rows and of parts of arrays, with no word of bytes.
 use mathlib.Core.Bool.{Bool, true, false}
 use mathlib.Core.List.{List, [], _∷_}
 use mathlib.Core.Logic.{_≢_}
@@ -15,7 +15,8 @@ use Rattle.words.specs.Words.{le, fields}
 use Rattle.questions.specs.Basics.{if_then_else_}
 use Rattle.questions.proofs.Tests.{and-left, and-right, and-both}
 use Rattle.store.specs.Questions.{keysApart, ahead, rising, keysOk}
-use Rattle.store.specs.Rows.{Row, keysIn, pairs, lookup, placeOf, indexOf, rankOf, rankIn, setValue, insertAt, putRow, newRows, Store, alter}
+use Rattle.store.specs.Rows.{Row, keysIn, pairs, lookup, placeOf, indexOf, rankOf, rankIn, setValue, insertAt, putRow, newRows}
+use Rattle.store.specs.Rows.{Store, alter}
 
 -- ---- row numbers: row i of partition p of C rows each is p * C + i
 
@@ -84,7 +85,8 @@ pub index-hit : (k : ℕ) (w : ℕ) (xs : List ℕ) (o m n : ℕ) → m ≡ suc 
 unfolding indexOf fields
 index-hit k w xs o m n e h = rw (e, eq-eqb (le w xs o) k h) refl
 
-pub index-miss : (k : ℕ) (w : ℕ) (xs : List ℕ) (o m n : ℕ) → m ≡ suc n → (le w xs o ≡ k → ⊥) → indexOf k (fields w xs o m) ≡ suc (indexOf k (fields w xs (o + w) n))
+pub index-miss : (k : ℕ) (w : ℕ) (xs : List ℕ) (o m n : ℕ) → m ≡ suc n → (le w xs o ≡ k → ⊥) →
+    indexOf k (fields w xs o m) ≡ suc (indexOf k (fields w xs (o + w) n))
 unfolding indexOf fields
 index-miss k w xs o m n e h = rw (e, ne-eqb (le w xs o) k h) refl
 
@@ -161,7 +163,8 @@ rises-below k x (r ∷ rs) u h = go (rises-below k (r .0) rs (and-right (ltb x (
     go ih false e = omega (arith, low, ih (le-of-suc-le-suc (rw e at h)))
 
 -- a value put at a key: in its row, or in one more where it belongs
-pub put-found : (k v : ℕ) (rs : List Row) → rising (keysIn rs) ≡ true → placeOf k rs < length rs → putRow k v rs ≡ setValue rs (placeOf k rs) v
+pub put-found : (k v : ℕ) (rs : List Row) → rising (keysIn rs) ≡ true → placeOf k rs < length rs →
+    putRow k v rs ≡ setValue rs (placeOf k rs) v
 unfolding placeOf putRow setValue keysIn rising
 put-found k v [] u h = absurd (omega arith)
 put-found k v (r ∷ rs) u h = go (put-found k v rs (and-right (ahead (r .0) (keysIn rs)) _ u)) (eqb (r .0) k) refl
@@ -179,12 +182,14 @@ unfolding placeOf putRow insertAt rankOf
 put-missed k v [] h = refl
 put-missed k v (r ∷ rs) h = go (put-missed k v rs) (eqb (r .0) k) refl (ltb k (r .0)) refl
   where
-    go : (length rs ≤ placeOf k rs → putRow k v rs ≡ insertAt rs (rankOf k rs) (k, v)) → (b : Bool) → eqb (r .0) k ≡ b → (c : Bool) → ltb k (r .0) ≡ c
+    go : (length rs ≤ placeOf k rs → putRow k v rs ≡ insertAt rs (rankOf k rs) (k, v)) → (b : Bool) → eqb (r .0) k ≡ b → (c : Bool) →
+        ltb k (r .0) ≡ c
         → putRow k v (r ∷ rs) ≡ insertAt (r ∷ rs) (rankOf k (r ∷ rs)) (k, v)
     go ih true e c f = absurd (not-suc-le-zero (rw e at h))
     go ih false e true f = rw (e, f, le-ltb (r .0) k (omega (arith, ltb-true k (r .0) f))) refl
     go ih false e false f =
-        rw (e, f, lt-ltb (r .0) k (omega (arith, ltb-false k (r .0) f, eqb-false (r .0) k e))) (ap (_∷_ r) (ih (le-of-suc-le-suc (rw e at h))))
+        rw (e, f, lt-ltb (r .0) k (omega (arith, ltb-false k (r .0) f, eqb-false (r .0) k e)))
+        (ap (_∷_ r) (ih (le-of-suc-le-suc (rw e at h))))
 
 -- what callers know of a put: the table, and the number of rows
 pub lookup-put-same : (k v : ℕ) (rs : List Row) → lookup k (putRow k v rs) ≡ some v
@@ -192,7 +197,8 @@ unfolding putRow lookup
 lookup-put-same k v [] = rw (eq-eqb k k refl) refl
 lookup-put-same k v (r ∷ rs) = go (lookup-put-same k v rs) (eqb (r .0) k) refl (ltb k (r .0)) refl
   where
-    go : lookup k (putRow k v rs) ≡ some v → (b : Bool) → eqb (r .0) k ≡ b → (c : Bool) → ltb k (r .0) ≡ c → lookup k (putRow k v (r ∷ rs)) ≡ some v
+    go : lookup k (putRow k v rs) ≡ some v → (b : Bool) → eqb (r .0) k ≡ b → (c : Bool) → ltb k (r .0) ≡ c →
+        lookup k (putRow k v (r ∷ rs)) ≡ some v
     go ih true e c f = rw (e, e) refl
     go ih false e true f = rw (e, f, eq-eqb k k refl) refl
     go ih false e false f = rw (e, f, e) ih
@@ -202,7 +208,8 @@ unfolding putRow lookup
 lookup-put-other k v j [] n = rw (ne-eqb k j (λ e. n (sym e))) refl
 lookup-put-other k v j (r ∷ rs) n = go (lookup-put-other k v j rs n) (eqb (r .0) k) refl (ltb k (r .0)) refl
   where
-    go : lookup j (putRow k v rs) ≡ lookup j rs → (b : Bool) → eqb (r .0) k ≡ b → (c : Bool) → ltb k (r .0) ≡ c → lookup j (putRow k v (r ∷ rs)) ≡ lookup j (r ∷ rs)
+    go : lookup j (putRow k v rs) ≡ lookup j rs → (b : Bool) → eqb (r .0) k ≡ b → (c : Bool) → ltb k (r .0) ≡ c →
+        lookup j (putRow k v (r ∷ rs)) ≡ lookup j (r ∷ rs)
     go ih true e c f = let other : eqb (r .0) j ≡ false = ne-eqb (r .0) j (λ q. n (sym q ∙ eqb-true (r .0) k e)) in rw (e, other) refl
     go ih false e true f = rw (e, f, ne-eqb k j (λ q. n (sym q))) refl
     go ih false e false f = rw (e, f) (ap (λ (o : Option ℕ). if_then_else_ (eqb (r .0) j) (some (r .1)) o) ih)
@@ -211,7 +218,9 @@ lookup-put-other k v j (r ∷ rs) n = go (lookup-put-other k v j rs n) (eqb (r .
 pub rises-lower : (k x : ℕ) (rs : List Row) → k < x → rising (x ∷ keysIn rs) ≡ true → rising (k ∷ keysIn rs) ≡ true
 unfolding rising ahead keysIn
 rises-lower k x [] l u = refl
-rises-lower k x (r ∷ rs) l u = and-both (ltb k (r .0)) _ (lt-ltb k (r .0) (omega (arith, ltb-true x (r .0) (and-left (ltb x (r .0)) _ u)))) (and-right (ltb x (r .0)) _ u)
+rises-lower k x (r ∷ rs) l u =
+    and-both (ltb k (r .0)) _ (lt-ltb k (r .0) (omega (arith, ltb-true x (r .0) (and-left (ltb x (r .0)) _ u))))
+    (and-right (ltb x (r .0)) _ u)
 
 -- a key below the first of rising keys has no row
 pub rises-none : (k : ℕ) (rs : List Row) → rising (k ∷ keysIn rs) ≡ true → lookup k rs ≡ none
@@ -226,7 +235,8 @@ unfolding putRow lookup newRows rising keysIn
 rows-after k v [] u = refl
 rows-after k v (r ∷ rs) u = go (rows-after k v rs (and-right (ahead (r .0) (keysIn rs)) _ u)) (eqb (r .0) k) refl (ltb k (r .0)) refl
   where
-    go : length (putRow k v rs) ≡ length rs + newRows (lookup k rs) → (b : Bool) → eqb (r .0) k ≡ b → (c : Bool) → ltb k (r .0) ≡ c → length (putRow k v (r ∷ rs)) ≡ length (r ∷ rs) + newRows (lookup k (r ∷ rs))
+    go : length (putRow k v rs) ≡ length rs + newRows (lookup k rs) → (b : Bool) → eqb (r .0) k ≡ b → (c : Bool) → ltb k (r .0) ≡ c →
+        length (putRow k v (r ∷ rs)) ≡ length (r ∷ rs) + newRows (lookup k (r ∷ rs))
     go ih true e c f = rw e (omega arith)
     go ih false e true f =
         let new : lookup k rs ≡ none = rises-none k rs (rises-lower k (r .0) rs (ltb-true k (r .0) f) u) in
@@ -234,6 +244,7 @@ rows-after k v (r ∷ rs) u = go (rows-after k v rs (and-right (ahead (r .0) (ke
     go ih false e false f = rw (e, f) (omega arith)
 
 -- The number of rows after a put among rising keys.
-pub length-put : (book : Bool) (k v : ℕ) (rs : List Row) → keysOk book (keysIn rs) ≡ true → length (putRow k v rs) ≡ length rs + newRows (lookup k rs)
+pub length-put : (book : Bool) (k v : ℕ) (rs : List Row) → keysOk book (keysIn rs) ≡ true →
+    length (putRow k v rs) ≡ length rs + newRows (lookup k rs)
 unfolding keysOk
 length-put book k v rs good = rows-after k v rs (and-right (keysApart book (keysIn rs)) _ good)

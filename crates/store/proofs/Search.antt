@@ -1,4 +1,4 @@
--- What a search's answer tells its caller, what a change tells of each part of the store, and puts one after the other. Assumes nothing.
+-- What a search's answer tells its caller, what a change tells of each part of the store, and puts one after the other.
 use mathlib.Core.Bool.{Bool, true, false}
 use mathlib.Core.List.{List, [], _∷_}
 use mathlib.Core.Logic.{_≢_}
@@ -24,8 +24,11 @@ unfolding member indexOf keysIn lookup
 member-lookup k [] m = let z : _≡_ {A = ℕ} 0 1 = cc in absurd (omega arith)
 member-lookup k (r ∷ rs) m = go (member-lookup k rs) (eqb (r .0) k) refl
   where
-    go : (member k (keysIn rs) ≡ true → (indexOf k (keysIn rs) < length rs) × (lookup k rs ≡ some (getD rs (indexOf k (keysIn rs)) (0, 0) .1))) →
-        (b : Bool) → eqb (r .0) k ≡ b → (indexOf k (keysIn (r ∷ rs)) < length (r ∷ rs)) × (lookup k (r ∷ rs) ≡ some (getD (r ∷ rs) (indexOf k (keysIn (r ∷ rs))) (0, 0) .1))
+    go : (member k (keysIn rs) ≡ true →
+        (indexOf k (keysIn rs) < length rs) × (lookup k rs ≡ some (getD rs (indexOf k (keysIn rs)) (0, 0) .1))) →
+        (b : Bool) → eqb (r .0) k ≡ b →
+        (indexOf k (keysIn (r ∷ rs)) < length (r ∷ rs))
+        × (lookup k (r ∷ rs) ≡ some (getD (r ∷ rs) (indexOf k (keysIn (r ∷ rs))) (0, 0) .1))
     go ih true e = rw e (omega arith, refl)
     go ih false e = let h = ih (rw e at m) in rw e (omega (arith, h .0), h .1)
 
@@ -63,12 +66,14 @@ module _ (k : ℕ) (rs : List Row) (i : ℕ) (e : foundIn k (keysIn rs) ≡ Belo
       go false t = no-member k rs t
 
 -- a change by g is one by h, where the two make the same of the rows
-pub changed-as : (xs ys : List ℕ) (p : ℕ) (g h : List Row → List Row) → Changed xs ys p g → g (rowsOf xs p) ≡ h (rowsOf xs p) → Changed xs ys p h
+pub changed-as : (xs ys : List ℕ) (p : ℕ) (g h : List Row → List Row) → Changed xs ys p g → g (rowsOf xs p) ≡ h (rowsOf xs p) →
+    Changed xs ys p h
 unfolding alter
 changed-as xs ys p g h c e =
     record {
       formed = c .formed;
-      is = c .is ∙ altered (storeOf xs) (alter p g (storeOf xs)) p h refl refl (alter-here p g (storeOf xs) ∙ e) (λ q n. alter-there p q g (storeOf xs) n);
+      is = c .is ∙ altered (storeOf xs) (alter p g (storeOf xs)) p h refl refl (alter-here p g (storeOf xs) ∙ e)
+          (λ q n. alter-there p q g (storeOf xs) n);
     }
 
 pub new-none : (o : Option ℕ) → o ≡ none → newRows o ≡ 1

@@ -1,19 +1,17 @@
--- What the tests of questions 9 to 12 mean: bytes that pass them are sound, and sound bytes pass them. A put keeps good keys good. Assumes
--- nothing.
+-- What the tests of questions 9 to 12 mean: bytes that pass them are sound, and sound bytes pass them. A put keeps good keys good.
 use mathlib.Core.Bool.{Bool, true, false, not, _&&_, _||_}
 use mathlib.Core.List.{List, [], _∷_}
-use mathlib.Core.Logic.{_≢_}
 use mathlib.Core.Option.{Option, none}
 use mathlib.Core.Path.{_≡_, refl, sym, ap, ap₂, subst, _∙_}
-use Prim.Native.Nat.{ℕ, zero, suc, _+_, _-_, _/_, _^_, _≤_, _<_}
+use Prim.Native.Nat.{ℕ, zero, suc, _+_, _-_, _*_, _/_, _^_, _≤_, _<_}
 use native.Mathlib.Omega.{arith}
 use native.Mathlib.Decide.{ℕ-discrete}
 use borrow.Author.Tests.{leb-true, eqb-true, eqb-false, le-leb, lt-leb, lt-ltb, ltb-true, ltb-false, eq-eqb, ne-eqb, not-true}
 use lib.Dec.{eqb, leb, ltb}
 use lib.ListN.{length, getD}
-use Rattle.words.specs.Words.{le}
+use Rattle.words.specs.Words.{le, fields}
 use Rattle.questions.specs.Basics.{eachFrom}
-use Rattle.keys.specs.Keys.{logKey, bookKey}
+use Rattle.keys.specs.Keys.{logKey, bookKey, isForm}
 use Rattle.questions.specs.Questions.{number}
 use Rattle.questions.proofs.Each.{each-at, each-all}
 use Rattle.keys.proofs.Keys.{log-is, log-no-data, book-is}
@@ -21,8 +19,11 @@ use Rattle.questions.proofs.Tests.{yes-no, and-left, and-right, and-both}
 use Rattle.questions.proofs.Questions.{ask-none, ask-yes}
 use Rattle.store.specs.Layout.{partsOf, capOf, sizeOf, keyAt, valueAt, usedOf}
 use Rattle.store.specs.Rows.{Row, Store, pairs, keysIn, lookup, rowsOf, storeOf, putRow, putAll, newRows, countNew, alter}
-use Rattle.store.specs.Questions.{numbersRight, question9, question10, isForm, member, unlike, keysApart, ahead, rising, keysOk, blankRow, partOkBy, partOk, question11, allIn, five, bookOk, question12, storeRefusal, createRefusal}
+use Rattle.store.specs.Questions.{member, unlike, keysApart, ahead, rising, keysOk, blankRow, partOkAt, partOkBy, partOk}
+use Rattle.store.specs.Questions.{allIn, five, bookOk, numbersRight, question9, question10, question11, question12}
+use Rattle.store.specs.Questions.{storeRefusal}
 use Rattle.store.specs.Sound.{Shape, Filled, KeysGood, Sound, Changed, Stored}
+use Rattle.store.proofs.Bytes.{rows-keys}
 use Rattle.store.proofs.Lists.{length-put, lookup-put-other, alter-here, alter-there}
 
 -- ---- questions 9 and 10
@@ -68,53 +69,98 @@ shape-ok xs a b = shape-of xs (and-right (leb 3 (length xs)) _ a) (eqb-true (len
 pub shape-passes : (xs : List ℕ) → Shape xs → (question9 xs ≡ true) × (question10 xs ≡ true)
 unfolding question9 question10
 shape-passes xs s = (
-  nine-numbers xs true (omega (arith, s .size)) (numbers-pass (partsOf xs) (capOf xs) (s .parts-low) (s .parts-high) (s .cap-low) (s .cap-high)),
+  nine-numbers xs true (omega (arith, s .size))
+      (numbers-pass (partsOf xs) (capOf xs) (s .parts-low) (s .parts-high) (s .cap-low) (s .cap-high)),
   eq-eqb (length xs) (sizeOf (partsOf xs) (capOf xs)) (s .size),
 )
 
 -- ---- question 11
 
--- the three tests of a partition, by what is asked of its keys
-module _ (keys : Bool → List ℕ → Bool) (xs : List ℕ) (p : ℕ) (e : partOkBy keys xs p ≡ true) where
-  fits : leb (usedOf xs p) (capOf xs) && keys (eqb p (partsOf xs)) (keysIn (rowsOf xs p)) ≡ true
-  unfolding partOkBy
-  fits = and-left _ (eachFrom (blankRow xs p) (capOf xs - usedOf xs p) (usedOf xs p)) e
+-- the three tests of a partition wherever it lies, by what is asked of its keys
+module _ (keys : Bool → List ℕ → Bool) (b : Bool) (xs : List ℕ) (C n k v : ℕ) where
+  module _ (e : partOkAt keys b xs C n k v ≡ true) where
+    fits : leb n C && keys b (fields 8 xs k n) ≡ true
+    unfolding partOkAt
+    fits = and-left _ (eachFrom (blankRow xs k v) (C - n) n) e
 
-  blanks : (i : ℕ) → usedOf xs p ≤ i → i < capOf xs → blankRow xs p i ≡ true
+    pub at-fit : n ≤ C
+    at-fit = leb-true n C (and-left (leb n C) _ fits)
+
+    pub at-keys : keys b (fields 8 xs k n) ≡ true
+    at-keys = and-right (leb n C) _ fits
+
+    blank : (i : ℕ) → n ≤ i → i < C → blankRow xs k v i ≡ true
+    unfolding partOkAt
+    blank i l h = each-at (blankRow xs k v) (C - n) n (and-right (leb n C && keys b (fields 8 xs k n)) _ e) i l (omega arith)
+
+    pub at-blank : (i : ℕ) → n ≤ i → i < C → (le 8 xs (k + 8 * i) ≡ 0) × (le 4 xs (v + 4 * i) ≡ 0)
+    unfolding blankRow
+    at-blank i l h = (
+      eqb-true (le 8 xs (k + 8 * i)) 0 (and-left (eqb (le 8 xs (k + 8 * i)) 0) _ (blank i l h)),
+      eqb-true (le 4 xs (v + 4 * i)) 0 (and-right (eqb (le 8 xs (k + 8 * i)) 0) _ (blank i l h)),
+    )
+
+  pub at-passes : n ≤ C → keys b (fields 8 xs k n) ≡ true
+      → ((i : ℕ) → n ≤ i → i < C → (le 8 xs (k + 8 * i) ≡ 0) × (le 4 xs (v + 4 * i) ≡ 0)) → partOkAt keys b xs C n k v ≡ true
+  unfolding partOkAt blankRow
+  at-passes f g z =
+      and-both (leb n C && keys b (fields 8 xs k n)) _ (and-both (leb n C) _ (le-leb n C f) g)
+      (each-all (blankRow xs k v) (C - n) n
+      (λ i l h. let z′ = z i l (omega (arith, f)) in
+      and-both (eqb (le 8 xs (k + 8 * i)) 0) _ (eq-eqb (le 8 xs (k + 8 * i)) 0 (z′ .0)) (eq-eqb (le 4 xs (v + 4 * i)) 0 (z′ .1))))
+
+-- and of partition p
+module _ (xs : List ℕ) (p i : ℕ) where
+  key-there : keyAt xs p 0 + 8 * i ≡ keyAt xs p i
+  key-there = omega arith
+
+  value-there : valueAt xs p 0 + 4 * i ≡ valueAt xs p i
+  value-there = omega arith
+
+module _ (keys : Bool → List ℕ → Bool) (xs : List ℕ) (p : ℕ) (e : partOkBy keys xs p ≡ true) where
+  there : partOkAt keys (eqb p (partsOf xs)) xs (capOf xs) (usedOf xs p) (keyAt xs p 0) (valueAt xs p 0) ≡ true
   unfolding partOkBy
-  blanks i a b = each-at (blankRow xs p) (capOf xs - usedOf xs p) (usedOf xs p) (and-right (leb (usedOf xs p) (capOf xs) && keys (eqb p (partsOf xs)) (keysIn (rowsOf xs p))) _ e) i a (omega arith)
+  there = e
+
+  blank-there : (i : ℕ) → usedOf xs p ≤ i → i < capOf xs → (le 8 xs (keyAt xs p 0 + 8 * i) ≡ 0) × (le 4 xs (valueAt xs p 0 + 4 * i) ≡ 0)
+  blank-there = at-blank keys (eqb p (partsOf xs)) xs (capOf xs) (usedOf xs p) (keyAt xs p 0) (valueAt xs p 0) there
 
   pub part-filled : Filled xs p
-  unfolding blankRow
   part-filled =
       record {
-        fit = leb-true (usedOf xs p) (capOf xs) (and-left (leb (usedOf xs p) (capOf xs)) _ fits);
-        blank-keys = λ i a b. eqb-true (le 8 xs (keyAt xs p i)) 0 (and-left (eqb (le 8 xs (keyAt xs p i)) 0) _ (blanks i a b));
-        blank-values = λ i a b. eqb-true (le 4 xs (valueAt xs p i)) 0 (and-right (eqb (le 8 xs (keyAt xs p i)) 0) _ (blanks i a b));
+        fit = at-fit keys (eqb p (partsOf xs)) xs (capOf xs) (usedOf xs p) (keyAt xs p 0) (valueAt xs p 0) there;
+        blank-keys = λ i a b. ap (le 8 xs) (sym (key-there xs p i)) ∙ blank-there i a b .0;
+        blank-values = λ i a b. ap (le 4 xs) (sym (value-there xs p i)) ∙ blank-there i a b .1;
       }
 
   pub part-keys : keys (eqb p (partsOf xs)) (keysIn (rowsOf xs p)) ≡ true
-  part-keys = and-right (leb (usedOf xs p) (capOf xs)) _ fits
+  part-keys =
+      ap (keys (eqb p (partsOf xs))) (rows-keys xs p)
+      ∙ at-keys keys (eqb p (partsOf xs)) xs (capOf xs) (usedOf xs p) (keyAt xs p 0) (valueAt xs p 0) there
 
-pub part-passes : (keys : Bool → List ℕ → Bool) (xs : List ℕ) (p : ℕ) → Filled xs p → keys (eqb p (partsOf xs)) (keysIn (rowsOf xs p)) ≡ true → partOkBy keys xs p ≡ true
-unfolding partOkBy blankRow
-part-passes keys xs p f k =
-    and-both (leb (usedOf xs p) (capOf xs) && keys (eqb p (partsOf xs)) (keysIn (rowsOf xs p))) _ (and-both (leb (usedOf xs p) (capOf xs)) _ (le-leb (usedOf xs p) (capOf xs) (f .fit)) k)
-    (each-all (blankRow xs p) (capOf xs - usedOf xs p) (usedOf xs p)
-    (λ i a b.
-    let l : i < capOf xs = omega (arith, f .fit) in
-    and-both (eqb (le 8 xs (keyAt xs p i)) 0) _ (eq-eqb (le 8 xs (keyAt xs p i)) 0 (f .blank-keys i a l)) (eq-eqb (le 4 xs (valueAt xs p i)) 0 (f .blank-values i a l))))
+pub part-passes : (keys : Bool → List ℕ → Bool) (xs : List ℕ) (p : ℕ) → Filled xs p →
+    keys (eqb p (partsOf xs)) (keysIn (rowsOf xs p)) ≡ true → partOkBy keys xs p ≡ true
+unfolding partOkBy
+part-passes keys xs p f g =
+    at-passes keys (eqb p (partsOf xs)) xs (capOf xs) (usedOf xs p) (keyAt xs p 0) (valueAt xs p 0) (f .fit)
+    (ap (keys (eqb p (partsOf xs))) (sym (rows-keys xs p)) ∙ g)
+    (λ i a b. (ap (le 8 xs) (key-there xs p i) ∙ f .blank-keys i a b, ap (le 4 xs) (value-there xs p i) ∙ f .blank-values i a b))
 
 -- bytes of the right shape that pass question 11 are sound, and back
 pub sound-of : (xs : List ℕ) → Shape xs → question11 xs ≡ true → Sound xs
 unfolding question11 KeysGood
 sound-of xs s e =
-    let one : (p : ℕ) → p ≤ partsOf xs → partOk xs p ≡ true = λ p l. each-at (partOk xs) (partsOf xs + 1) 0 e p (omega arith) (omega arith) in
-    record { formed = record { shape = s; filled = λ p l. part-filled keysOk xs p (one p l) }; keys = λ p l. part-keys keysOk xs p (one p l) }
+    let one : (p : ℕ) → p ≤ partsOf xs → partOk xs p ≡ true =
+    λ p l. each-at (partOk xs) (partsOf xs + 1) 0 e p (omega arith) (omega arith) in
+    record {
+      formed = record { shape = s; filled = λ p l. part-filled keysOk xs p (one p l) };
+      keys = λ p l. part-keys keysOk xs p (one p l);
+    }
 
 pub rows-pass : (xs : List ℕ) → Sound xs → question11 xs ≡ true
 unfolding question11 KeysGood
-rows-pass xs s = each-all (partOk xs) (partsOf xs + 1) 0 (λ p a b. part-passes keysOk xs p (s .formed .filled p (omega arith)) (s .keys p (omega arith)))
+rows-pass xs s = each-all (partOk xs) (partsOf xs + 1) 0
+    (λ p a b. part-passes keysOk xs p (s .formed .filled p (omega arith)) (s .keys p (omega arith)))
 
 -- ---- questions 9 to 12 together
 
@@ -135,25 +181,7 @@ store-passes xs s t =
     ∙ ask-yes (number 11) (question11 xs) _ (rows-pass xs s)
     ∙ ask-yes (number 12) (question12 xs) none t
 
--- create's
-pub create-ok : (P C n : ℕ) → createRefusal P C n ≡ none → (numbersRight P C ≡ true) × (n ≡ sizeOf P C)
-unfolding createRefusal
-create-ok P C n e =
-    let a = ask-none (number 9) (numbersRight P C) _ e in
-    (a .0, eqb-true n (sizeOf P C) (ask-none (number 10) (eqb n (sizeOf P C)) none (a .1) .0))
-
 -- ---- a put keeps good keys good
-
-pub member-put : (k v j : ℕ) (rs : List Row) → j ≢ k → member j (keysIn (putRow k v rs)) ≡ member j (keysIn rs)
-unfolding member keysIn putRow
-member-put k v j [] n = rw (ne-eqb k j (λ e. n (sym e))) refl
-member-put k v j (r ∷ rs) n = go (member-put k v j rs n) (eqb (r .0) k) refl (ltb k (r .0)) refl
-  where
-    go : member j (keysIn (putRow k v rs)) ≡ member j (keysIn rs) → (t : Bool) → eqb (r .0) k ≡ t → (u : Bool) → ltb k (r .0) ≡ u
-        → member j (keysIn (putRow k v (r ∷ rs))) ≡ member j (keysIn (r ∷ rs))
-    go ih true e u f = rw e refl
-    go ih false e true f = rw (e, f, ne-eqb k j (λ q. n (sym q))) refl
-    go ih false e false f = rw (e, f) (ap (λ (o : Bool). eqb (r .0) j || o) ih)
 
 -- keys that are of a form and rise are unlike
 pub rises-unlike : (k : ℕ) (ks : List ℕ) → rising (k ∷ ks) ≡ true → member k ks ≡ false
@@ -165,14 +193,16 @@ rises-unlike k (x ∷ ks) u =
   where
     lower : (ks : List ℕ) → rising (x ∷ ks) ≡ true → rising (k ∷ ks) ≡ true
     lower [] w = refl
-    lower (y ∷ ys) w = and-both (ltb k y) _ (lt-ltb k y (omega (arith, ltb-true x y (and-left (ltb x y) _ w), ltb-true k x (and-left (ltb k x) _ u)))) (and-right (ltb x y) _ w)
+    lower (y ∷ ys) w = and-both (ltb k y) _
+        (lt-ltb k y (omega (arith, ltb-true x y (and-left (ltb x y) _ w), ltb-true k x (and-left (ltb k x) _ u)))) (and-right (ltb x y) _ w)
 
 rises-apart : (b : Bool) (ks : List ℕ) → allIn (isForm b) ks ≡ true → rising ks ≡ true → keysApart b ks ≡ true
 unfolding keysApart allIn rising
 rises-apart b [] a u = refl
 rises-apart b (k ∷ ks) a u =
     and-both (isForm b k) _ (and-left (isForm b k) _ a)
-    (and-both (not (member k ks)) _ (ap not (rises-unlike k ks u)) (rises-apart b ks (and-right (isForm b k) _ a) (and-right (ahead k ks) _ u)))
+    (and-both (not (member k ks)) _ (ap not (rises-unlike k ks u))
+    (rises-apart b ks (and-right (isForm b k) _ a) (and-right (ahead k ks) _ u)))
 
 pub keys-rise : (b : Bool) (ks : List ℕ) → allIn (isForm b) ks ≡ true → rising ks ≡ true → keysOk b ks ≡ true
 unfolding keysOk
@@ -182,14 +212,16 @@ keys-rise b ks a u = and-both (keysApart b ks) _ (rises-apart b ks a u) u
 pub apart-forms : (b : Bool) (ks : List ℕ) → keysApart b ks ≡ true → allIn (isForm b) ks ≡ true
 unfolding keysApart allIn
 apart-forms b [] h = refl
-apart-forms b (k ∷ ks) h = and-both (isForm b k) _ (and-left (isForm b k) _ h) (apart-forms b ks (and-right (not (member k ks)) _ (and-right (isForm b k) _ h)))
+apart-forms b (k ∷ ks) h =
+    and-both (isForm b k) _ (and-left (isForm b k) _ h) (apart-forms b ks (and-right (not (member k ks)) _ (and-right (isForm b k) _ h)))
 
 -- a key of no form has no row
 pub no-form : (b : Bool) (k : ℕ) (rows : List Row) → allIn (isForm b) (keysIn rows) ≡ true → isForm b k ≡ false → lookup k rows ≡ none
 unfolding allIn keysIn lookup
 no-form b k [] h n = refl
 no-form b k (r ∷ rows) h n =
-    rw (ne-eqb (r .0) k (λ e. yes-no (sym (and-left (isForm b (r .0)) _ h) ∙ ap (isForm b) e ∙ n))) (no-form b k rows (and-right (isForm b (r .0)) _ h) n)
+    rw (ne-eqb (r .0) k (λ e. yes-no (sym (and-left (isForm b (r .0)) _ h) ∙ ap (isForm b) e ∙ n)))
+    (no-form b k rows (and-right (isForm b (r .0)) _ h) n)
 
 pub keys-apart : (b : Bool) (ks : List ℕ) → keysOk b ks ≡ true → keysApart b ks ≡ true
 unfolding keysOk
@@ -209,7 +241,8 @@ unfolding allIn keysIn putRow
 all-put f k v [] h a = and-both (f k) true h refl
 all-put f k v (r ∷ rs) h a = go (all-put f k v rs h (and-right (f (r .0)) _ a)) (eqb (r .0) k) refl (ltb k (r .0)) refl
   where
-    go : allIn f (keysIn (putRow k v rs)) ≡ true → (t : Bool) → eqb (r .0) k ≡ t → (u : Bool) → ltb k (r .0) ≡ u → allIn f (keysIn (putRow k v (r ∷ rs))) ≡ true
+    go : allIn f (keysIn (putRow k v rs)) ≡ true → (t : Bool) → eqb (r .0) k ≡ t → (u : Bool) → ltb k (r .0) ≡ u →
+        allIn f (keysIn (putRow k v (r ∷ rs))) ≡ true
     go ih true e u w = rw e a
     go ih false e true w = rw (e, w) (and-both (f k) _ h a)
     go ih false e false w = rw (e, w) (and-both (f (r .0)) _ (and-left (f (r .0)) _ a) ih)
@@ -229,7 +262,8 @@ unfolding rising ahead keysIn putRow
 rising-put k v [] u = refl
 rising-put k v (r ∷ rs) u = go (rising-put k v rs (and-right (ahead (r .0) (keysIn rs)) _ u)) (eqb (r .0) k) refl (ltb k (r .0)) refl
   where
-    go : rising (keysIn (putRow k v rs)) ≡ true → (t : Bool) → eqb (r .0) k ≡ t → (w : Bool) → ltb k (r .0) ≡ w → rising (keysIn (putRow k v (r ∷ rs))) ≡ true
+    go : rising (keysIn (putRow k v rs)) ≡ true → (t : Bool) → eqb (r .0) k ≡ t → (w : Bool) → ltb k (r .0) ≡ w →
+        rising (keysIn (putRow k v (r ∷ rs))) ≡ true
     go ih true e w f = rw e u
     go ih false e true f = rw (e, f) (and-both (ltb k (r .0)) _ f u)
     go ih false e false f =
@@ -239,18 +273,23 @@ rising-put k v (r ∷ rs) u = go (rising-put k v rs (and-right (ahead (r .0) (ke
         ih)
 
 -- the keys after a put
-pub keys-put : (b : Bool) (k v : ℕ) (rs : List Row) → isForm b k ≡ true → keysOk b (keysIn rs) ≡ true → keysOk b (keysIn (putRow k v rs)) ≡ true
+pub keys-put : (b : Bool) (k v : ℕ) (rs : List Row) → isForm b k ≡ true → keysOk b (keysIn rs) ≡ true →
+    keysOk b (keysIn (putRow k v rs)) ≡ true
 keys-put b k v rs f h =
-    keys-rise b (keysIn (putRow k v rs)) (all-put (isForm b) k v rs f (apart-forms b (keysIn rs) (keys-apart b (keysIn rs) h))) (rising-put k v rs (keys-rising b (keysIn rs) h))
+    keys-rise b (keysIn (putRow k v rs)) (all-put (isForm b) k v rs f (apart-forms b (keysIn rs) (keys-apart b (keysIn rs) h)))
+    (rising-put k v rs (keys-rising b (keysIn rs) h))
 
 -- and after a run of puts
-pub keys-put-all : (b : Bool) (ps rs : List Row) → allIn (isForm b) (keysIn ps) ≡ true → keysOk b (keysIn rs) ≡ true → keysOk b (keysIn (putAll ps rs)) ≡ true
+pub keys-put-all : (b : Bool) (ps rs : List Row) → allIn (isForm b) (keysIn ps) ≡ true → keysOk b (keysIn rs) ≡ true →
+    keysOk b (keysIn (putAll ps rs)) ≡ true
 unfolding putAll keysIn allIn
 keys-put-all b [] rs a h = h
 keys-put-all b (r ∷ ps) rs a h =
-    keys-put-all b ps (putRow (r .0) (r .1) rs) (and-right (isForm b (r .0)) _ a) (keys-put b (r .0) (r .1) rs (and-left (isForm b (r .0)) _ a) h)
+    keys-put-all b ps (putRow (r .0) (r .1) rs) (and-right (isForm b (r .0)) _ a)
+    (keys-put b (r .0) (r .1) rs (and-left (isForm b (r .0)) _ a) h)
 
-good-alter : (st : Store) (p : ℕ) (f : List Row → List Row) → KeysGood st → keysOk (eqb p (st .parts)) (keysIn (f (st .rows p))) ≡ true → KeysGood (alter p f st)
+good-alter : (st : Store) (p : ℕ) (f : List Row → List Row) → KeysGood st → keysOk (eqb p (st .parts)) (keysIn (f (st .rows p))) ≡ true →
+    KeysGood (alter p f st)
 unfolding KeysGood
 good-alter st p f g k q l = go (ℕ-discrete q p)
   where
@@ -262,10 +301,14 @@ good-alter st p f g k q l = go (ℕ-discrete q p)
     go (no n) = rw (same, alter-there p q f st n) (g q (subst (λ (n : ℕ). q ≤ n) same l))
 
 -- a change of sound bytes that leaves the partition's keys in order leaves sound bytes
-pub stored-by : (xs ys : List ℕ) (p : ℕ) (f : List Row → List Row) → Sound xs → keysOk (eqb p (partsOf xs)) (keysIn (f (rowsOf xs p))) ≡ true → Changed xs ys p f →
+pub stored-by : (xs ys : List ℕ) (p : ℕ) (f : List Row → List Row) → Sound xs →
+    keysOk (eqb p (partsOf xs)) (keysIn (f (rowsOf xs p))) ≡ true → Changed xs ys p f →
     Stored xs ys p f
 stored-by xs ys p f s k c =
-    record { sound = record { formed = c .formed; keys = subst KeysGood (sym (c .is)) (good-alter (storeOf xs) p f (s .keys) k) }; is = c .is }
+    record {
+      sound = record { formed = c .formed; keys = subst KeysGood (sym (c .is)) (good-alter (storeOf xs) p f (s .keys) k) };
+      is = c .is;
+    }
 
 -- ---- tests of every key
 
@@ -301,7 +344,8 @@ all-members f (x ∷ ks) h =
 -- a booked id has all five rows
 pub book-five : (ks : List ℕ) (k j : ℕ) → bookOk ks ≡ true → member k ks ≡ true → j < 5 → member (bookKey (k / 8) j) ks ≡ true
 unfolding bookOk five
-book-five ks k j b m h = each-at (λ i. member (bookKey (k / 8) i) ks) 5 0 (in-all (λ i. five ks (i / 8)) ks k b m) j (omega arith) (omega arith)
+book-five ks k j b m h =
+    each-at (λ i. member (bookKey (k / 8) i) ks) 5 0 (in-all (λ i. five ks (i / 8)) ks k b m) j (omega arith) (omega arith)
 
 -- and back
 pub five-all : (ks : List ℕ) (id : ℕ) → ((j : ℕ) → j < 5 → member (bookKey id j) ks ≡ true) → five ks id ≡ true
@@ -315,11 +359,14 @@ unfolding countNew member
 count-other [] k v rs m = refl
 count-other (j ∷ ks) k v rs m = go (count-other ks k v rs) (eqb j k) refl
   where
-    go : (member k ks ≡ false → countNew ks (putRow k v rs) ≡ countNew ks rs) → (t : Bool) → eqb j k ≡ t → countNew (j ∷ ks) (putRow k v rs) ≡ countNew (j ∷ ks) rs
+    go : (member k ks ≡ false → countNew ks (putRow k v rs) ≡ countNew ks rs) → (t : Bool) → eqb j k ≡ t →
+        countNew (j ∷ ks) (putRow k v rs) ≡ countNew (j ∷ ks) rs
     go ih true e = yes-no (rw e at m)
-    go ih false e = ap₂ (λ (o : Option ℕ) (n : ℕ). newRows o + n) (lookup-put-other k v j rs (λ q. yes-no (sym (eq-eqb j k q) ∙ e))) (ih (rw e at m))
+    go ih false e = ap₂ (λ (o : Option ℕ) (n : ℕ). newRows o + n) (lookup-put-other k v j rs (λ q. yes-no (sym (eq-eqb j k q) ∙ e)))
+        (ih (rw e at m))
 
-pub length-put-all : (book : Bool) (ks vs : List ℕ) (rs : List Row) → length ks ≡ length vs → unlike ks ≡ true → allIn (isForm book) ks ≡ true → keysOk book (keysIn rs) ≡ true
+pub length-put-all : (book : Bool) (ks vs : List ℕ) (rs : List Row) → length ks ≡ length vs → unlike ks ≡ true →
+    allIn (isForm book) ks ≡ true → keysOk book (keysIn rs) ≡ true
     → length (putAll (pairs ks vs) rs) ≡ length rs + countNew ks rs
 unfolding putAll pairs countNew unlike allIn
 length-put-all book [] vs rs e u a h = omega arith
@@ -327,7 +374,9 @@ length-put-all book (k ∷ ks) [] rs e u a h = absurd (omega arith)
 length-put-all book (k ∷ ks) (v ∷ vs) rs e u a h =
     omega (
       arith,
-      length-put-all book ks vs (putRow k v rs) (omega arith) (and-right (not (member k ks)) (unlike ks) u) (and-right (isForm book k) (allIn (isForm book) ks) a) (keys-put book k v rs (and-left (isForm book k) (allIn (isForm book) ks) a) h),
+      length-put-all book ks vs (putRow k v rs) (omega arith) (and-right (not (member k ks)) (unlike ks) u)
+          (and-right (isForm book k) (allIn (isForm book) ks) a)
+          (keys-put book k v rs (and-left (isForm book k) (allIn (isForm book) ks) a) h),
       length-put book k v rs h,
       count-other ks k v rs (not-true (member k ks) (and-left (not (member k ks)) (unlike ks) u)),
     )

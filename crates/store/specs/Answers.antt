@@ -1,4 +1,4 @@
--- What a search for a key answers, by the keys that are searched. Assumes nothing: these are definitions.
+-- What a search for a key answers, by the keys that are searched.
 use mathlib.Core.Bool.{true}
 use mathlib.Core.List.{List, [], _∷_, _++_}
 use mathlib.Core.Option.{Option, none, some}
@@ -35,7 +35,8 @@ pub record Searched (k : ℕ) (ks : List ℕ) (found : Found) : Type 0 where
   pub read : found ≡ foundIn k (upTo k ks)
   -- what stands behind a greater key g changes nothing in it: whatever `more` is, rising or not, the answer is that of a reading of all where
   -- rising keys, `other`, stand in its place
-  pub behind : (low more other : List ℕ) (g : ℕ) → k < g → ks ≡ low ++ g ∷ more → rising (low ++ g ∷ other) ≡ true → found ≡ foundIn k (low ++ g ∷ other)
+  pub behind : (low more other : List ℕ) (g : ℕ) → k < g → ks ≡ low ++ g ∷ more → rising (low ++ g ∷ other) ≡ true →
+      found ≡ foundIn k (low ++ g ∷ other)
 
 -- where a search ended: at the key's row, or where the key belongs
 unfoldable pub endedAt : Found → ℕ

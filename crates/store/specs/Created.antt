@@ -1,4 +1,4 @@
--- What create leaves. Assumes nothing: these are definitions.
+-- What create leaves.
 use mathlib.Core.List.{List, _∷_}
 use mathlib.Core.Path.{_≡_}
 use Prim.Native.Nat.{ℕ, _+_, _*_, _/_, _%_}

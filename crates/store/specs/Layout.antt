@@ -1,5 +1,5 @@
--- A store in bytes: P partitions and one more, the book, numbered P; each has C rows. Bytes: P (1), C (2), P + 1 used counts (2 each),
--- then two parallel arrays: (P + 1) × C keys (8 each), as many values (4 each). Assumes nothing: these are definitions.
+-- A store in bytes: P partitions and one more, the book, numbered P; each has C rows. Bytes: P (1), C (2), P + 1 used counts (2 each), then
+-- two parallel arrays: (P + 1) × C keys (8 each), as many values (4 each).
 use mathlib.Core.List.{List}
 use Prim.Native.Nat.{ℕ, _+_, _*_, _<_}
 use lib.Dec.{leb}

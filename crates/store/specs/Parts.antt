@@ -1,5 +1,4 @@
--- One partition by itself: its used count, its keys and its values as they stand in a store, one behind the other. Assumes nothing: these
--- are definitions.
+-- One partition by itself: its used count, its keys and its values as they stand in a store, one behind the other.
 use mathlib.Core.List.{List, _++_}
 use mathlib.Core.Path.{_≡_}
 use Prim.Native.Nat.{ℕ, _+_, _*_, _≤_, _<_}

@@ -1,14 +1,14 @@
--- Questions 9 to 12, each a computed test, and the first no among them. Assumes nothing: these are definitions.
+-- Questions 9 to 12, each a computed test, and the first no among them.
 use mathlib.Core.Bool.{Bool, true, false, not, _&&_, _||_}
 use mathlib.Core.List.{List, [], _∷_}
 use mathlib.Core.Option.{Option, none}
-use Prim.Native.Nat.{ℕ, _+_, _-_, _/_}
+use Prim.Native.Nat.{ℕ, _+_, _-_, _*_}
 use lib.Dec.{eqb, leb, ltb}
 use lib.ListN.{length}
-use Rattle.words.specs.Words.{le}
-use Rattle.questions.specs.Basics.{if_then_else_, eachFrom, each}
+use Rattle.words.specs.Words.{le, fields}
+use Rattle.questions.specs.Basics.{eachFrom, each}
 use Rattle.questions.specs.Questions.{No, number, ask}
-use Rattle.keys.specs.Keys.{bookKey, isDataKey, isLogKey, isBookKey}
+use Rattle.keys.specs.Keys.{bookKey, bookedId, isForm}
 use Rattle.store.specs.Layout.{partsOf, capOf, sizeOf, keyAt, valueAt, usedOf}
 use Rattle.store.specs.Rows.{keysIn, rowsOf}
 
@@ -23,10 +23,6 @@ question9 xs = leb 3 (length xs) && numbersRight (partsOf xs) (capOf xs)
 -- 10. Is the store's length right?
 unfoldable pub question10 : (xs : List ℕ) → Bool
 question10 xs = eqb (length xs) (sizeOf (partsOf xs) (capOf xs))
-
--- is k a key of a form of its partition? The book has book keys, each other partition data keys and log keys.
-unfoldable pub isForm : (book : Bool) (k : ℕ) → Bool
-isForm book k = if book then isBookKey k else (isDataKey k || isLogKey k)
 
 -- k is one of ks
 unfoldable pub member : (k : ℕ) → List ℕ → Bool
@@ -57,16 +53,21 @@ rising (k ∷ ks) = ahead k ks && rising ks
 unfoldable pub keysOk : (book : Bool) → List ℕ → Bool
 keysOk b ks = keysApart b ks && rising ks
 
--- row i of partition p is zero, its key and its value
-unfoldable pub blankRow : (xs : List ℕ) (p i : ℕ) → Bool
-blankRow xs p i = eqb (le 8 xs (keyAt xs p i)) 0 && eqb (le 4 xs (valueAt xs p i)) 0
+-- row i is zero, its key and its value, where the keys stand from byte k on and the values from byte v on
+unfoldable pub blankRow : (xs : List ℕ) (k v i : ℕ) → Bool
+blankRow xs k v i = eqb (le 8 xs (k + 8 * i)) 0 && eqb (le 4 xs (v + 4 * i)) 0
 
--- 11 of partition p, by what it asks of the keys
+-- 11 of a partition wherever it lies, by what it asks of the keys: its used count is n, its C keys stand from byte k on, its C values from
+-- byte v on
+unfoldable pub partOkAt : (keys : (book : Bool) → List ℕ → Bool) → (book : Bool) → (xs : List ℕ) → (C n k v : ℕ) → Bool
+partOkAt keys b xs C n k v =
+    leb n C
+    && keys b (fields 8 xs k n)
+    && eachFrom (blankRow xs k v) (C - n) n
+
+-- 11 of partition p, by what it asks of the keys: the book is partition P
 unfoldable pub partOkBy : (keys : (book : Bool) → List ℕ → Bool) → (xs : List ℕ) (p : ℕ) → Bool
-partOkBy keys xs p =
-    leb (usedOf xs p) (capOf xs)
-    && keys (eqb p (partsOf xs)) (keysIn (rowsOf xs p))
-    && eachFrom (blankRow xs p) (capOf xs - usedOf xs p) (usedOf xs p)
+partOkBy keys xs p = partOkAt keys (eqb p (partsOf xs)) xs (capOf xs) (usedOf xs p) (keyAt xs p 0) (valueAt xs p 0)
 
 -- 11 of partition p
 abbrev pub partOk : (xs : List ℕ) (p : ℕ) → Bool
@@ -92,7 +93,7 @@ five ks id = each 5 (λ j. member (bookKey id j) ks)
 
 -- each id that has a key among ks has all five there
 unfoldable pub bookOk : (ks : List ℕ) → Bool
-bookOk ks = allIn (λ k. five ks (k / 8)) ks
+bookOk ks = allIn (λ k. five ks (bookedId k)) ks
 
 -- 12. Has each booked id all five rows? An id is booked as soon as it has any row in the book, which is partition P.
 unfoldable pub question12 : (xs : List ℕ) → Bool

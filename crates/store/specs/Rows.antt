@@ -1,5 +1,4 @@
--- What a store holds: for each partition its used rows, each a key with its value; where question 11 says yes, by rising key. Assumes
--- nothing: these are definitions.
+-- What a store holds: for each partition its used rows, each a key with its value; where question 11 says yes, by rising key.
 use mathlib.Core.List.{List, [], _∷_, map}
 use mathlib.Core.Option.{Option, none, some}
 use Prim.Native.Nat.{ℕ, zero, suc, _+_}

@@ -1,4 +1,4 @@
--- A sound store: bytes that pass questions 9 to 11, said without tests; and what a change of a store is. Assumes nothing: these are definitions.
+-- A sound store: bytes that pass questions 9 to 11, said without tests; and what a change of a store is.
 use mathlib.Core.Bool.{Bool, true, false}
 use mathlib.Core.List.{List}
 use mathlib.Core.Path.{_≡_}

@@ -1,4 +1,4 @@
--- Questions 9 to 12 in order: the first no, by the answer to 9 and 10 and those to 11 and 12. Assumes nothing.
+-- Questions 9 to 12 in order: the first no, by the answer to 9 and 10 and those to 11 and 12.
 use mathlib.Core.Bool.{Bool, true, false}
 use mathlib.Core.List.{List}
 use mathlib.Core.Option.{Option, none, some}

@@ -1,5 +1,5 @@
 -- The book by rising key: the five rows of an id stand side by side, so the fifth key is 4 more than the first; all else is forced, since
--- each is a book key. Assumes nothing.
+-- each is a book key.
 use mathlib.Core.Bool.{Bool, true, false, _&&_}
 use mathlib.Core.List.{List, [], _∷_}
 use mathlib.Core.Path.{_≡_, refl, sym, ap, ap₂, subst, _∙_, fun-ext}
@@ -12,10 +12,10 @@ use lib.ListN.{length, getD}
 use Rattle.words.specs.Words.{le, fields}
 use Rattle.words.proofs.Laws.{length-fields}
 use Rattle.questions.specs.Basics.{each}
-use Rattle.keys.specs.Keys.{bookKey}
+use Rattle.keys.specs.Keys.{bookKey, isBookKey, lastOfFive, isForm}
 use Rattle.keys.proofs.Keys.{book-bounds}
 use Rattle.questions.proofs.Tests.{no-yes, and-left, and-right}
-use Rattle.store.specs.Questions.{isForm, member, ahead, rising, keysOk, allIn, five, bookOk}
+use Rattle.store.specs.Questions.{member, ahead, rising, keysOk, allIn, five, bookOk}
 use Rattle.store.proofs.Sound.{keys-rise, apart-forms, keys-apart, keys-rising, all-at, in-all, book-five, five-all}
 use Rattle.store_check.proofs.Steps.{member-behind, member-in}
 
@@ -179,8 +179,8 @@ module _ (k k1 k2 k3 k4 : ℕ) (ks : List ℕ) (g : keysOk true (k ∷ k1 ∷ k2
         (all-same (λ (x : ℕ). five all (x / 8)) (λ (x : ℕ). five ks (x / 8)) ks later)
 
   -- The first five keys are those of one id, and the rest have all five rows of each of theirs.
-  pub five-first : bookOk all ≡ (eqb k4 (k + 4) && bookOk ks)
-  five-first = go (eqb k4 (k + 4)) refl (bookOk all) refl
+  pub five-first : bookOk all ≡ (eqb k4 (lastOfFive k) && bookOk ks)
+  five-first = go (eqb k4 (lastOfFive k)) refl (bookOk all) refl
     where
       go : (b : Bool) → eqb k4 (k + 4) ≡ b → (t : Bool) → bookOk all ≡ t → bookOk all ≡ (eqb k4 (k + 4) && bookOk ks)
       go true eb t et = rw eb (whole (eqb-true k4 (k + 4) eb))
@@ -223,20 +223,21 @@ module _ (xs : List ℕ) (at m n : ℕ) (e : m ≡ suc (suc (suc (suc (suc n))))
   pub book-next : keysOk true rest ≡ true
   book-next = keys-past (le 8 xs at) (le 8 xs (at + 8)) (le 8 xs (at + 16)) (le 8 xs (at + 24)) (le 8 xs (at + 32)) rest good
 
-  pub book-small : le 8 xs at < 2 ^ 35
-  unfolding allIn
-  book-small = bounds (le 8 xs at) (and-left (isForm true (le 8 xs at)) _ (forms _ good)) .0
+  -- by the key that was read
+  pub book-key : (k : ℕ) → k ≡ le 8 xs at → isBookKey k ≡ true
+  unfolding allIn isForm
+  book-key k q = rw q (and-left (isForm true (le 8 xs at)) _ (forms _ good))
 
   -- by the keys that were read
   module _ (k k4 : ℕ) (q : k ≡ le 8 xs at) (q4 : k4 ≡ le 8 xs (at + 32)) where
-    book-step : bookOk (fields 8 xs at m) ≡ (eqb k4 (k + 4) && bookOk rest)
+    book-step : bookOk (fields 8 xs at m) ≡ (eqb k4 (lastOfFive k) && bookOk rest)
     book-step =
         ap bookOk spread
         ∙ five-first (le 8 xs at) (le 8 xs (at + 8)) (le 8 xs (at + 16)) (le 8 xs (at + 24)) (le 8 xs (at + 32)) rest good
         ∙ rw (q, q4) refl
 
-    pub book-no : (k4 ≡ k + 4 → ⊥) → bookOk (fields 8 xs at m) ≡ false
-    book-no h = book-step ∙ rw (ne-eqb k4 (k + 4) h) refl
+    pub book-no : (k4 ≡ lastOfFive k → ⊥) → bookOk (fields 8 xs at m) ≡ false
+    book-no h = book-step ∙ rw (ne-eqb k4 (lastOfFive k) h) refl
 
-    pub book-more : k4 ≡ k + 4 → bookOk (fields 8 xs at m) ≡ bookOk rest
-    book-more h = book-step ∙ rw (eq-eqb k4 (k + 4) h) refl
+    pub book-more : k4 ≡ lastOfFive k → bookOk (fields 8 xs at m) ≡ bookOk rest
+    book-more h = book-step ∙ rw (eq-eqb k4 (lastOfFive k) h) refl

@@ -1,4 +1,4 @@
--- Keys of a form that rise, each compared with the one before. Assumes nothing.
+-- Keys of a form that rise, each compared with the one before.
 use mathlib.Core.Bool.{Bool, true, false, not, _&&_, and-true}
 use mathlib.Core.List.{List, [], _∷_}
 use mathlib.Core.Path.{_≡_, refl, sym, ap, _∙_}
@@ -8,10 +8,10 @@ use native.Mathlib.Omega.{arith}
 use borrow.Author.Tests.{le-leb, lt-leb}
 use lib.Dec.{leb, leb·zero}
 use Rattle.words.specs.Words.{le, fields}
-use Rattle.keys.specs.Keys.{isDataKey}
+use Rattle.keys.specs.Keys.{isDataKey, isForm}
 use Rattle.keys.proofs.Keys.{data-bounds, log-bounds, book-bounds}
 use Rattle.questions.proofs.Tests.{and-false}
-use Rattle.store.specs.Questions.{isForm, member, keysApart, ahead, rising, keysOk}
+use Rattle.store.specs.Questions.{member, keysApart, ahead, rising, keysOk}
 use Rattle.store.proofs.Sound.{rises-unlike}
 
 -- each key is of a form, the first is at least `low`, and each other is at least one more than the key before
@@ -42,7 +42,8 @@ keys-one b k ks = go (ahead k ks) refl (rising ks) refl
         let m : member k ks ≡ false = rises-unlike k ks (rw (e, h) refl) in
         rw (e, h, m, and-true (keysApart b ks), and-true (isForm b k && keysApart b ks)) refl
     go true e false h =
-        rw (e, h, and-false (keysApart b ks), and-false (isForm b k)) (sym (and-false (isForm b k && (not (member k ks) && keysApart b ks))))
+        rw (e, h, and-false (keysApart b ks), and-false (isForm b k))
+        (sym (and-false (isForm b k && (not (member k ks) && keysApart b ks))))
     go false e r h = rw (e, and-false (isForm b k)) (sym (and-false (isForm b k && (not (member k ks) && keysApart b ks))))
 
 rises-is : (b : Bool) (low : ℕ) (ks : List ℕ) → rises b low ks ≡ (from low ks && keysOk b ks)

@@ -1,4 +1,4 @@
--- What the tests come to, step by step, from what the code has in hand. Assumes nothing.
+-- What the tests come to, step by step, from what the code has in hand.
 use mathlib.Core.Bool.{Bool, true, false, not, _&&_, _||_, or-true, and-true}
 use mathlib.Core.List.{List, [], _∷_}
 use mathlib.Core.Path.{_≡_, refl, sym, ap, ap₂, _∙_}
@@ -7,6 +7,7 @@ use native.Mathlib.Omega.{arith}
 use borrow.Author.Tests.{leb-true, lt-leb, le-leb, lt-ltb, eq-eqb, ne-eqb}
 use lib.Dec.{eqb, leb, ltb, leb·suc-suc}
 use lib.ListN.{length, getD}
+use Rattle.keys.specs.Keys.{isForm}
 use Rattle.words.specs.Words.{le, fields}
 use Rattle.words.proofs.Laws.{length-fields, getD-fields}
 use Rattle.questions.specs.Basics.{if_then_else_, eachFrom}
@@ -14,15 +15,16 @@ use Rattle.questions.proofs.Each.{each-at}
 use Rattle.questions.proofs.Tests.{and-left, and-false}
 use Rattle.store.specs.Layout.{partsOf, capOf, keyAt, valueAt, usedOf}
 use Rattle.store.specs.Rows.{indexOf, keysIn, rowsOf}
-use Rattle.store.specs.Questions.{isForm, member, keysApart, keysOk, blankRow, partOkBy, question11InAnyOrder, allIn, bookOk, question12}
+use Rattle.store.specs.Questions.{member, keysApart, keysOk, blankRow, partOkAt, partOkBy, question11InAnyOrder, allIn, bookOk, question12}
 use Rattle.store.specs.Sound.{Shape, Formed, KeysGood, Sound}
-use Rattle.store.proofs.Bytes.{count-is, rows-keys}
+use Rattle.store.proofs.Bytes.{count-is, rows-keys, keys-within, values-within}
 use Rattle.store.proofs.Sound.{part-filled}
 
 -- ---- keys still to be read
 
 pub keys-step : (b : Bool) (xs : List ℕ) (o m n : ℕ) → m ≡ suc n
-    → keysApart b (fields 8 xs o m) ≡ (isForm b (le 8 xs o) && (not (member (le 8 xs o) (fields 8 xs (o + 8) n)) && keysApart b (fields 8 xs (o + 8) n)))
+    → keysApart b (fields 8 xs o m)
+    ≡ (isForm b (le 8 xs o) && (not (member (le 8 xs o) (fields 8 xs (o + 8) n)) && keysApart b (fields 8 xs (o + 8) n)))
 unfolding keysApart fields
 keys-step b xs o m n e = rw e refl
 
@@ -31,7 +33,8 @@ unfolding keysApart fields
 keys-done b xs o m e = rw e refl
 
 -- a test of every key, over those still to be read
-pub all-step : (f : ℕ → Bool) (xs : List ℕ) (o m n : ℕ) → m ≡ suc n → allIn f (fields 8 xs o m) ≡ (f (le 8 xs o) && allIn f (fields 8 xs (o + 8) n))
+pub all-step : (f : ℕ → Bool) (xs : List ℕ) (o m n : ℕ) → m ≡ suc n →
+    allIn f (fields 8 xs o m) ≡ (f (le 8 xs o) && allIn f (fields 8 xs (o + 8) n))
 unfolding allIn fields
 all-step f xs o m n e = rw e refl
 
@@ -47,7 +50,8 @@ unfolding member indexOf
 member-place k [] = refl
 member-place k (x ∷ ks) = go (member-place k ks) (eqb x k) refl
   where
-    go : member k ks ≡ ltb (indexOf k ks) (length ks) → (b : Bool) → eqb x k ≡ b → (eqb x k || member k ks) ≡ ltb (if_then_else_ (eqb x k) 0 (suc (indexOf k ks))) (suc (length ks))
+    go : member k ks ≡ ltb (indexOf k ks) (length ks) → (b : Bool) → eqb x k ≡ b →
+        (eqb x k || member k ks) ≡ ltb (if_then_else_ (eqb x k) 0 (suc (indexOf k ks))) (suc (length ks))
     go ih true e = rw e (sym (lt-ltb 0 (suc (length ks)) (omega arith)))
     go ih false e = rw e (ih ∙ sym (leb·suc-suc (suc (indexOf k ks)) (length ks)))
 
@@ -63,74 +67,86 @@ member-in k (x ∷ ks) zero h e = rw (eq-eqb x k e) refl
 member-in k (x ∷ ks) (suc i) h e = member-behind x k ks (member-in k ks i (omega arith) e)
 
 pub member-at : (k : ℕ) (xs : List ℕ) (from n i at : ℕ) → i < n → at ≡ from + 8 * i → le 8 xs at ≡ k → member k (fields 8 xs from n) ≡ true
-member-at k xs from n i at h e q = member-in k (fields 8 xs from n) i (omega (arith, length-fields 8 xs from n)) (getD-fields 8 xs from n i at h (omega arith) ∙ q)
+member-at k xs from n i at h e q =
+    member-in k (fields 8 xs from n) i (omega (arith, length-fields 8 xs from n)) (getD-fields 8 xs from n i at h (omega arith) ∙ q)
 
 -- ---- unused rows
 
-module _ (xs : List ℕ) (p i k at : ℕ) (ek : k ≡ le 8 xs at) (ea : at ≡ keyAt xs p i) where
-  key-here : le 8 xs (keyAt xs p i) ≡ k
+module _ (xs : List ℕ) (k v i key at : ℕ) (ek : key ≡ le 8 xs at) (ea : at ≡ k + 8 * i) where
+  key-here : le 8 xs (k + 8 * i) ≡ key
   key-here = ap (le 8 xs) (sym ea) ∙ sym ek
 
-  pub blank-no-key : (k ≡ 0 → ⊥) → blankRow xs p i ≡ false
+  pub blank-no-key : (key ≡ 0 → ⊥) → blankRow xs k v i ≡ false
   unfolding blankRow
-  blank-no-key n = rw (ne-eqb (le 8 xs (keyAt xs p i)) 0 (λ e. n (sym key-here ∙ e))) refl
+  blank-no-key n = rw (ne-eqb (le 8 xs (k + 8 * i)) 0 (λ e. n (sym key-here ∙ e))) refl
 
-  module _ (z : k ≡ 0) (v to : ℕ) (ev : v ≡ le 4 xs to) (et : to ≡ valueAt xs p i) where
-    value-here : le 4 xs (valueAt xs p i) ≡ v
+  module _ (z : key ≡ 0) (value to : ℕ) (ev : value ≡ le 4 xs to) (et : to ≡ v + 4 * i) where
+    value-here : le 4 xs (v + 4 * i) ≡ value
     value-here = ap (le 4 xs) (sym et) ∙ sym ev
 
-    pub blank-no-value : (v ≡ 0 → ⊥) → blankRow xs p i ≡ false
+    pub blank-no-value : (value ≡ 0 → ⊥) → blankRow xs k v i ≡ false
     unfolding blankRow
-    blank-no-value n = rw (eq-eqb (le 8 xs (keyAt xs p i)) 0 (key-here ∙ z), ne-eqb (le 4 xs (valueAt xs p i)) 0 (λ e. n (sym value-here ∙ e))) refl
+    blank-no-value n =
+        rw (eq-eqb (le 8 xs (k + 8 * i)) 0 (key-here ∙ z), ne-eqb (le 4 xs (v + 4 * i)) 0 (λ e. n (sym value-here ∙ e))) refl
 
-    pub blank-yes : v ≡ 0 → blankRow xs p i ≡ true
+    pub blank-yes : value ≡ 0 → blankRow xs k v i ≡ true
     unfolding blankRow
-    blank-yes y = rw (eq-eqb (le 8 xs (keyAt xs p i)) 0 (key-here ∙ z), eq-eqb (le 4 xs (valueAt xs p i)) 0 (value-here ∙ y)) refl
+    blank-yes y = rw (eq-eqb (le 8 xs (k + 8 * i)) 0 (key-here ∙ z), eq-eqb (le 4 xs (v + 4 * i)) 0 (value-here ∙ y)) refl
 
--- ---- a partition, and the book
+-- ---- a partition wherever it lies
 
--- its used rows fit, and its unused ones are zero
-abbrev pub filled : (xs : List ℕ) (p : ℕ) → Bool
-filled xs p = leb (usedOf xs p) (capOf xs) && eachFrom (blankRow xs p) (capOf xs - usedOf xs p) (usedOf xs p)
+module _ (xs : List ℕ) (C n k v : ℕ) where
+  -- its used rows fit, and its unused ones are zero
+  abbrev pub filled : Bool
+  filled = leb n C && eachFrom (blankRow xs k v) (C - n) n
 
-module _ (xs : List ℕ) (p n : ℕ) (en : n ≡ length (rowsOf xs p)) where
-  used : n ≡ usedOf xs p
-  used = en ∙ count-is xs p
+  pub filled-no : C < n → filled ≡ false
+  filled-no h = rw (lt-leb n C h) refl
 
-  pub filled-no : (cap : ℕ) → cap ≡ capOf xs → cap < n → filled xs p ≡ false
-  filled-no cap ec h = rw (lt-leb (usedOf xs p) (capOf xs) (omega (arith, used))) refl
+  pub filled-is : n ≤ C → filled ≡ eachFrom (blankRow xs k v) (C - n) n
+  filled-is h = rw (le-leb n C h) refl
 
-  pub filled-is : (cap : ℕ) → cap ≡ capOf xs → n ≤ cap → filled xs p ≡ eachFrom (blankRow xs p) (cap - n) n
-  filled-is cap ec h = rw (le-leb (usedOf xs p) (capOf xs) (omega (arith, used)), ec, used) refl
+  pub filled-fits : filled ≡ true → n ≤ C
+  filled-fits f = leb-true n C (and-left (leb n C) _ f)
 
-  pub filled-fits : filled xs p ≡ true → n ≤ capOf xs
-  filled-fits f = omega (arith, used, leb-true (usedOf xs p) (capOf xs) (and-left (leb (usedOf xs p) (capOf xs)) _ f))
+  -- question 11, by what is asked of the keys
+  module _ (keys : (book : Bool) → List ℕ → Bool) (b : Bool) where
+    in-turn : (fit good blank : Bool) → (fit && good && blank) ≡ ((fit && blank) && good)
+    in-turn true true c = sym (and-true c)
+    in-turn true false c = sym (and-false c)
+    in-turn false b c = refl
 
-  -- the keys of its rows
-  pub keys-are : (from : ℕ) → from ≡ keyAt xs p 0 → fields 8 xs from n ≡ keysIn (rowsOf xs p)
-  keys-are from ef = ap₂ (fields 8 xs) ef used ∙ sym (rows-keys xs p)
+    part-by : partOkAt keys b xs C n k v ≡ (filled && keys b (fields 8 xs k n))
+    unfolding partOkAt
+    part-by = in-turn (leb n C) (keys b (fields 8 xs k n)) _
 
--- question 11 of a partition, by what is asked of its keys
-module _ (keys : (book : Bool) → List ℕ → Bool) (xs : List ℕ) (p : ℕ) where
-  in-turn : (a b c : Bool) → (a && b && c) ≡ ((a && c) && b)
-  in-turn true true c = sym (and-true c)
-  in-turn true false c = sym (and-false c)
-  in-turn false b c = refl
+    pub part-no : filled ≡ false → partOkAt keys b xs C n k v ≡ false
+    part-no f = part-by ∙ rw f refl
 
-  part-by : partOkBy keys xs p ≡ (filled xs p && keys (eqb p (partsOf xs)) (keysIn (rowsOf xs p)))
+    pub part-is : filled ≡ true → partOkAt keys b xs C n k v ≡ keys b (fields 8 xs k n)
+    part-is f = part-by ∙ rw f refl
+
+-- ---- the partitions of a store
+
+-- the places of partition p, as they were worked out
+module _ (xs : List ℕ) (p cap n k v : ℕ) (ec : cap ≡ capOf xs) (en : n ≡ length (rowsOf xs p)) (ek : k ≡ keyAt xs p 0)
+    (ev : v ≡ valueAt xs p 0) where
+  pub places-within : Shape xs → p ≤ partsOf xs → (k + 8 * cap ≤ length xs) × (v + 4 * cap ≤ length xs)
+  places-within s l =
+      let kw = keys-within xs s p l (capOf xs) (omega arith) in
+      let vw = values-within xs s p l (capOf xs) (omega arith) in
+      (omega (arith, ek, ec, kw), omega (arith, ev, ec, vw))
+
+  pub places-part : (keys : (book : Bool) → List ℕ → Bool) (parts : ℕ) → parts ≡ partsOf xs
+      → partOkAt keys (eqb p parts) xs cap n k v ≡ partOkBy keys xs p
   unfolding partOkBy
-  part-by = in-turn (leb (usedOf xs p) (capOf xs)) (keys (eqb p (partsOf xs)) (keysIn (rowsOf xs p))) _
+  places-part keys parts ep = let u : n ≡ usedOf xs p = en ∙ count-is xs p in rw (ep, ec, u, ek, ev) refl
 
-  pub part-no : filled xs p ≡ false → partOkBy keys xs p ≡ false
-  part-no f = part-by ∙ rw f refl
-
-  pub part-is : filled xs p ≡ true → (n parts from : ℕ) → n ≡ length (rowsOf xs p) → parts ≡ partsOf xs → from ≡ keyAt xs p 0
-      → keys (eqb p parts) (fields 8 xs from n) ≡ partOkBy keys xs p
-  part-is f n parts from en ep ef = ap₂ keys (ap (eqb p) ep) (keys-are xs p n en from ef) ∙ sym (part-by ∙ rw f refl)
+-- ---- the book
 
 module _ (xs : List ℕ) (p n from : ℕ) (ep : p ≡ partsOf xs) (en : n ≡ length (rowsOf xs p)) (ef : from ≡ keyAt xs p 0) where
   book-rows : fields 8 xs from n ≡ keysIn (rowsOf xs (partsOf xs))
-  book-rows = keys-are xs p n en from ef ∙ ap (λ (q : ℕ). keysIn (rowsOf xs q)) ep
+  book-rows = ap₂ (fields 8 xs) ef (en ∙ count-is xs p) ∙ sym (rows-keys xs p) ∙ ap (λ (q : ℕ). keysIn (rowsOf xs q)) ep
 
   pub book-is : bookOk (fields 8 xs from n) ≡ question12 xs
   unfolding question12

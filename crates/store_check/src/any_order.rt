@@ -1,21 +1,22 @@
 // Questions 9 to 12, of 11 all but the rising keys, put to any bytes: what is asked of a store whose rows are to be put in order.
 use crate::check_shape;
 use crate::filled;
-use crate::form;
 use questions::Verdict;
+use store::head::capacity;
 use store::head::key_place;
 use store::head::partition_count;
 use store::head::used_count;
+use store::head::value_place;
 ghost use mathlib.Core.Bool.{true};
 ghost use mathlib.Core.Path.{_≡_};
-ghost use Prim.Native.Nat.{_+_, _-_, _*_, _%_, _^_, _≤_, _<_};
+ghost use Prim.Native.Nat.{_+_, _-_, _*_, _%_, _≤_};
 ghost use lib.Dec.{eqb};
 ghost use lib.ListN.{length, getD};
 ghost use Rattle.words.specs.Words.{fields};
 ghost use Rattle.questions.specs.Verdicts.{verdictOf};
-ghost use Rattle.store.specs.Layout.{partsOf};
+ghost use Rattle.keys.specs.Keys.{bookedId};
 ghost use Rattle.store.specs.Rows.{indexOf};
-ghost use Rattle.store.specs.Questions.{member, keysApart, partOkBy, allIn, five, bookOk, question11InAnyOrder, question12, orderRefusal};
+ghost use Rattle.store.specs.Questions.{member, keysApart, partOkAt, allIn, five, bookOk, question11InAnyOrder, question12, orderRefusal};
 ghost use Rattle.store.specs.Sound.{Shape, Formed};
 
 // The place of `key` among the `n` keys from byte `from` on, in whatever order they stand, or `n`. All may have to be read.
@@ -59,7 +60,7 @@ fn keys_apart(s: &[u8], from: usize, n: usize, book: bool, marks: &mut [u8], mar
     let mut i = n;
     while 0 < i {
         let key = words::read64(s, at - 8);
-        if !form(book, key) {
+        if !keys::of_form(book, key) {
             return false;
         }
         if seen(s, at, n - i, key, marks, mark) {
@@ -73,29 +74,40 @@ fn keys_apart(s: &[u8], from: usize, n: usize, book: bool, marks: &mut [u8], mar
     true
 }
 
-// Question 11 of partition `p`, whose mark is p + 1, but not whether its keys rise.
-fn check_partition(s: &[u8], p: usize, marks: &mut [u8]) -> bool
-    requires { ⌜ Shape (now s) × (p ≤ partsOf (now s)) × (8179 ≤ length (now marks)) ⌝ }
-    ensures { λ r. ⌜ r ≡ partOkBy keysApart (now (s .entry)) p ⌝ }
+// Question 11 of one partition, wherever it lies, but not whether its keys rise. Its places are given as to `partition_ok`; each key
+// leaves `mark` in `marks`.
+fn partition_apart(
+    s: &[u8],
+    cap: usize,
+    n: usize,
+    k: usize,
+    v: usize,
+    book: bool,
+    marks: &mut [u8],
+    mark: u8,
+) -> bool
+    requires { ⌜ (k + 8 * cap ≤ length (now s)) × (v + 4 * cap ≤ length (now s)) × (8179 ≤ length (now marks)) ⌝ }
+    ensures { λ r. ⌜ r ≡ partOkAt keysApart book (now (s .entry)) cap n k v ⌝ }
 {
-    if !filled(s, p) {
+    if !filled(s, cap, n, k, v) {
         return false;
     }
-    let n = used_count(s, p);
-    let from = key_place(s, p, 0);
-    let book = p == partition_count(s);
-    keys_apart(s, from, n, book, marks, (p + 1) as u8)
+    keys_apart(s, k, n, book, marks, mark)
 }
 
-// The same of each partition. One table of marks serves them all.
+// The same of each partition. One table of marks serves them all: the mark of partition p is p + 1.
 fn check_each(s: &[u8], marks: &mut [u8]) -> bool
     requires { ⌜ Shape (now s) × (8179 ≤ length (now marks)) ⌝ }
     ensures { λ r. ⌜ r ≡ question11InAnyOrder (now (s .entry)) ⌝ }
 {
     let parts = partition_count(s);
+    let cap = capacity(s);
     let mut p = 0;
     while p <= parts {
-        if !check_partition(s, p, marks) {
+        let n = used_count(s, p);
+        let k = key_place(s, p, 0);
+        let v = value_place(s, p, 0);
+        if !partition_apart(s, cap, n, k, v, p == parts, marks, (p + 1) as u8) {
             return false;
         }
         p += 1;
@@ -125,14 +137,14 @@ fn has(s: &[u8], from: usize, n: usize, near: usize, key: u64) -> bool
     index_of(s, from, n, key) < n
 }
 
-// Are all five book keys of `id` among the `n` keys from byte `from` on? They are likely to stand from row `first` on.
-fn five_rows(s: &[u8], from: usize, n: usize, first: usize, id: u64) -> bool
-    requires { ⌜ (from + 8 * n ≤ length (now s)) × (first ≤ n) × (id < 2 ^ 61) ⌝ }
-    ensures { λ r. ⌜ r ≡ five (fields 8 (now (s .entry)) from n) id ⌝ }
+// Are all five book keys of the id of `key` among the `n` keys from byte `from` on? They are likely to stand from row `first` on.
+fn five_rows(s: &[u8], from: usize, n: usize, first: usize, key: u64) -> bool
+    requires { ⌜ (from + 8 * n ≤ length (now s)) × (first ≤ n) ⌝ }
+    ensures { λ r. ⌜ r ≡ five (fields 8 (now (s .entry)) from n) (bookedId key) ⌝ }
 {
     let mut j: usize = 0;
     while j < 5 {
-        if !has(s, from, n, first + j, id * 8 + j as u64) {
+        if !has(s, from, n, first + j, keys::beside(key, j as u64)) {
             return false;
         }
         j += 1;
@@ -156,8 +168,8 @@ fn book_whole(s: &[u8], from: usize, n: usize) -> bool
     let mut i = 0;
     while i < n {
         let key = words::read64(s, at);
-        let first = first_of(i, (key % 8) as usize);
-        if !five_rows(s, from, n, first, key / 8) {
+        let first = first_of(i, keys::book_row(key) as usize);
+        if !five_rows(s, from, n, first, key) {
             return false;
         }
         at += 8;

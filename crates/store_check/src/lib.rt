@@ -1,4 +1,5 @@
-// Questions 9 to 12, put to any bytes. The rows of a partition stand by rising key.
+// Questions 9 to 12, put to any bytes. The rows of a partition stand by rising key. What is asked of one partition goes by the places
+// where it lies, so that it can be put to one that lies elsewhere than in a store.
 pub mod any_order;
 
 use questions::Verdict;
@@ -19,8 +20,7 @@ ghost use Rattle.words.specs.Words.{fields};
 ghost use Rattle.questions.specs.Basics.{eachFrom};
 ghost use Rattle.questions.specs.Questions.{number, ask};
 ghost use Rattle.questions.specs.Verdicts.{verdictOf};
-ghost use Rattle.store.specs.Layout.{partsOf, capOf, usedOf};
-ghost use Rattle.store.specs.Questions.{isForm, keysOk, blankRow, partOk, bookOk};
+ghost use Rattle.store.specs.Questions.{keysOk, blankRow, partOkAt, bookOk};
 ghost use Rattle.store.specs.Questions.{question9, question10, question11, question12, storeRefusal};
 ghost use Rattle.store.specs.Sound.{Shape, Sound};
 
@@ -42,29 +42,14 @@ fn check_shape(s: &[u8]) -> Verdict
     questions::accepted()
 }
 
-// Is `key` of a form of the book, or of another partition?
-fn form(book: bool, key: u64) -> bool
-    ensures { λ r. ⌜ r ≡ isForm book key ⌝ }
+// Are the rows from row `n` on zero, of `cap` rows whose keys stand from byte `k` on and whose values from byte `v` on? The loop steps on
+// by 8 bytes, the width of a key, and by 4, that of a value.
+fn blank_rows(s: &[u8], cap: usize, n: usize, k: usize, v: usize) -> bool
+    requires { ⌜ (n ≤ cap) × (k + 8 * cap ≤ length (now s)) × (v + 4 * cap ≤ length (now s)) ⌝ }
+    ensures { λ r. ⌜ r ≡ eachFrom (blankRow (now (s .entry)) k v) (cap - n) n ⌝ }
 {
-    if book {
-        if key < 34_359_738_368 {
-            return key % 8 <= 4;
-        }
-        return false;
-    }
-    if 9_223_372_036_854_775_808 <= key {
-        return key < 9_223_372_041_149_743_104;
-    }
-    key < 281_474_976_710_656
-}
-
-// Are the rows of partition `p` from row `n` on zero?
-fn blank_rows(s: &[u8], p: usize, n: usize, cap: usize) -> bool
-    requires { ⌜ Shape (now s) × (p ≤ partsOf (now s)) × (n ≤ cap) × (cap ≡ capOf (now s)) ⌝ }
-    ensures { λ r. ⌜ r ≡ eachFrom (blankRow (now (s .entry)) p) (cap - n) n ⌝ }
-{
-    let mut key_from = key_place(s, p, n);
-    let mut value_from = value_place(s, p, n);
+    let mut key_from = k + 8 * n;
+    let mut value_from = v + 4 * n;
     let mut i = n;
     while i < cap {
         if words::read64(s, key_from) != 0 {
@@ -80,18 +65,15 @@ fn blank_rows(s: &[u8], p: usize, n: usize, cap: usize) -> bool
     true
 }
 
-// Is the used count of partition `p` at most C, and is each unused row zero?
-fn filled(s: &[u8], p: usize) -> bool
-    requires { ⌜ Shape (now s) × (p ≤ partsOf (now s)) ⌝ }
-    ensures { λ r. ⌜ r ≡ (leb (usedOf (now (s .entry)) p) (capOf (now (s .entry)))
-        && eachFrom (blankRow (now (s .entry)) p) (capOf (now (s .entry)) - usedOf (now (s .entry)) p) (usedOf (now (s .entry)) p)) ⌝ }
+// Is the used count `n` at most `cap`, and is each unused row zero, of a partition that lies at these places?
+fn filled(s: &[u8], cap: usize, n: usize, k: usize, v: usize) -> bool
+    requires { ⌜ (k + 8 * cap ≤ length (now s)) × (v + 4 * cap ≤ length (now s)) ⌝ }
+    ensures { λ r. ⌜ r ≡ (leb n cap && eachFrom (blankRow (now (s .entry)) k v) (cap - n) n) ⌝ }
 {
-    let cap = capacity(s);
-    let n = used_count(s, p);
     if cap < n {
         return false;
     }
-    blank_rows(s, p, n, cap)
+    blank_rows(s, cap, n, k, v)
 }
 
 // Are the `n` keys from byte `from` on of a form, and do they rise? Then each is unlike the others. `low` is the least that may come next.
@@ -107,7 +89,7 @@ fn keys_ok(s: &[u8], from: usize, n: usize, book: bool) -> bool
         if key < low {
             return false;
         }
-        if !form(book, key) {
+        if !keys::of_form(book, key) {
             return false;
         }
         low = key + 1;
@@ -117,29 +99,31 @@ fn keys_ok(s: &[u8], from: usize, n: usize, book: bool) -> bool
     true
 }
 
-// Question 11 of partition `p`.
-fn check_partition(s: &[u8], p: usize) -> bool
-    requires { ⌜ Shape (now s) × (p ≤ partsOf (now s)) ⌝ }
-    ensures { λ r. ⌜ r ≡ partOk (now (s .entry)) p ⌝ }
+// Question 11 of one partition, wherever it lies: its used count is `n`, its `cap` keys stand from byte `k` on and its `cap` values from
+// byte `v` on, and `book` says whether it is the book.
+pub fn partition_ok(s: &[u8], cap: usize, n: usize, k: usize, v: usize, book: bool) -> bool
+    requires { ⌜ (k + 8 * cap ≤ length (now s)) × (v + 4 * cap ≤ length (now s)) ⌝ }
+    ensures { λ r. ⌜ r ≡ partOkAt keysOk book (now (s .entry)) cap n k v ⌝ }
 {
-    if !filled(s, p) {
+    if !filled(s, cap, n, k, v) {
         return false;
     }
-    let n = used_count(s, p);
-    let from = key_place(s, p, 0);
-    let book = p == partition_count(s);
-    keys_ok(s, from, n, book)
+    keys_ok(s, k, n, book)
 }
 
-// Question 11.
+// Question 11. The places of each partition are worked out once.
 fn check_partitions(s: &[u8]) -> bool
     requires { ⌜ Shape (now s) ⌝ }
     ensures { λ r. ⌜ r ≡ question11 (now (s .entry)) ⌝ }
 {
     let parts = partition_count(s);
+    let cap = capacity(s);
     let mut p = 0;
     while p <= parts {
-        if !check_partition(s, p) {
+        let n = used_count(s, p);
+        let k = key_place(s, p, 0);
+        let v = value_place(s, p, 0);
+        if !partition_ok(s, cap, n, k, v, p == parts) {
             return false;
         }
         p += 1;
@@ -147,8 +131,9 @@ fn check_partitions(s: &[u8]) -> bool
     true
 }
 
-// Has each id of the `n` book keys from byte `from` on all five rows? Rising keys have them side by side, the fifth 4 more than the first.
-fn book_ok(s: &[u8], from: usize, n: usize) -> bool
+// Question 12 of a book, wherever it lies: its `n` keys stand from byte `from` on, and question 11 passes them. Has each booked id all
+// five rows? Rising keys have them side by side, so that the fifth key is the last of the first one's five.
+pub fn book_ok(s: &[u8], from: usize, n: usize) -> bool
     requires { ⌜ (from + 8 * n ≤ length (now s)) × (keysOk true (fields 8 (now s) from n) ≡ true) ⌝ }
     ensures { λ r. ⌜ r ≡ bookOk (fields 8 (now (s .entry)) from n) ⌝ }
 {
@@ -156,7 +141,7 @@ fn book_ok(s: &[u8], from: usize, n: usize) -> bool
     let mut left = n;
     while 5 <= left {
         let key = words::read64(s, at);
-        if words::read64(s, at + 32) != key + 4 {
+        if words::read64(s, at + 32) != keys::last_of_five(key) {
             return false;
         }
         at += 40;

@@ -1,4 +1,4 @@
--- A fresh store: its bytes, that it is sound, and that it has no row. Assumes nothing.
+-- A fresh store: its bytes, that it is sound, and that it has no row.
 use mathlib.Core.Bool.{true, false}
 use mathlib.Core.List.{List, []}
 use mathlib.Core.Option.{none, some}
@@ -14,7 +14,7 @@ use Rattle.words.specs.Words.{le, put, fields}
 use Rattle.words.proofs.Laws.{le-zero}
 use Rattle.store.specs.Layout.{partsOf, capOf, sizeOf, keyAt, valueAt, usedOf}
 use Rattle.store.specs.Rows.{pairs, keysIn, rowsOf, storeOf, emptyStore}
-use Rattle.store.specs.Questions.{numbersRight, keysApart, rising, keysOk, allIn, bookOk, question12, storeRefusal, createRefusal}
+use Rattle.store.specs.Questions.{numbersRight, keysApart, rising, keysOk, createRefusal}
 use Rattle.store.specs.Sound.{KeysGood, Sound}
 use Rattle.store.specs.Created.{freshBytes, Created}
 use Rattle.questions.specs.Questions.{No, number}
@@ -23,7 +23,7 @@ use Rattle.questions.specs.declared.Verdict.{Verdict}
 use Rattle.questions.specs.declared.Verdict.the-variants.{Accepted}
 use Rattle.questions.proofs.Questions.{ask-yes, ask-no}
 use Rattle.store.proofs.Bytes.{used-here, used-past}
-use Rattle.store.proofs.Sound.{numbers-mean, store-passes}
+use Rattle.store.proofs.Sound.{numbers-mean}
 
 -- n zero bytes
 abbrev zeroBytes : ℕ → List ℕ
@@ -78,10 +78,14 @@ module _ (P C : ℕ) where
   unfolding rowsOf pairs Words.fields
   no-rows p = rw (fresh-unused p) refl
 
-  pub fresh-store : storeOf (freshBytes P C) ≡ emptyStore P C
-  fresh-store = λ i. record { parts = fresh-parts i; cap = fresh-cap i; rows = fun-ext {f = rowsOf (freshBytes P C)} {g = λ p. []} no-rows i }
+  fresh-store : storeOf (freshBytes P C) ≡ emptyStore P C
+  fresh-store = λ i. record {
+    parts = fresh-parts i;
+    cap = fresh-cap i;
+    rows = fun-ext {f = rowsOf (freshBytes P C)} {g = λ p. []} no-rows i;
+  }
 
-  pub fresh-sound : numbersRight P C ≡ true → Sound (freshBytes P C)
+  fresh-sound : numbersRight P C ≡ true → Sound (freshBytes P C)
   unfolding KeysGood keysIn keysOk keysApart rising
   fresh-sound ok =
       let n = numbers-mean P C ok in
@@ -106,11 +110,6 @@ module _ (P C : ℕ) where
         keys = λ p l. rw (no-rows p) refl;
       }
 
-  -- a fresh store passes 9 to 12
-  pub fresh-passes : numbersRight P C ≡ true → storeRefusal (freshBytes P C) ≡ none
-  unfolding question12 bookOk keysIn allIn
-  fresh-passes ok = store-passes (freshBytes P C) (fresh-sound ok) (rw (no-rows (partsOf (freshBytes P C))) refl)
-
 -- ---- what create leaves, at each of its answers
 
 module _ (xs : List ℕ) (P C : ℕ) (r : Verdict) where
@@ -126,13 +125,17 @@ module _ (xs : List ℕ) (P C : ℕ) (r : Verdict) where
   pub created-10 : numbersRight P C ≡ true → (length xs ≡ sizeOf P C → ⊥) → r ≡ verdictOf (some (number 10)) → Created xs xs P C r
   unfolding createRefusal
   created-10 e n a =
-      refused (number 10) (ask-yes (number 9) (numbersRight P C) _ e ∙ ask-no (number 10) (eqb (length xs) (sizeOf P C)) none (ne-eqb (length xs) (sizeOf P C) n)) a
+      refused (number 10) (ask-yes (number 9) (numbersRight P C) _ e
+      ∙ ask-no (number 10) (eqb (length xs) (sizeOf P C)) none (ne-eqb (length xs) (sizeOf P C) n)) a
 
-  pub created-fresh : (ys : List ℕ) → numbersRight P C ≡ true → length xs ≡ sizeOf P C → ys ≡ freshBytes P C → r ≡ verdictOf none → Created xs ys P C r
+  pub created-fresh : (ys : List ℕ) → numbersRight P C ≡ true → length xs ≡ sizeOf P C → ys ≡ freshBytes P C → r ≡ verdictOf none →
+      Created xs ys P C r
   unfolding createRefusal
   created-fresh ys e l b a =
       record {
-        answer = a ∙ ap verdictOf (sym (ask-yes (number 9) (numbersRight P C) _ e ∙ ask-yes (number 10) (eqb (length xs) (sizeOf P C)) none (eq-eqb (length xs) (sizeOf P C) l)));
+        answer = a ∙ ap verdictOf
+            (sym (ask-yes (number 9) (numbersRight P C) _ e
+            ∙ ask-yes (number 10) (eqb (length xs) (sizeOf P C)) none (eq-eqb (length xs) (sizeOf P C) l)));
         bytes = λ q. b;
         made = λ q. rw b (fresh-sound P C e, fresh-store P C);
         kept = λ q. absurd (q a);

@@ -1,4 +1,4 @@
--- Laws of text: digits, and text put behind text. Assumes nothing.
+-- Laws of text: digits, and text put behind text.
 use mathlib.Core.Path.{_≡_, refl, sym, ap, subst, _∙_}
 use mathlib.Core.List.{List, [], _∷_, _++_, append-nil, append-assoc}
 use mathlib.Core.Logic.{⊎-elim}
@@ -24,13 +24,13 @@ enough (suc m) (suc n) x p q = go (enough m n (x / 10)) (decLt x 10) where
   go tenth (no l) = rw (le-ltb x 10 (omega arith)) (ap (λ ds. ds ++ digit (x % 10) ∷ []) (tenth (omega arith) (omega arith)))
 
 -- a digit is written as itself
-pub decimal-one : (x : ℕ) → x < 10 → decimal x ≡ digit x ∷ []
+decimal-one : (x : ℕ) → x < 10 → decimal x ≡ digit x ∷ []
 unfolding decimal digits
 decimal-one zero h = refl
 decimal-one (suc x) h = rw (lt-ltb (suc x) 10 h)
 
 -- of a number from 10 on, the last digit stands behind those of its tenth
-pub decimal-more : (x : ℕ) → 10 ≤ x → decimal x ≡ decimal (x / 10) ++ digit (x % 10) ∷ []
+decimal-more : (x : ℕ) → 10 ≤ x → decimal x ≡ decimal (x / 10) ++ digit (x % 10) ∷ []
 unfolding decimal digits
 decimal-more zero h = absurd (omega arith)
 decimal-more (suc x) h =
@@ -55,7 +55,8 @@ pub appended-none : (out : List ℕ) (n : ℕ) → n ≤ length out → Appended
 appended-none out n h = record { reach = omega arith; room = h; says = sym (append-nil (take n out)) }
 
 -- text, and then text behind it
-pub appended-then : {out out′ out″ : List ℕ} {n n′ n″ : ℕ} {s t : List ℕ} → Appended out n s out′ n′ → Appended out′ n′ t out″ n″ → Appended out n (s ++ t) out″ n″
+pub appended-then : {out out′ out″ : List ℕ} {n n′ n″ : ℕ} {s t : List ℕ} → Appended out n s out′ n′ → Appended out′ n′ t out″ n″ →
+    Appended out n (s ++ t) out″ n″
 appended-then {out} {n = n} {s = s} {t} a b =
     record {
       reach = rw length-append (omega arith);
@@ -77,20 +78,23 @@ pub copied-none : (out src : List ℕ) (n : ℕ) → n ≤ length out → Append
 copied-none out src n h = rw add-zero (appended-none out n h)
 
 -- one byte more of src
-pub copied-more : {out out′ : List ℕ} (src : List ℕ) {n i : ℕ} → i < length src → n + i < length out′ → Appended out n (take i src) out′ (n + i)
+pub copied-more : {out out′ : List ℕ} (src : List ℕ) {n i : ℕ} → i < length src → n + i < length out′ →
+    Appended out n (take i src) out′ (n + i)
     → Appended out n (take (i + 1) src) (set out′ (n + i) (getD src i 0)) (n + (i + 1))
 copied-more {out} {out′} src {n} {i} l h a =
     let e : n + (i + 1) ≡ n + i + 1 = omega arith in
     rw (e, add-one i, take-suc src i 0 l) (appended-then a (appended-byte out′ (n + i) (getD src i 0) h))
 
 -- all of src
-pub copied-all : {out out′ : List ℕ} (src : List ℕ) {n i : ℕ} → i ≡ length src → Appended out n (take i src) out′ (n + i) → Appended out n src out′ (n + i)
+pub copied-all : {out out′ : List ℕ} (src : List ℕ) {n i : ℕ} → i ≡ length src → Appended out n (take i src) out′ (n + i) →
+    Appended out n src out′ (n + i)
 copied-all {out} {out′} src {n} {i} e a = subst (λ xs. Appended out n xs out′ (n + i)) (ap (λ k. take k src) e ∙ take-length src) a
 
 -- one digit, and one digit behind the others
 pub number-one : {out out′ : List ℕ} {n n′ x : ℕ} → x < 10 → Appended out n (digit x ∷ []) out′ n′ → Appended out n (decimal x) out′ n′
 number-one {x = x} h a = rw (decimal-one x h) a
 
-pub number-more : {out out′ out″ : List ℕ} {n n′ n″ x : ℕ} → 10 ≤ x → Appended out n (decimal (x / 10)) out′ n′ → Appended out′ n′ (digit (x % 10) ∷ []) out″ n″
+pub number-more : {out out′ out″ : List ℕ} {n n′ n″ x : ℕ} → 10 ≤ x → Appended out n (decimal (x / 10)) out′ n′ →
+    Appended out′ n′ (digit (x % 10) ∷ []) out″ n″
     → Appended out n (decimal x) out″ n″
 number-more {x = x} h a b = rw (decimal-more x h) (appended-then a b)

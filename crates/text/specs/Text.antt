@@ -1,4 +1,4 @@
--- What is printed, as bytes: a number in decimal, and text put behind text. Assumes nothing: these are definitions.
+-- What is printed, as bytes: a number in decimal, and text put behind text.
 use mathlib.Core.List.{List, [], _∷_, _++_}
 use mathlib.Core.Path.{_≡_}
 use Prim.Native.Nat.{ℕ, zero, suc, _+_, _/_, _%_, _≤_}

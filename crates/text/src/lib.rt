@@ -1,7 +1,6 @@
 // Text is put behind text in a buffer that the caller lends. The text so far is the buffer's first `n` bytes; each function answers how
 // many there are then.
 ghost use mathlib.Core.List.{[], _∷_};
-ghost use mathlib.Core.Path.{_≡_};
 ghost use Prim.Native.Nat.{_+_, _≤_, _<_};
 ghost use lib.ListN.{length};
 ghost use Rattle.text.specs.Text.{decimal, Appended};

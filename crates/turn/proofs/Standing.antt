@@ -1,4 +1,4 @@
--- Where a sound agent stands: its workflow, and what the rules make of its turn. Assumes nothing.
+-- Where a sound agent stands: its workflow, and what the rules make of its turn.
 use mathlib.Core.Bool.{Bool, true, false}
 use mathlib.Core.List.{List, [], _∷_}
 use mathlib.Core.Option.{Option, none, some, Option·getD}
@@ -6,6 +6,8 @@ use mathlib.Core.Path.{_≡_, refl, sym, _∙_, ap, subst}
 use Prim.Native.Nat.{ℕ, suc, _^_, _≤_, _<_}
 use native.Mathlib.Omega.{arith}
 use lib.ListN.{length, getD, drop, length-drop}
+use Rattle.meaning.proofs.Tests.{workflow-below, booked-of-13}
+use Rattle.contents.specs.Contents.{contentsOf, valueIn, argumentsOf, requestOf, bookOf, bookRows}
 use Rattle.questions.specs.Basics.{if_then_else_}
 use Rattle.keys.specs.Keys.{bookKey}
 use Rattle.rules.specs.Instructions.{Code, Place}
@@ -16,7 +18,7 @@ use Rattle.rules.specs.Checked.{Checked, sideAt}
 use Rattle.rules.specs.Courses.{going, passed, Next, goes, nextOf}
 use Rattle.rules.specs.Courses as Courses
 use Rattle.rules.specs.Store.{Request}
-use Rattle.rules.specs.Calls.{codeBy, canTurn, canDo, turnIn, turnOn}
+use Rattle.rules.specs.Calls.{codeBy, canTurn, canDo, turnIn, turnOn, withStore}
 use Rattle.rules.specs.Calls as Calls
 use Rattle.questions.proofs.Updates.{false-true}
 use Rattle.rules.proofs.Positions.{goes-forward}
@@ -33,10 +35,8 @@ use Rattle.instruction.specs.declared.Spot.{Spot}
 use Rattle.course.specs.Next.{StandsOutside}
 use Rattle.agents.specs.declared.Agent.{Agent}
 use Rattle.agents.specs.Slots.{held}
-use Rattle.meaning.specs.State.{contentsOf, valueIn, argumentsOf, requestOf, bookOf}
-use Rattle.meaning.specs.Questions.{bookRows, isSound}
-use Rattle.meaning.proofs.Book.{book-row}
-use Rattle.meaning.proofs.Steps.{workflow-below, booked-of-13}
+use Rattle.meaning.specs.Questions.{isSound}
+use Rattle.contents.proofs.Book.{book-row}
 use Rattle.meaning.proofs.Sense.{sound-meant}
 use Rattle.turn.specs.Turned.{Turnable, workflowIn}
 
@@ -101,7 +101,7 @@ module _ (pack store : List ℕ) (a : Agent) (h : a .id < 2 ^ 32) (t : Turnable 
   booked = book-row (bookRows store) (a .id) h ∙ ap (λ o. requestOf o (argumentsOf (valueIn (bookRows store)) (a .id))) booked-row
 
   pub below : w < count pack
-  below = workflow-below pack store (a .id) w (booked-of-13 pack store (t .right)) booked-row
+  below = workflow-below pack store (a .id) w h (booked-of-13 pack store (t .right)) booked-row
 
   meant : (a .position < length (Calls.codeOf (packOf pack) request))
       × (sideAt (Calls.codeOf (packOf pack) request) (a .position) ≡ outside) × (a .step ≤ a .position)
@@ -148,17 +148,17 @@ module _ (pack store : List ℕ) (a : Agent) (h : a .id < 2 ^ 32) (t : Turnable 
   unfolding contentsOf
   code-by = ap (codeBy (packOf pack)) booked ∙ code-is
 
-  -- its store beside any agents
-  abbrev beside : (ℕ → Option Calls.Agent) → Calls.State
-  beside slots = record { store = contentsOf (storeOf store); slots = slots }
+  -- its store beside anything else
+  abbrev beside : Calls.State → Calls.State
+  beside others = withStore others (contentsOf (storeOf store))
 
   module _ (x : Next) (e : nextOf code (going at) ≡ x) where
-    pub turn-is : (slots : ℕ → Option Calls.Agent) (slot : ℕ) →
-        turnIn (packOf pack) (beside slots) slot (some (held a)) ≡ turnOn (beside slots) slot (held a) code x
+    pub turn-is : (others : Calls.State) (slot : ℕ) →
+        turnIn (packOf pack) (beside others) slot (some (held a)) ≡ turnOn (beside others) slot (held a) code x
     unfolding Calls.turnIn
-    turn-is slots slot =
-        ap (λ (c : Code). turnOn (beside slots) slot (held a) c (nextOf c (going at))) code-by
-        ∙ ap (turnOn (beside slots) slot (held a) code) e
+    turn-is others slot =
+        ap (λ (c : Code). turnOn (beside others) slot (held a) c (nextOf c (going at))) code-by
+        ∙ ap (turnOn (beside others) slot (held a) code) e
 
     pub can-is : canTurn (packOf pack) (contentsOf (storeOf store)) (some (held a))
         ≡ canDo (contentsOf (storeOf store)) (a .id) (a .step) code x

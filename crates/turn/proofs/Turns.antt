@@ -1,4 +1,4 @@
--- The three kinds of turn: a reply, a move, a block. Assumes nothing.
+-- The three kinds of turn: a reply, a move, a block.
 use mathlib.Core.Bool.{true}
 use mathlib.Core.List.{List}
 use mathlib.Core.Logic.{inl, inr}
@@ -7,13 +7,16 @@ use mathlib.Core.Path.{_≡_, refl, sym, _∙_, ap, subst}
 use Prim.Native.Nat.{ℕ, _^_, _≤_, _<_}
 use native.Mathlib.Omega.{arith}
 use lib.ListN.{length}
+use Rattle.keys.specs.Keys.{tableOf, logOf}
+use Rattle.contents.specs.Wrote.{Wrote}
+use Rattle.contents.specs.Contents.{contentsOf, valueIn}
 use Rattle.rules.specs.Instructions.{Code, Place, BEGIN, instructionAt}
 use Rattle.rules.specs.Blocks.{yields, runBlock}
 use Rattle.rules.specs.Blocks as Blocks
 use Rattle.rules.specs.Courses.{going, passed, goes, does, says, nextOf}
 use Rattle.rules.specs.Courses as Courses
-use Rattle.rules.specs.Store.{Request, Store, sought}
-use Rattle.rules.specs.Calls.{gives, withSlot, canWrite, throughBlock}
+use Rattle.rules.specs.Store.{Store, sought}
+use Rattle.rules.specs.Calls.{gives, withSlot, canWrite, throughBlock, withStore}
 use Rattle.rules.specs.Calls as Calls
 use Rattle.questions.proofs.Updates.{false-true}
 use Rattle.rules.proofs.Positions.{does-begins}
@@ -37,29 +40,21 @@ use Rattle.course.specs.declared.Upcoming.{Upcoming}
 use Rattle.course.specs.Next.{nextAt, nextIn, StandsOutside}
 use Rattle.block.specs.declared.write.BlockOutcome.{BlockOutcome}
 use Rattle.block.specs.declared.write.BlockOutcome.the-variants.{Result, NoRoom}
-use Rattle.block.specs.Through.{tableIn, logIn, Ready, blockAt, Through}
-use Rattle.block.specs.Store.{hadRoom}
+use Rattle.block.specs.Through.{Ready, blockAt, Through, hadRoom}
 use Rattle.block.proofs.Callers.{log-in, can-write, passes-block, no-room-same, stays, same-bytes}
-use Rattle.meaning.specs.State.{contentsOf, valueIn, bookOf}
-use Rattle.meaning.specs.Carried.{Wrote}
 use Rattle.meaning.proofs.Sense.{begin-below}
-use Rattle.meaning.proofs.Equal.{only-bytes}
-use Rattle.meaning.proofs.Carry.{wrote-nothing}
+use Rattle.contents.proofs.Equal.{only-bytes, wrote-nothing}
 use Rattle.turn.specs.declared.Turned.{Turned}
 use Rattle.turn.specs.Turned.{Turnable, movedTo, replied, behindBlock, TurnedBy}
 use Rattle.turn.proofs.Standing.{below, in-size, in-ops, short-ops, few-steps, stands-outside, fits-16, turn-is, can-is, w, ops}
 use Rattle.turn.proofs.Standing.{ws, code, at, spot}
 
--- how the book's rows are read
-abbrev book : List Row → (id : ℕ) → Option Request
-book rows = bookOf (valueIn rows)
-
 module _ (pack store : List ℕ) (a : Agent) (h : a .id < 2 ^ 32) (t : Turnable pack store a) where
   -- an answer without a write
   unwritten : (r : Turned) → Whole (r .agent) → Calls.canTurn (packOf pack) (contentsOf (storeOf store)) (some (held a)) ≡ true →
-      ((slots : ℕ → Option Calls.Agent) (slot : ℕ) →
-      Calls.turnIn (packOf pack) (record { store = contentsOf (storeOf store); slots = slots }) slot (some (held a))
-      ≡ gives (answerOf (r .answer)) (withSlot (record { store = contentsOf (storeOf store); slots = slots }) slot (agentOf (r .agent)))) →
+      ((others : Calls.State) (slot : ℕ) →
+      Calls.turnIn (packOf pack) (withStore others (contentsOf (storeOf store))) slot (some (held a))
+      ≡ gives (answerOf (r .answer)) (withSlot (withStore others (contentsOf (storeOf store))) slot (agentOf (r .agent)))) →
       TurnedBy pack store a r store
   unwritten r u y f = record { refused = λ n. false-true n y; whole = u; written = wrote-nothing store; turned = λ _. f }
 
@@ -111,11 +106,11 @@ module _ (pack store : List ℕ) (a : Agent) (h : a .id < 2 ^ 32) (t : Turnable 
         }
 
     module _ (store′ : List ℕ) (b : BlockOutcome) (r : Turned)
-        (through : Through store store′ p (a .id) (a .step) (runBlock (code pack store a h t) begin (tableIn (rowsOf store p))) b
-        (logIn (rowsOf store p) (a .id) (a .step))) where
+        (through : Through store store′ p (a .id) (a .step) (runBlock (code pack store a h t) begin (tableOf (valueIn (rowsOf store p)))) b
+        (logOf (valueIn (rowsOf store p)) (a .id) (a .step))) where
       -- what its log row says
       abbrev logs : Option ℕ
-      logs = logIn (rowsOf store p) (a .id) (a .step)
+      logs = logOf (valueIn (rowsOf store p)) (a .id) (a .step)
 
       abbrev s : Store
       s = contentsOf (storeOf store)
@@ -128,18 +123,18 @@ module _ (pack store : List ℕ) (a : Agent) (h : a .id < 2 ^ 32) (t : Turnable 
 
       log-is : s .log .usual p (a .id) (a .step) ≡ logs
       unfolding contentsOf
-      log-is = ap (λ (l : ℕ → ℕ → Option ℕ). l (a .id) (a .step)) (log-in book store p lies)
+      log-is = ap (λ (l : ℕ → ℕ → Option ℕ). l (a .id) (a .step)) (log-in store p lies)
 
       can : Calls.canTurn (packOf pack) s (some (held a)) ≡ hadRoom b
       unfolding Calls.canDo contentsOf
       can =
           can-is pack store a h t (does begin p onto) e ∙ ap (λ o. canWrite s (code pack store a h t) begin p (sought o)) log-is
-          ∙ can-write book store store′ p lies (held a) (code pack store a h t) begin onto b logs through
+          ∙ can-write store store′ p lies (held a) (code pack store a h t) begin onto b logs through
 
       wrote : Wrote store store′ (contentsOf (storeOf store′))
       unfolding StoreQuestions.question12 contentsOf
       wrote =
-          let y = stays book store store′ p lies (held a) (code pack store a h t) begin onto b logs through in
+          let y = stays store store′ p lies (held a) (code pack store a h t) begin onto b logs through in
           record {
             parts = y .parts;
             cap = y .cap;
@@ -150,7 +145,7 @@ module _ (pack store : List ℕ) (a : Agent) (h : a .id < 2 ^ 32) (t : Turnable 
                 (subst (λ (rows : List Row). bookOk (keysIn rows) ≡ true) (sym (y .book-rows)) (f .1));
             holds = refl;
             only = only-bytes store store′ (contentsOf (storeOf store′)) (y .parts) refl;
-            bytes = λ n. same-bytes book store store′ p lies (held a) (code pack store a h t) begin onto b logs through;
+            bytes = λ n. same-bytes store store′ p lies (held a) (code pack store a h t) begin onto b logs through;
           }
 
       is-block : r ≡ behindBlock (code pack store a h t) a begin b → TurnedBy pack store a r store′
@@ -165,17 +160,17 @@ module _ (pack store : List ℕ) (a : Agent) (h : a .id < 2 ^ 32) (t : Turnable 
                 whole = inl refl;
                 written = wrote;
                 turned =
-                    λ y slots slot.
-                    turn-is pack store a h t (does begin p onto) e slots slot
+                    λ y others slot.
+                    turn-is pack store a h t (does begin p onto) e others slot
                     ∙ ap
-                    (λ o. throughBlock (record { store = s; slots = slots }) slot (held a) (code pack store a h t) begin p onto (sought o))
+                    (λ o. throughBlock (withStore others s) slot (held a) (code pack store a h t) begin p onto (sought o))
                     log-is
-                    ∙ passes-block book store store′ p lies (held a) (code pack store a h t) begin onto b logs through slots slot v f;
+                    ∙ passes-block store store′ p lies (held a) (code pack store a h t) begin onto b logs through others slot v f;
               })
           go NoRoom f =
               subst (λ (x : BlockOutcome). TurnedBy pack store a (behindBlock (code pack store a h t) a begin x) store′) (sym f)
               (record {
-                refused = λ n. (refl, no-room-same book store store′ p lies (held a) (code pack store a h t) begin onto b logs through f);
+                refused = λ n. (refl, no-room-same store store′ p lies (held a) (code pack store a h t) begin onto b logs through f);
                 whole = inl (t .used);
                 written = wrote;
                 turned = λ y. false-true (can ∙ ap hadRoom f) y;
@@ -229,12 +224,12 @@ module _ (pack store : List ℕ) (a : Agent) (h : a .id < 2 ^ 32) (t : Turnable 
 
       pub does-block : (store′ : List ℕ) (b : BlockOutcome) (r : Turned) →
           Through store store′ p (a .id) (a .step) (blockAt ops′ ws′ store p (u .place .position) (u .place .registers)) b
-          (logIn (rowsOf store p) (a .id) (a .step)) →
+          (logOf (valueIn (rowsOf store p)) (a .id) (a .step)) →
           r ≡ behindBlock (codeOf ops′ ws′) a place b → TurnedBy pack store a r store′
       does-block store′ b r g q =
           is-block pack store a h t place p (answered (Does p) f) store′ b r
           (subst
-          (λ (c : Code). Through store store′ p (a .id) (a .step) (runBlock c place (tableIn (rowsOf store p))) b
-          (logIn (rowsOf store p) (a .id) (a .step)))
+          (λ (c : Code). Through store store′ p (a .id) (a .step) (runBlock c place (tableOf (valueIn (rowsOf store p)))) b
+          (logOf (valueIn (rowsOf store p)) (a .id) (a .step)))
           same-code g)
           (q ∙ ap (λ (c : Code). behindBlock c a place b) same-code)

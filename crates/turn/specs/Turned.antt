@@ -1,14 +1,16 @@
--- The turn of one agent: what must hold before it, and what it comes to. Assumes nothing: these are definitions.
+-- The turn of one agent: what must hold before it, and what it comes to.
 use mathlib.Core.Bool.{true, false}
 use mathlib.Core.List.{List}
-use mathlib.Core.Option.{Option, none, some, Option·getD}
+use mathlib.Core.Option.{none, some, Option·getD}
 use mathlib.Core.Path.{_≡_}
 use Prim.Native.Nat.{ℕ, suc}
+use Rattle.contents.specs.Wrote.{Wrote}
+use Rattle.contents.specs.Contents.{contentsOf, valueIn, bookOf, bookRows}
 use Rattle.keys.specs.Keys.{bookKey}
 use Rattle.rules.specs.Instructions.{Code, Place}
 use Rattle.rules.specs.Blocks.{yields}
 use Rattle.rules.specs.Courses.{passed}
-use Rattle.rules.specs.Calls.{gives, withSlot, canTurn, turnIn}
+use Rattle.rules.specs.Calls.{gives, withSlot, canTurn, turnIn, withStore}
 use Rattle.rules.specs.Calls as Calls
 use Rattle.pack.specs.Refusal.{packRefusal}
 use Rattle.pack.specs.Meaning.{packOf}
@@ -16,13 +18,11 @@ use Rattle.store.specs.Rows.{lookup, storeOf}
 use Rattle.store.specs.Questions.{storeRefusal}
 use Rattle.agents.specs.declared.Agent.{Agent}
 use Rattle.agents.specs.declared.Answer.the-variants.{Moved, Reply, Refused}
-use Rattle.agents.specs.Slots.{noAgent, held, agentOf, Whole}
+use Rattle.agents.specs.Slots.{noAgent, held, agentOf, Whole, placed}
 use Rattle.agents.specs.Answers.{answerOf}
 use Rattle.block.specs.declared.write.BlockOutcome.{BlockOutcome}
 use Rattle.block.specs.declared.write.BlockOutcome.the-variants.{Result, NoRoom}
-use Rattle.meaning.specs.State.{contentsOf, valueIn, bookOf}
-use Rattle.meaning.specs.Questions.{bookRows, question13, isSound}
-use Rattle.meaning.specs.Carried.{Wrote}
+use Rattle.meaning.specs.Questions.{question13, isSound}
 use Rattle.turn.specs.declared.Turned.{Turned}
 
 -- What questions 1 to 14 say of an agent in a slot, with its pack and store.
@@ -36,10 +36,6 @@ pub record Turnable (pack store : List ℕ) (a : Agent) : Type 0 where
 -- the workflow that the book has of an id. (By question 14 it is there, and 0 is never taken for one.)
 abbrev pub workflowIn : (store : List ℕ) → (id : ℕ) → ℕ
 workflowIn store id = Option·getD (lookup (bookKey id 0) (bookRows store)) 0
-
--- the agent's record at another place and step
-abbrev pub placed : Agent → Place → (step : ℕ) → Agent
-placed a to t = record { «in_use» = true; id = a .id; position = to .position; step = t; registers = to .registers }
 
 -- an agent that moved
 abbrev pub movedTo : Agent → Place → (step : ℕ) → Turned
@@ -62,6 +58,6 @@ pub record TurnedBy (pack store : List ℕ) (a : Agent) (r : Turned) (store′ :
   pub whole : Whole (r .agent)
   pub written : Wrote store store′ (contentsOf (storeOf store′))
   pub turned : canTurn (packOf pack) (contentsOf (storeOf store)) (some (held a)) ≡ true →
-      (slots : ℕ → Option Calls.Agent) (slot : ℕ) →
-      turnIn (packOf pack) (record { store = contentsOf (storeOf store); slots = slots }) slot (some (held a))
-      ≡ gives (answerOf (r .answer)) (withSlot (record { store = contentsOf (storeOf store′); slots = slots }) slot (agentOf (r .agent)))
+      (others : Calls.State) (slot : ℕ) →
+      turnIn (packOf pack) (withStore others (contentsOf (storeOf store))) slot (some (held a))
+      ≡ gives (answerOf (r .answer)) (withSlot (withStore others (contentsOf (storeOf store′))) slot (agentOf (r .agent)))

@@ -25,7 +25,7 @@ fn workflow_of(store: &[u8], id: u32) -> usize
     requires { ⌜ Sound (now store) ⌝ }
     ensures { λ r. ⌜ r ≡ workflowIn (now (store .entry)) id ⌝ }
 {
-    let g = meaning::booked_workflow(store, id);
+    let g = book::booked_workflow(store, id);
     match g {
         Got::Value(w) => w as usize,
         Got::Absent => 0,
@@ -40,13 +40,7 @@ fn stand_at(a: Agent, to: Spot, step: u16) -> Turned
     let registers = to.registers;
     Turned {
         answer: Answer::Moved,
-        agent: Agent {
-            in_use: true,
-            id: a.id,
-            position: to.position as u16,
-            step,
-            registers,
-        },
+        agent: agents::placed(a, to.position as u16, registers, step),
     }
 }
 

@@ -1,36 +1,18 @@
--- Laws of numbers in bytes, each once over the width. A law takes a place as a number with an equation, as `at ≡ from + i * w`, so that
--- a caller writes the place as its code does. Assumes nothing.
+-- Laws of numbers in bytes, each once over the width. A law takes a place as a number with an equation, as `at ≡ from + i * w`, so that a
+-- caller writes the place as its code does.
 use mathlib.Core.Path.{_≡_, refl, sym, ap, ap₂, subst, _∙_}
 use mathlib.Core.List.{List, _∷_}
 use mathlib.Core.Logic.{inl, inr, ⊎-elim}
 use Prim.Native.Nat.{ℕ, zero, suc, _+_, _*_, _/_, _%_, _^_, _≤_, _<_}
-use native.Mathlib.Nat.{zero-add, add-zero, suc-add, one-mul, zero-mul, suc-mul, add-mul, mul-assoc, pow-suc, pow-succ', one-le-pow, div-one, div-div-eq-div-mul, not-suc-le-zero}
+use native.Mathlib.Nat.{zero-mul, suc-mul, add-mul, pow-suc, pow-succ', one-le-pow, not-suc-le-zero}
 use native.Mathlib.Decide.{ℕ-discrete, decLt}
 use native.Mathlib.Omega.{arith}
 use lib.Arith.{mod-mul}
 use lib.ListN.{length, getD, set, take, drop, length-set, length-take, length-drop}
-use lib.Seq.{getD-set-same, getD-set-other, set-comm, getD-take, getD-drop, ext-getD}
+use lib.Seq.{getD-set-same, getD-set-other, getD-take, getD-drop, ext-getD}
 use Rattle.words.specs.Words.{le, put, fields, Apart}
 
 -- ---- one number
-
--- a number of m + n bytes is one of m and then one of n
-pub le-add : (m n : ℕ) (xs : List ℕ) (at : ℕ) → le (m + n) xs at ≡ le m xs at + 256 ^ m * le n xs (at + m)
-unfolding le
-le-add zero n xs at = simp (zero-add, add-zero, one-mul)
-le-add (suc m) n xs at =
-    let e : at + suc m ≡ at + 1 + m = omega arith in
-    let p : 256 ^ suc m * le n xs (at + suc m) ≡ 256 * (256 ^ m * le n xs (at + 1 + m)) = rw (e, pow-succ', mul-assoc) in
-    let h = le-add m n xs (at + 1) in
-    rw suc-add (omega arith)
-
--- to write m + n bytes is to write m and then n
-pub put-add : (m n : ℕ) (xs : List ℕ) (at x : ℕ) → put (m + n) xs at x ≡ put n (put m xs at x) (at + m) (x / 256 ^ m)
-unfolding put
-put-add zero n xs at x = rw (zero-add, add-zero, div-one)
-put-add (suc m) n xs at x =
-    let e : at + suc m ≡ at + 1 + m = omega arith in
-    rw (suc-add, e, pow-succ', ← div-div-eq-div-mul) (put-add m n (set xs at (x % 256)) (at + 1) (x / 256))
 
 -- what lies above the n bytes of x is not written
 pub put-mod : (n : ℕ) (xs : List ℕ) (at x : ℕ) → put n xs at (x % 256 ^ n) ≡ put n xs at x
@@ -81,32 +63,6 @@ pub le-put-other : (m n : ℕ) (xs : List ℕ) (at to x : ℕ) → Apart at m to
 le-put-other m n xs at to x h =
     le-same m (put n xs to x) xs at (λ j p q. getD-put n xs to x j (λ r s. ⊎-elim (λ l. omega arith) (λ l. omega arith) h))
 
--- a number of n bytes is below 256 ^ n
-pub le-lt : (n : ℕ) (xs : List ℕ) (at : ℕ) → ((j : ℕ) → getD xs j 0 < 256) → le n xs at < 256 ^ n
-unfolding le
-le-lt zero xs at h = let z : 0 < 1 = omega arith in z
-le-lt (suc n) xs at h =
-    let b = h at in
-    let r = le-lt n xs (at + 1) h in
-    let p = pow-succ' 256 n in
-    omega arith
-
--- a byte that is stored elsewhere may be stored first
-pub set-put : (n : ℕ) (xs : List ℕ) (at x i v : ℕ) → (at ≤ i → i < at + n → ⊥) → set (put n xs at x) i v ≡ put n (set xs i v) at x
-unfolding put
-set-put zero xs at x i v h = refl
-set-put (suc n) xs at x i v h =
-    set-put n (set xs at (x % 256)) (at + 1) (x / 256) i v (λ p q. h (omega arith) (omega arith))
-    ∙ ap (λ l. put n l (at + 1) (x / 256)) (set-comm xs at i (x % 256) v (λ e. h (omega arith) (omega arith)))
-
--- two numbers at places that have no byte in common may be written in either order
-pub put-comm : (m n : ℕ) (xs : List ℕ) (at to x y : ℕ) → Apart at m to n → put m (put n xs to y) at x ≡ put n (put m xs at x) to y
-unfolding put
-put-comm zero n xs at to x y h = refl
-put-comm (suc m) n xs at to x y h =
-    ap (λ l. put m l (at + 1) (x / 256)) (set-put n xs to y at (x % 256) (λ p q. ⊎-elim (λ l. omega arith) (λ l. omega arith) h))
-    ∙ put-comm m n (set xs at (x % 256)) (at + 1) to (x / 256) y (⊎-elim (λ l. inl (omega arith)) (λ l. inr (omega arith)) h)
-
 -- where all bytes from `at` on are zero, there stands 0
 pub le-zero : (w : ℕ) (xs : List ℕ) (at : ℕ) → ((j : ℕ) → at ≤ j → getD xs j 0 ≡ 0) → le w xs at ≡ 0
 unfolding le
@@ -145,7 +101,8 @@ getD-fields w xs from (suc n) (suc i) at h e =
     getD-fields w xs (from + w) n i at (omega arith) (omega (arith, suc-mul i w))
 
 -- a write at a place that has none of their bytes leaves them
-pub fields-apart : (w n u : ℕ) (xs : List ℕ) (from to x : ℕ) → Apart from (n * w) to u → fields w (put u xs to x) from n ≡ fields w xs from n
+pub fields-apart : (w n u : ℕ) (xs : List ℕ) (from to x : ℕ) → Apart from (n * w) to u →
+    fields w (put u xs to x) from n ≡ fields w xs from n
 unfolding fields
 fields-apart w zero u xs from to x h = refl
 fields-apart w (suc n) u xs from to x (inl h) =
@@ -155,23 +112,9 @@ fields-apart w (suc n) u xs from to x (inl h) =
 fields-apart w (suc n) u xs from to x (inr h) =
     ap₂ _∷_ (le-put-other w u xs from to x (inr h)) (fields-apart w n u xs (from + w) to x (inr (omega arith)))
 
--- a write of the number at i, whose place is `at`, changes that one alone
-pub fields-put : (w : ℕ) (xs : List ℕ) (from n i at x : ℕ) → i < n → at ≡ from + i * w → from + n * w ≤ length xs → x < 256 ^ w
-    → fields w (put w xs at x) from n ≡ set (fields w xs from n) i x
-unfolding fields
-fields-put w xs from zero i at x l e h s = absurd (not-suc-le-zero l)
-fields-put w xs from (suc n) zero at x l e h s =
-    let here : at ≡ from = omega (arith, zero-mul w) in
-    ap₂ _∷_
-    (rw here (le-put w xs from x (omega (arith, suc-mul n w)) s))
-    (fields-apart w n w xs (from + w) at x (inr (omega arith)))
-fields-put w xs from (suc n) (suc i) at x l e h s =
-    ap₂ _∷_
-    (le-put-other w w xs from at x (inl (omega (arith, suc-mul i w))))
-    (fields-put w xs (from + w) n i at x (omega arith) (omega (arith, suc-mul i w)) (omega (arith, suc-mul n w)) s)
-
 -- the m of them from the one at a on, whose place is `at`
-pub fields-part : (w : ℕ) (xs : List ℕ) (from n a m at : ℕ) → a + m ≤ n → at ≡ from + a * w → take m (drop a (fields w xs from n)) ≡ fields w xs at m
+pub fields-part : (w : ℕ) (xs : List ℕ) (from n a m at : ℕ) → a + m ≤ n → at ≡ from + a * w →
+    take m (drop a (fields w xs from n)) ≡ fields w xs at m
 fields-part w xs from n a m at h e =
     ext-getD 0 _ _
     (omega (arith, long, length-fields w xs at m))
@@ -182,15 +125,9 @@ fields-part w xs from n a m at h e =
     long : length (take m (drop a (fields w xs from n))) ≡ m
     long = simp (length-take, length-drop, length-fields) (omega arith)
 
--- where all bytes from there on are zero, each of them is 0
-pub fields-zero : (w : ℕ) (xs : List ℕ) (from n i : ℕ) → ((j : ℕ) → from ≤ j → getD xs j 0 ≡ 0) → getD (fields w xs from n) i 0 ≡ 0
-unfolding fields
-fields-zero w xs from zero i h = refl
-fields-zero w xs from (suc n) zero h = le-zero w xs from h
-fields-zero w xs from (suc n) (suc i) h = fields-zero w xs (from + w) n i (λ j l. h j (omega arith))
-
 -- equal numbers in a row have equal bytes
-pub fields-bytes : (w n : ℕ) (xs ys : List ℕ) (from : ℕ) → ((j : ℕ) → getD xs j 0 < 256) → ((j : ℕ) → getD ys j 0 < 256) → fields w xs from n ≡ fields w ys from n
+pub fields-bytes : (w n : ℕ) (xs ys : List ℕ) (from : ℕ) → ((j : ℕ) → getD xs j 0 < 256) → ((j : ℕ) → getD ys j 0 < 256) →
+    fields w xs from n ≡ fields w ys from n
     → (j : ℕ) → from ≤ j → j < from + n * w → getD xs j 0 ≡ getD ys j 0
 unfolding fields
 fields-bytes w zero xs ys from bx by e j l h = absurd (omega (arith, zero-mul w))

@@ -1,4 +1,4 @@
--- Numbers in bytes, unsigned, low byte first: one of w bytes at a place, and n such in a row. Assumes nothing: these are definitions.
+-- Numbers in bytes, unsigned, low byte first: one of w bytes at a place, and n such in a row.
 use mathlib.Core.List.{List, [], _∷_}
 use mathlib.Core.Logic.{_⊎_}
 use Prim.Native.Nat.{ℕ, zero, suc, _+_, _*_, _/_, _%_, _≤_}

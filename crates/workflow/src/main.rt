@@ -19,20 +19,6 @@ fn schedule_buffer() -> [u8; 3_591]
     [0; 3_591]
 }
 
-// The longest store, 3 + 2 × 9 + 12 × 256 × 9.
-fn store_buffer() -> [u8; 27_669]
-    ensures { λ r. ⌜ 27669 ≡ length r ⌝ }
-{
-    [0; 27_669]
-}
-
-// Room for all that a run can print.
-fn text_buffer() -> [u8; 524_288]
-    ensures { λ r. ⌜ 524288 ≡ length r ⌝ }
-{
-    [0; 524_288]
-}
-
 // Reads a file's first bytes, as many as `buf` has, and answers how many there were. A missing file counts as empty.
 fn read_file(path: &[u8], buf: &mut [u8]) -> usize
     ensures { λ r. ⌜ Counts r (now (buf .exit)) ⌝ }
@@ -49,8 +35,8 @@ fn read_file(path: &[u8], buf: &mut [u8]) -> usize
 fn main() {
     let mut pack = pack_buffer();
     let mut schedule = schedule_buffer();
-    let mut store = store_buffer();
-    let mut text = text_buffer();
+    let mut store = schedule::run::store_buffer();
+    let mut text = schedule::run::text_buffer();
     let p = read_file(b"pack.bin", &mut pack);
     let s = read_file(b"schedule.bin", &mut schedule);
     let n = schedule::run::run(&pack[..p], &schedule[..s], &mut store, &mut text);

@@ -1,4 +1,4 @@
--- `answers::judge` meets its contract. Assumes nothing.
+-- `answers::judge` meets its contract.
 use borrow.Author.Needs.{needs}
 use mathlib.Core.Path.{sym}
 use Rattle.agents.specs.Answers as Answers

@@ -1,4 +1,4 @@
--- `answers::write_answer` meets its contract. Assumes nothing.
+-- `answers::write_answer` meets its contract.
 use borrow.Author.Needs.{needs}
 use mathlib.Core.Path.{refl, _∙_}
 use Rattle.agents.specs.Answers as Answers
@@ -30,4 +30,10 @@ write-answer-spec =
     (λ c. search needs)
     (λ c. rw (c .before .before .before .before .before .a .given .1) (refl, c .before .before .write-words3 .ensures))
     (λ c. search needs)
-    (λ c. rw (c .before .before .before .before .before .before .before .a2 .given .1) (refl, rw (c .before .before .before .before .low .ensures, c .before .before .before .low2 .ensures) at (c .before .before .write-words4 .ensures) ∙ low-words _ _ _ _)))
+    (λ c. rw (c .before .before .before .before .before .before .before .a2 .given .1) (
+      refl,
+      rw (
+        c .before .before .before .before .low .ensures,
+        c .before .before .before .low2 .ensures,
+      ) at (c .before .before .write-words4 .ensures) ∙ low-words _ _ _ _,
+    )))

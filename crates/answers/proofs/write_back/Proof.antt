@@ -1,4 +1,4 @@
--- `answers::write_back` meets its contract. Assumes nothing.
+-- `answers::write_back` meets its contract.
 use borrow.Author.Needs.{needs}
 use mathlib.Core.Path.{refl, sym}
 use Rattle.questions.proofs.Tests.{yes-no}
@@ -20,9 +20,12 @@ write-back-spec =
     (λ c κs. search needs)
     (λ c. search needs)
     (λ c. search needs)
-    (λ c. rw (c .before .before .before .before .enum-told .given .1) (c .before .before .write-slots .ensures .0, λ d. c .before .before .write-slots .ensures .1))
+    (λ c. rw (c .before .before .before .before .enum-told .given .1)
+    (c .before .before .write-slots .ensures .0, λ d. c .before .before .write-slots .ensures .1))
     (λ c. search needs)
-    (λ c. rw (c .before .before .before .before .enum-told2 .given .1) (c .before .before .write-slots2 .ensures .0, λ d. c .before .before .write-slots2 .ensures .1))
+    (λ c. rw (c .before .before .before .before .enum-told2 .given .1)
+    (c .before .before .write-slots2 .ensures .0, λ d. c .before .before .write-slots2 .ensures .1))
     (λ c. search needs)
-    (λ c. rw (c .before .before .before .before .enum-told3 .given .1) (c .before .before .write-slots3 .ensures .0, λ d. c .before .before .write-slots3 .ensures .1))
+    (λ c. rw (c .before .before .before .before .enum-told3 .given .1)
+    (c .before .before .write-slots3 .ensures .0, λ d. c .before .before .write-slots3 .ensures .1))
     (λ c. rw (c .enum-told4 .given .1) (refl, λ e. yes-no (sym e))))

@@ -1,4 +1,4 @@
--- `answers::write_parts` meets its contract. Assumes nothing.
+-- `answers::write_parts` meets its contract.
 use borrow.Author.Needs.{needs}
 use Rattle.answers.proofs.Answers.{low-parts}
 use Rattle.answers.proofs.write_parts.Statement.{statement}

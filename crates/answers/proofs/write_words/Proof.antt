@@ -1,4 +1,4 @@
--- `answers::write_words` meets its contract. Assumes nothing.
+-- `answers::write_words` meets its contract.
 use borrow.Author.Needs.{needs}
 use Rattle.slots.specs.Records as Records
 use Rattle.answers.proofs.write_words.Statement.{statement}

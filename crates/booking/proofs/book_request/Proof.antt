@@ -1,12 +1,12 @@
--- `booking::book_request` meets its contract. Assumes nothing.
+-- `booking::book_request` meets its contract.
 use borrow.Author.Needs.{needs}
 use mathlib.Core.Option.{some}
 use mathlib.Core.Path.{_≡_, sym, _∙_, ap}
 use Prim.Native.Nat.{ℕ, _+_}
 use native.Mathlib.Omega.{arith}
 use lib.ListN.{length, getD}
+use Rattle.contents.specs.Contents.{contentsOf, argumentsOf, valueIn, bookOf, bookRows}
 use Rattle.keys.specs.Keys.{bookKey}
-use Rattle.rules.specs.Store.{Request}
 use Rattle.store.specs.Rows.{rowsOf}
 use Rattle.store.specs.Sound.{Sound}
 use Rattle.store.specs.Questions as StoreQuestions
@@ -14,10 +14,10 @@ use Rattle.store.specs.Layout.{partsOf}
 use Rattle.store.proofs.Bytes.{used-le}
 use Rattle.store.proofs.Search.{at-row, no-lookup}
 use Rattle.store.proofs.Sound.{store-ok}
-use Rattle.meaning.specs.State.{contentsOf, argumentsOf, valueIn, bookOf}
-use Rattle.meaning.specs.Questions.{bookRows}
+use Rattle.agents.specs.Requests.{asked}
 use Rattle.booking.specs.Booking.{withRequest}
-use Rattle.booking.proofs.Booking.{booked-18, booked-19, booked-known, booked-new, wrote-request, length-after, book-keys, found-some, found-none}
+use Rattle.booking.proofs.Booking.{booked-18, booked-19, booked-known, booked-new, wrote-request, length-after, book-keys}
+use Rattle.booking.proofs.Booking.{found-some, found-none}
 use Rattle.booking.proofs.book_request.Statement.{statement}
 use Rattle.booking.proofs.book_request.Tie as tie
 
@@ -38,13 +38,20 @@ known c =
     let rows = bookRows (a .store .now) in
     found-some rows (a .id) (f .f .given .0 .0) (br .booked-row .ensures .1) (sym (br .booked-row .ensures .0) ∙ f .f .given .1)
     ∙ ap (λ (w : ℕ). some (record { workflow = w; arguments = argumentsOf (valueIn rows) (a .id) }))
-    (ap (λ (p : ℕ). getD (rowsOf (a .store .now) p) (f .f .given .0 .0) (0, 0) .1) (sym (pc .partition-count .ensures)) ∙ sym (c .value-at .ensures))
+    (ap (λ (p : ℕ). getD (rowsOf (a .store .now) p) (f .f .given .0 .0) (0, 0) .1) (sym (pc .partition-count .ensures))
+    ∙ sym (c .value-at .ensures))
+
+-- and as it is read
+as-read : (c : tie.After-booked-request) →
+    let a = c .before .before .before .before .before .before .before .before .before .before .before .before .args in
+    bookOf (valueIn (bookRows (a .store .now))) (a .id) ≡ some (asked (c .booked-request .result))
+as-read c = known (c .before .before) ∙ ap some (sym (c .booked-request .ensures))
 
 -- five rows more, for a new id, by the book's used count
 more : (c : tie.After-used-count) →
     let a = c .before .before .before .before .before .before .before .before .before .before .before .before .args in
     let rows = bookRows (a .store .now) in
-    (length (withRequest (a .id) (a .workflow) (a .a0) (a .a1) (a .a2) (a .a3) rows) ≡ length rows + 5) × (c .used-count .result ≡ length rows)
+    (length (withRequest (a .id) (asked (a .q)) rows) ≡ length rows + 5) × (c .used-count .result ≡ length rows)
 unfolding StoreQuestions.question12
 more c =
     let p = c .before .before .before .before in
@@ -52,7 +59,8 @@ more c =
     let br = f .before .before in
     let st = br .before .before .before in
     let a = st .args in (
-      length-after (a .id) (a .workflow) (a .a0) (a .a1) (a .a2) (a .a3) (bookRows (a .store .now)) (store-ok _ (st .pre) .1) (br .booked-row .ensures .1) (book-keys _ (sounds st))
+      length-after (a .id) (a .q .workflow) (a .q .a0) (a .q .a1) (a .q .a2) (a .q .a3) (bookRows (a .store .now))
+          (store-ok _ (st .pre) .1) (br .booked-row .ensures .1) (book-keys _ (sounds st))
           (no-lookup (bookKey (a .id) 0) _ _ (sym (br .booked-row .ensures .0) ∙ f .f2 .given .1)),
       c .used-count .ensures ∙ ap (λ (q : ℕ). length (rowsOf (a .store .now) q)) (p .partition-count2 .ensures),
     )
@@ -73,24 +81,35 @@ book-request-spec =
     let a = st .args in (
       sounds st,
       omega (arith, pc .partition-count .ensures),
-      rw (pc .partition-count .ensures) (at-row (bookKey (a .id) 0) (bookRows (a .store .now)) _ (sym (br .booked-row .ensures .0) ∙ f .f .given .1)),
+      rw (pc .partition-count .ensures)
+          (at-row (bookKey (a .id) 0) (bookRows (a .store .now)) _ (sym (br .booked-row .ensures .0) ∙ f .f .given .1)),
     ))
     (λ c κs. sounds (c .before .before .before .before .before .before .before .before .before .before .before))
+    (λ c κs. search needs)
     (λ c κs. search needs)
     (λ c. search needs)
     (λ c.
     let m = c .before .before in
-    let a = c .before .before .before .before .before .before .before .before .before .before .before .before .before .before .args in
-    let q : Request = record { workflow = c .before .before .before .before .value-at .result; arguments = argumentsOf (valueIn (bookRows (a .store .now))) (a .id) } in
-    booked-known _ (a .id) _ _ q (known (c .before .before .before .before)) (sym (m .same-request .ensures) ∙ c .before .if1 .taken) (c .accepted .ensures))
+    let k = m .before in
+    booked-known _ _ _ _ (asked (k .booked-request .result)) (as-read k) (sym (m .same .ensures) ∙ c .before .if1 .taken)
+    (c .accepted .ensures))
     (λ c κs. search needs)
     (λ c. search needs)
     (λ c κs. let z = sounds (c .before .before .before .before .before .before .before) in omega (arith, z .formed .shape .size))
-    (λ c κs. let z = sounds (c .before .before .before .before .before .before .before .before .before) in omega (arith, z .formed .shape .size))
-    (λ c κs. (sounds (c .before .before .before .before .before .before .before .before .before .before .before) .formed .shape, omega (arith, c .before .before .before .partition-count2 .ensures)))
+    (λ c κs. let z = sounds (c .before .before .before .before .before .before .before .before .before) in
+    omega (arith, z .formed .shape .size))
+    (λ c κs. (
+      sounds (c .before .before .before .before .before .before .before .before .before .before .before) .formed .shape,
+      omega (arith, c .before .before .before .partition-count2 .ensures),
+    ))
     (λ c. let st = c .before .before .before .before .before .before .before .before .before .before .before .before in
     let z = sounds st in
-    omega (arith, more c .1, used-le (st .args .store .now) (z .formed) (partsOf (st .args .store .now)) (omega arith), z .formed .shape .cap-high))
+    omega (
+      arith,
+      more c .1,
+      used-le (st .args .store .now) (z .formed) (partsOf (st .args .store .now)) (omega arith),
+      z .formed .shape .cap-high,
+    ))
     (λ c κs. search needs)
     (λ c. search needs)
     (λ c.
@@ -98,20 +117,24 @@ book-request-spec =
     let f = u .before .before .before .before .before .before .before in
     let br = f .before .before in
     let a = br .before .before .before .args in
-    booked-19 _ (a .id) _ _ (found-none (bookRows (a .store .now)) (a .id) _ (br .booked-row .ensures .1) (sym (br .booked-row .ensures .0) ∙ f .f2 .given .1))
+    booked-19 _ (a .id) _ _
+    (found-none (bookRows (a .store .now)) (a .id) _ (br .booked-row .ensures .1) (sym (br .booked-row .ensures .0) ∙ f .f2 .given .1))
     (omega (arith, more u .1, c .before .if2 .taken, u .before .before .capacity .ensures)) (c .refused2 .ensures))
     (λ c κs.
     let u = c .before .before in
     let f = u .before .before .before .before .before .before .before in
-    let br = f .before .before in
-    (sounds (br .before .before .before), sym (br .booked-row .ensures .0) ∙ f .f2 .given .1, omega (arith, more u, c .before .if2 .left, u .before .before .capacity .ensures)))
+    let br = f .before .before in (
+      sounds (br .before .before .before),
+      sym (br .booked-row .ensures .0)
+          ∙ f .f2 .given .1,
+      omega (arith, more u, c .before .if2 .left, u .before .before .capacity .ensures),
+    ))
     (λ c κs. search needs)
     (λ c. search needs)
     (λ c.
     let m = c .before .before in
-    let a = c .before .before .before .before .before .before .before .before .before .before .before .before .before .before .args in
-    let q : Request = record { workflow = c .before .before .before .before .value-at .result; arguments = argumentsOf (valueIn (bookRows (a .store .now))) (a .id) } in
-    booked-18 _ (a .id) _ _ q (known (c .before .before .before .before)) (sym (m .same-request .ensures) ∙ c .before .if1 .left) (c .refused .ensures))
+    let k = m .before in
+    booked-18 _ _ _ _ (asked (k .booked-request .result)) (as-read k) (sym (m .same .ensures) ∙ c .before .if1 .left) (c .refused .ensures))
     (λ c. search needs)
     (λ c.
     let w = c .before .before .before in
@@ -123,5 +146,6 @@ book-request-spec =
     let new = sym (br .booked-row .ensures .0) ∙ f .f2 .given .1 in
     booked-new _ (a .id) _ _ _ (found-none (bookRows (a .store .now)) (a .id) _ (br .booked-row .ensures .1) new)
     (omega (arith, more u .1, w .before .before .if2 .left, u .before .before .capacity .ensures))
-    (wrote-request _ _ (a .id) (a .workflow) (a .a0) (a .a1) (a .a2) (a .a3) (st .pre) (br .booked-row .ensures .1) (no-lookup (bookKey (a .id) 0) _ _ new) (w .write-request .ensures))
+    (wrote-request _ _ (a .id) (a .q .workflow) (a .q .a0) (a .q .a1) (a .q .a2) (a .q .a3) (st .pre) (br .booked-row .ensures .1)
+    (no-lookup (bookKey (a .id) 0) _ _ new) (w .write-request .ensures))
     (c .accepted2 .ensures)))

@@ -1,5 +1,5 @@
--- The two walks meet their contracts. The measure of each is the number of instructions ahead. Each loop's invariant: the side of instruction i
--- (inside, the block's PUTs too), and that the first no from `at` on is the first from i on. Assumes nothing.
+-- The two walks meet their contracts. The measure of each is the number of instructions ahead. Each loop's invariant: the side of
+-- instruction i (inside, the block's PUTs too), and that the first no from `at` on is the first from i on.
 use borrow.Author.Needs.{needs}
 use mathlib.Core.Path.{_≡_, refl, sym, _∙_, ap}
 use mathlib.Core.Bool.{true, false}
@@ -51,7 +51,8 @@ Inv-inside ops operands workflow at puts₀ i₀ puts i =
     × (putsBefore ops i ≡ puts)
     × (puts ≤ 16)
     × (at ≤ i)
-    × (firstNo (instructionNo workflow ops operands) (length ops - at) at ≡ firstNo (instructionNo workflow ops operands) (length ops - i) i)
+    × (firstNo (instructionNo workflow ops operands) (length ops - at) at ≡ firstNo (instructionNo workflow ops operands)
+    (length ops - i) i)
 
 abbrev μ-loop-inside : walk-inside-lts.MeasureT-loop
 μ-loop-inside ops operands workflow at puts₀ i₀ puts i = length ops - i
@@ -60,7 +61,8 @@ abbrev Inv-outside : walk-outside-lts.InvT-loop
 Inv-outside ops operands workflow at i₀ i =
     (insideAt ops i ≡ false)
     × (at ≤ i)
-    × (firstNo (instructionNo workflow ops operands) (length ops - at) at ≡ firstNo (instructionNo workflow ops operands) (length ops - i) i)
+    × (firstNo (instructionNo workflow ops operands) (length ops - at) at ≡ firstNo (instructionNo workflow ops operands)
+    (length ops - i) i)
 
 abbrev μ-loop-outside : walk-outside-lts.MeasureT-loop
 μ-loop-outside ops operands workflow at i₀ i = length ops - i
@@ -70,8 +72,16 @@ pub +walk-inside+walk-outside-spec : {M : Type 1} → statement M
     close
     μ-inside
     μ-outside
-    (λ t. walk-inside-lts.spec
-    (judge-inside-reads.Asked, judge-inside-reads.Learnt, operation-of-reads.Asked, operation-of-reads.Learnt, outside-below t, walk-outside.Post, puts-behind-reads.Asked, puts-behind-reads.Learnt)
+    (λ t. walk-inside-lts.spec (
+      judge-inside-reads.Asked,
+      judge-inside-reads.Learnt,
+      operation-of-reads.Asked,
+      operation-of-reads.Learnt,
+      outside-below t,
+      walk-outside.Post,
+      puts-behind-reads.Asked,
+      puts-behind-reads.Learnt,
+    )
     (inside-at t)
     walk-inside.Post
     Inv-inside
@@ -82,7 +92,8 @@ pub +walk-inside+walk-outside-spec : {M : Type 1} → statement M
     (λ c.
     let j = c .before .before in
     let l = j .before in
-    first-stop _ _ _ (l .loop-test .taken) _ _ _ _ (j .judge-inside .ensures) (c .enum-told .given .1) ∙ ap verdictOf (sym (l .before .loop .inv .4)))
+    first-stop _ _ _ (l .loop-test .taken) _ _ _ _ (j .judge-inside .ensures) (c .enum-told .given .1)
+    ∙ ap verdictOf (sym (l .before .loop .inv .4)))
     (λ c. search needs)
     (λ c. search needs)
     (λ c κs. search needs)
@@ -90,14 +101,17 @@ pub +walk-inside+walk-outside-spec : {M : Type 1} → statement M
     (λ c κs.
     let o = c .before in
     let l = o .before .before .before .before .before in
-    let s = l .before .before .before .before in
-    (omega (arith, l .loop-test .taken, s .pre .0, l .before .loop .inv .3), (s .pre .1 .0, ends _ _ (sym (o .operation-of .ensures) ∙ c .if1 .taken))))
+    let s = l .before .before .before .before in (
+      omega (arith, l .loop-test .taken, s .pre .0, l .before .loop .inv .3),
+      (s .pre .1 .0, ends _ _ (sym (o .operation-of .ensures) ∙ c .if1 .taken)),
+    ))
     (λ c.
     let e = c .before .before .before .before in
     let j = e .before .before in
     let l = j .before in
     c .walk-outside .ensures
-    ∙ ap verdictOf (sym (l .before .loop .inv .4 ∙ first-yes _ _ _ (l .loop-test .taken) _ (j .judge-inside .ensures) (e .enum-told2 .given .1))))
+    ∙ ap verdictOf (sym (l .before .loop .inv .4
+    ∙ first-yes _ _ _ (l .loop-test .taken) _ (j .judge-inside .ensures) (e .enum-told2 .given .1))))
     (λ c κs. c .before .before .before .before .before .before .before .loop .inv .2)
     (λ c. search needs)
     (λ c. search needs)
@@ -109,14 +123,21 @@ pub +walk-inside+walk-outside-spec : {M : Type 1} → statement M
     let n = l .before .loop .inv in
     let a = e .enum-told2 .given .1 in (
       stays-inside _ _ _ _ _ (j .judge-inside .ensures) a (n .0) (λ q. c .before .if1 .left (o .operation-of .ensures ∙ q)),
-      puts-next _ _ _ _ _ (j .judge-inside .ensures) a _ _ _ (o .operation-of .ensures) (n .1) (c .puts-behind .ensures) (n .0) (λ q. c .before .if1 .left (o .operation-of .ensures ∙ q)),
+      puts-next _ _ _ _ _ (j .judge-inside .ensures) a _ _ _ (o .operation-of .ensures) (n .1) (c .puts-behind .ensures) (n .0)
+          (λ q. c .before .if1 .left (o .operation-of .ensures ∙ q)),
       puts-few _ _ _ _ _ (j .judge-inside .ensures) a _ _ _ (o .operation-of .ensures) (n .1) (c .puts-behind .ensures) (n .2),
       omega (arith, n .3),
       n .4 ∙ first-yes _ _ _ (l .loop-test .taken) _ (j .judge-inside .ensures) a,
     ))
     (λ c. ap verdictOf (sym (c .before .loop .inv .4 ∙ first-done _ _ _ (c .loop-test .left)))))
-    (λ t. walk-outside-lts.spec
-    (judge-outside-reads.Asked, judge-outside-reads.Learnt, operation-of-reads.Asked, operation-of-reads.Learnt, inside-below t, walk-inside.Post)
+    (λ t. walk-outside-lts.spec (
+      judge-outside-reads.Asked,
+      judge-outside-reads.Learnt,
+      operation-of-reads.Asked,
+      operation-of-reads.Learnt,
+      inside-below t,
+      walk-inside.Post,
+    )
     (outside-at t)
     walk-outside.Post
     Inv-outside
@@ -127,7 +148,8 @@ pub +walk-inside+walk-outside-spec : {M : Type 1} → statement M
     (λ c.
     let j = c .before .before in
     let l = j .before in
-    first-stop _ _ _ (l .loop-test .taken) _ _ _ _ (j .judge-outside .ensures) (c .enum-told .given .1) ∙ ap verdictOf (sym (l .before .loop .inv .2)))
+    first-stop _ _ _ (l .loop-test .taken) _ _ _ _ (j .judge-outside .ensures) (c .enum-told .given .1)
+    ∙ ap verdictOf (sym (l .before .loop .inv .2)))
     (λ c. search needs)
     (λ c. search needs)
     (λ c κs. search needs)
@@ -143,7 +165,8 @@ pub +walk-inside+walk-outside-spec : {M : Type 1} → statement M
     let j = e .before .before in
     let l = j .before in
     c .walk-inside .ensures
-    ∙ ap verdictOf (sym (l .before .loop .inv .2 ∙ first-yes _ _ _ (l .loop-test .taken) _ (j .judge-outside .ensures) (e .enum-told2 .given .1))))
+    ∙ ap verdictOf (sym (l .before .loop .inv .2
+    ∙ first-yes _ _ _ (l .loop-test .taken) _ (j .judge-outside .ensures) (e .enum-told2 .given .1))))
     (λ c. search needs)
     (λ c. search needs)
     (λ c.

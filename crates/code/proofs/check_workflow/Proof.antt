@@ -1,4 +1,4 @@
--- `code::check_workflow` meets its contract: the walk from the first instruction, then question 8. Assumes nothing.
+-- `code::check_workflow` meets its contract: the walk from the first instruction, then question 8.
 use borrow.Author.Needs.{needs}
 use borrow.Author.Tests.{eq-eqb, ne-eqb}
 use mathlib.Core.Path.{refl, sym, _∙_, ap}
@@ -26,11 +26,13 @@ check-workflow-spec =
     let o = c .before in
     let e = o .before .before in
     let k = e .before .before in
-    ap verdictOf (sym (code-walked _ _ _ _ (k .walk-outside .ensures) true (e .enum-told .given .1) (eq-eqb _ 11 (sym (o .operation-of .ensures) ∙ c .if1 .taken)))))
+    ap verdictOf (sym (code-walked _ _ _ _ (k .walk-outside .ensures) true (e .enum-told .given .1)
+    (eq-eqb _ 11 (sym (o .operation-of .ensures) ∙ c .if1 .taken)))))
     (λ c.
     let o = c .before .before in
     let e = o .before .before in
     let k = e .before .before in
     c .refused .ensures
-    ∙ ap verdictOf (sym (code-walked _ _ _ _ (k .walk-outside .ensures) false (e .enum-told .given .1) (ne-eqb _ 11 (λ q. c .before .if1 .left (o .operation-of .ensures ∙ q))))))
+    ∙ ap verdictOf (sym (code-walked _ _ _ _ (k .walk-outside .ensures) false (e .enum-told .given .1)
+    (ne-eqb _ 11 (λ q. c .before .if1 .left (o .operation-of .ensures ∙ q))))))
     (λ c. code-refused _ _ _ _ (c .before .before .walk-outside .ensures) _ _ _ (c .enum-told2 .given .1)))

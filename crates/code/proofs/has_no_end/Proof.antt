@@ -1,4 +1,4 @@
--- `code::has_no_end` meets its contract. The loop's invariant: the answer is that for the instructions ahead. Assumes nothing.
+-- `code::has_no_end` meets its contract. The loop's invariant: the answer is that for the instructions ahead.
 use borrow.Author.Needs.{needs}
 use mathlib.Core.Path.{_≡_, refl, sym, _∙_}
 use Prim.Native.Nat.{_-_}
@@ -26,10 +26,12 @@ has-no-end-spec =
     (λ c κs. search needs)
     (λ c.
     let t = c .before .before .before in
-    sym (t .before .loop .inv ∙ each-fails _ _ _ (t .loop-test .taken) (end-here _ _ (sym (c .before .operation-of .ensures) ∙ c .if1 .taken))))
+    sym (t .before .loop .inv
+    ∙ each-fails _ _ _ (t .loop-test .taken) (end-here _ _ (sym (c .before .operation-of .ensures) ∙ c .if1 .taken))))
     (λ c. search needs)
     (λ c. search needs)
     (λ c.
     let t = c .before .before .before in
-    t .before .loop .inv ∙ each-more _ _ _ (t .loop-test .taken) (no-end-here _ _ (λ e. c .if1 .left (c .before .operation-of .ensures ∙ e))))
+    t .before .loop .inv ∙ each-more _ _ _ (t .loop-test .taken)
+    (no-end-here _ _ (λ e. c .if1 .left (c .before .operation-of .ensures ∙ e))))
     (λ c. sym (c .before .loop .inv ∙ each-none _ _ _ (c .loop-test .left))))

@@ -1,4 +1,4 @@
--- `code::inside_behind` meets its contract: each return rewrites by the tests that led there. Assumes nothing.
+-- `code::inside_behind` meets its contract: each return rewrites by the tests that led there.
 use borrow.Author.Needs.{needs}
 use borrow.Author.Tests.{eq-eqb, ne-eqb}
 use Rattle.code.proofs.inside_behind.Statement.{statement}

@@ -1,4 +1,4 @@
--- `code::is_counted` meets its contract: each return rewrites by the test that led there. Assumes nothing.
+-- `code::is_counted` meets its contract: each return rewrites by the test that led there.
 use borrow.Author.Needs.{needs}
 use borrow.Author.Tests.{eq-eqb, ne-eqb}
 use Rattle.code.specs.Questions.{counted}

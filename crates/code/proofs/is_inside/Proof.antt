@@ -1,4 +1,4 @@
--- `code::is_inside` meets its contract. The loop's invariant: the flag is the side of instruction i. Assumes nothing.
+-- `code::is_inside` meets its contract. The loop's invariant: the flag is the side of instruction i.
 use borrow.Author.Needs.{needs}
 use mathlib.Core.Path.{_≡_, sym, _∙_, ap}
 use Prim.Native.Nat.{_≤_, _-_}

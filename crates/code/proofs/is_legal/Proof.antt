@@ -1,4 +1,4 @@
--- `code::is_legal` meets its contract: each return rewrites by the test that led there. Assumes nothing.
+-- `code::is_legal` meets its contract: each return rewrites by the test that led there.
 use borrow.Author.Needs.{needs}
 use borrow.Author.Tests.{le-leb, lt-leb}
 use Rattle.code.specs.Questions.{legal}

@@ -1,4 +1,4 @@
--- `code::is_ranged` meets its contract: each return rewrites by the tests that led there. Assumes nothing.
+-- `code::is_ranged` meets its contract: each return rewrites by the tests that led there.
 use borrow.Author.Needs.{needs}
 use Rattle.code.specs.Questions.{registerRight}
 use Rattle.code.proofs.is_ranged.Statement.{statement}

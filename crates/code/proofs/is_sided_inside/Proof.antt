@@ -1,4 +1,4 @@
--- `code::is_sided_inside` meets its contract: the table's side, then a jump's landing. Assumes nothing.
+-- `code::is_sided_inside` meets its contract: the table's side, then a jump's landing.
 use borrow.Author.Needs.{needs}
 use mathlib.Core.Path.{_≡_, sym, _∙_}
 use mathlib.Core.Bool.{true}
@@ -21,7 +21,12 @@ is-sided-inside-spec =
     (λ c. search needs)
     (λ c. search needs)
     (λ c. search needs)
-    (λ c. let s = c .before .before .before .before .before in omega (arith, target-below _ _ _ _ (c .enum-told3 .given .1) (s .pre .1), target-ahead _ _ _ _ (c .enum-told3 .given .1) (s .pre .1)))
+    (λ c. let s = c .before .before .before .before .before in
+    omega (
+      arith,
+      target-below _ _ _ _ (c .enum-told3 .given .1) (s .pre .1),
+      target-ahead _ _ _ _ (c .enum-told3 .given .1) (s .pre .1),
+    ))
     (λ c κs. search needs)
     (λ c. search needs)
     (λ c κs.

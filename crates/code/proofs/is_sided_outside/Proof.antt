@@ -1,4 +1,4 @@
--- `code::is_sided_outside` meets its contract: the table's side, then a jump's landing. Assumes nothing.
+-- `code::is_sided_outside` meets its contract: the table's side, then a jump's landing.
 use borrow.Author.Needs.{needs}
 use mathlib.Core.Path.{_≡_, sym, _∙_, ap}
 use mathlib.Core.Bool.{true, false, not}

@@ -1,4 +1,4 @@
--- `code::judge_inside` meets its contract: the questions' answers in order. Assumes nothing.
+-- `code::judge_inside` meets its contract: the questions' answers in order.
 use borrow.Author.Needs.{needs}
 use borrow.Author.Tests.{not-true, not-false}
 use mathlib.Core.Path.{_≡_, refl, sym, _∙_, ap}
@@ -14,35 +14,46 @@ use Rattle.code.proofs.judge_inside.Tie as tie
 
 module _ (c : tie.After-row-of) where
   -- at the table: the row is the operation's, the word is the instruction's
-  word-known : let a = c .before .before .before .before .before .before .before .args in c .before .before .before .read32 .result ≡ wordAt (a .operands .now) (a .at)
+  word-known : let a = c .before .before .before .before .before .before .before .args in
+      c .before .before .before .read32 .result ≡ wordAt (a .operands .now) (a .at)
   word-known = c .before .before .before .read32 .ensures
 
-  row-known : let a = c .before .before .before .before .before .before .before .args in c .row-of .result ≡ rowOf (operationAt (a .ops .now) (a .at))
+  row-known : let a = c .before .before .before .before .before .before .before .args in
+      c .row-of .result ≡ rowOf (operationAt (a .ops .now) (a .at))
   row-known = c .row-of .ensures
 
-q4 : (c : tie.After-is-legal) → let a = c .before .before .before .before .before .args in question4 (a .ops .now) (a .at) ≡ c .is-legal .result
+q4 : (c : tie.After-is-legal) → let a = c .before .before .before .before .before .args in
+    question4 (a .ops .now) (a .at) ≡ c .is-legal .result
 unfolding question4
 q4 c = sym (c .is-legal .ensures)
 
-q5 : (c : tie.After-is-ranged) → let a = c .before .before .before .before .before .before .before .before .args in question5 (a .ops .now) (a .operands .now) (a .at) ≡ c .is-ranged .result
+q5 : (c : tie.After-is-ranged) → let a = c .before .before .before .before .before .before .before .before .args in
+    question5 (a .ops .now) (a .operands .now) (a .at) ≡ c .is-ranged .result
 q5 c = asked-5 _ _ _ _ _ (word-known (c .before)) (row-known (c .before)) _ (c .is-ranged .ensures)
 
-q6 : (c : tie.After-is-sided-inside) → let a = c .before .before .before .before .before .before .before .before .before .before .args in question6 (a .ops .now) (a .operands .now) (a .at) ≡ c .is-sided-inside .result
+q6 : (c : tie.After-is-sided-inside) → let a = c .before .before .before .before .before .before .before .before .before .before .args in
+    question6 (a .ops .now) (a .operands .now) (a .at) ≡ c .is-sided-inside .result
 q6 c =
     let r = c .before .before .before in
-    asked-6 _ _ _ _ _ (word-known r) (row-known r) true _ (r .before .before .before .before .before .before .before .pre .1 .0) (c .is-sided-inside .ensures)
+    asked-6 _ _ _ _ _ (word-known r) (row-known r) true _ (r .before .before .before .before .before .before .before .pre .1 .0)
+    (c .is-sided-inside .ensures)
 
 yes4 : (c : tie.Else1) → let a = c .before .before .before .before .before .before .args in question4 (a .ops .now) (a .at) ≡ true
 yes4 c = q4 (c .before) ∙ not-false _ (c .if1 .left)
 
-yes5 : (c : tie.Else2) → let a = c .before .before .before .before .before .before .before .before .before .args in question5 (a .ops .now) (a .operands .now) (a .at) ≡ true
+yes5 : (c : tie.Else2) → let a = c .before .before .before .before .before .before .before .before .before .args in
+    question5 (a .ops .now) (a .operands .now) (a .at) ≡ true
 yes5 c = q5 (c .before) ∙ not-false _ (c .if2 .left)
 
-yes6 : (c : tie.Else3) → let a = c .before .before .before .before .before .before .before .before .before .before .before .args in question6 (a .ops .now) (a .operands .now) (a .at) ≡ true
+yes6 : (c : tie.Else3) → let a = c .before .before .before .before .before .before .before .before .before .before .before .args in
+    question6 (a .ops .now) (a .operands .now) (a .at) ≡ true
 yes6 c = q6 (c .before) ∙ not-false _ (c .if3 .left)
 
-q7 : (c : tie.After-is-counted) → let a = c .before .before .before .before .before .before .before .before .before .before .before .before .args in question7 (a .ops .now) (a .at) ≡ c .is-counted .result
-q7 c = inside-7 _ _ _ _ (c .before .before .before .before .before .before .before .before .before .before .before .before .pre .1 .1) (c .is-counted .ensures)
+q7 : (c : tie.After-is-counted) → let a =
+    c .before .before .before .before .before .before .before .before .before .before .before .before .args in
+    question7 (a .ops .now) (a .at) ≡ c .is-counted .result
+q7 c = inside-7 _ _ _ _ (c .before .before .before .before .before .before .before .before .before .before .before .before .pre .1 .1)
+    (c .is-counted .ensures)
 
 pub judge-inside-spec : {M : Type 1} → statement M
 unfolding ask
@@ -54,7 +65,8 @@ judge-inside-spec =
     (λ c κs. search needs)
     (λ c κs. search needs)
     (λ c κs. search needs)
-    (λ c. c .refused .ensures ∙ ap verdictOf (sym (judged _ _ _ _ false _ _ _ (q4 (c .before .before) ∙ not-true _ (c .before .if1 .taken)) refl refl refl)))
+    (λ c. c .refused .ensures
+    ∙ ap verdictOf (sym (judged _ _ _ _ false _ _ _ (q4 (c .before .before) ∙ not-true _ (c .before .if1 .taken)) refl refl refl)))
     (λ c κs. search needs)
     (λ c κs. search needs)
     (λ c κs. search needs)
@@ -63,14 +75,17 @@ judge-inside-spec =
     c .refused2 .ensures
     ∙ ap verdictOf (sym (judged _ _ _ _ true false _ _ (yes4 (r .before .before)) (q5 r ∙ not-true _ (c .before .if2 .taken)) refl refl)))
     (λ c κs.
-    let r = c .before in
-    (r .before .before .before .before .before .before .before .before .pre .1 .0, ranged-operand _ _ _ _ _ _ _ (r .is-ranged .ensures) (not-false _ (c .if2 .left))))
+    let r = c .before in (
+      r .before .before .before .before .before .before .before .before .pre .1 .0,
+      ranged-operand _ _ _ _ _ _ _ (r .is-ranged .ensures) (not-false _ (c .if2 .left)),
+    ))
     (λ c κs. search needs)
     (λ c.
     let n = c .before .before .before in
     c .refused3 .ensures
     ∙ ap verdictOf
-    (sym (judged _ _ _ _ true true false _ (yes4 (n .before .before .before)) (yes5 n) (q6 (c .before .before) ∙ not-true _ (c .before .if3 .taken)) refl)))
+    (sym (judged _ _ _ _ true true false _ (yes4 (n .before .before .before)) (yes5 n)
+    (q6 (c .before .before) ∙ not-true _ (c .before .if3 .taken)) refl)))
     (λ c κs. search needs)
     (λ c κs. search needs)
     (λ c.
@@ -78,9 +93,11 @@ judge-inside-spec =
     let m = n .before .before in
     c .refused4 .ensures
     ∙ ap verdictOf
-    (sym (judged _ _ _ _ true true true false (yes4 (m .before .before .before)) (yes5 m) (yes6 n) (q7 (c .before .before) ∙ not-true _ (c .before .if4 .taken)))))
+    (sym (judged _ _ _ _ true true true false (yes4 (m .before .before .before)) (yes5 m) (yes6 n)
+    (q7 (c .before .before) ∙ not-true _ (c .before .if4 .taken)))))
     (λ c.
     let n = c .before .before in
     let m = n .before .before in
     ap verdictOf
-    (sym (judged _ _ _ _ true true true true (yes4 (m .before .before .before)) (yes5 m) (yes6 n) (q7 (c .before) ∙ not-false _ (c .if4 .left))))))
+    (sym (judged _ _ _ _ true true true true (yes4 (m .before .before .before)) (yes5 m) (yes6 n)
+    (q7 (c .before) ∙ not-false _ (c .if4 .left))))))

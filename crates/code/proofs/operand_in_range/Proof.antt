@@ -1,4 +1,4 @@
--- `code::operand_in_range` meets its contract: each return rewrites by the case and the tests that led there. Assumes nothing.
+-- `code::operand_in_range` meets its contract: each return rewrites by the case and the tests that led there.
 use borrow.Author.Needs.{needs}
 use borrow.Author.Tests.{lt-ltb, le-ltb}
 use Rattle.code.specs.Questions.{inRange}

@@ -1,4 +1,4 @@
--- `code::puts_behind` meets its contract: each return rewrites by the test that led there. Assumes nothing.
+-- `code::puts_behind` meets its contract: each return rewrites by the test that led there.
 use borrow.Author.Needs.{needs}
 use borrow.Author.Tests.{eq-eqb, ne-eqb}
 use Rattle.code.proofs.puts_behind.Statement.{statement}

@@ -1,4 +1,4 @@
--- `code::stands_on` meets its contract, by cases. Assumes nothing.
+-- `code::stands_on` meets its contract, by cases.
 use borrow.Author.Needs.{needs}
 use Rattle.code.specs.Questions.{stands}
 use Rattle.code.proofs.stands_on.Statement.{statement}

@@ -3,8 +3,6 @@ use Prim.Native.Nat.{ℕ}
 use lib.ListN.{length-replicate}
 use Rattle.conformance.proofs.large_buffer.Statement.{statement}
 use Rattle.conformance.proofs.large_buffer.Tie as tie
-use Rattle.conformance.proofs.large_buffer.Reads as reads
-use Rattle.conformance.proofs.large_buffer.Lts as lts
 
 -- src/main.rt:37:1
 returns : tie.Need-returns

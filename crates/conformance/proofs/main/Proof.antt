@@ -5,13 +5,6 @@ use lib.Seq.{length-take-le}
 use borrow.Author.Needs.{needs}
 use Rattle.conformance.proofs.main.Statement.{statement}
 use Rattle.conformance.proofs.main.Tie as tie
-use Rattle.conformance.proofs.main.Reads as reads
-use Rattle.conformance.proofs.main.Lts as lts
-use Rattle.conformance.proofs.large_buffer.Reads as large-buffer-reads
-use Rattle.conformance.proofs.print_cases.Reads as print-cases-reads
-use Rattle.io.proofs.read_full.Reads as read-full-reads
-use Rattle.libc.proofs.close.Reads as close-reads
-use Rattle.os.proofs.open_read.Reads as open-read-reads
 
 -- src/main.rt:44:28
 slice-aggregate-open-read : tie.Need-slice-aggregate-open-read

@@ -5,9 +5,6 @@ use lib.ListN.{length}
 use borrow.Author.Needs.{needs}
 use Rattle.conformance.proofs.print_cases.Statement.{statement}
 use Rattle.conformance.proofs.print_cases.Tie as tie
-use Rattle.conformance.proofs.print_cases.Reads as reads
-use Rattle.conformance.proofs.print_cases.Lts as lts
-use Rattle.conformance.proofs.print_numbered.Reads as print-numbered-reads
 
 abbrev Inv-loop : tie.InvT-loop
 Inv-loop file buffer₀ at₀ number₀ buffer at number = (at ≤ length file) × (length buffer ≡ length buffer₀) × (number ≤ at)

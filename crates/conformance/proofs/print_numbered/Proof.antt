@@ -3,11 +3,6 @@ use lib.Seq.{length-take-le}
 use borrow.Author.Needs.{needs}
 use Rattle.conformance.proofs.print_numbered.Statement.{statement}
 use Rattle.conformance.proofs.print_numbered.Tie as tie
-use Rattle.conformance.proofs.print_numbered.Reads as reads
-use Rattle.conformance.proofs.print_numbered.Lts as lts
-use Rattle.case_print.proofs.lines.case_line.Reads as case-line-reads
-use Rattle.case_print.proofs.print.print_malformed.Reads as print-malformed-reads
-use Rattle.cases.proofs.run.print_case.Reads as print-case-reads
 
 -- src/main.rt:12:37
 slice-aggregate-case-line : tie.Need-slice-aggregate-case-line

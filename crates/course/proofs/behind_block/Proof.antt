@@ -1,4 +1,4 @@
--- `course::behind_block` meets its contract. Assumes nothing.
+-- `course::behind_block` meets its contract.
 use borrow.Author.Needs.{needs}
 use lib.ListN.{set}
 use Rattle.rules.specs.Blocks as Blocks

@@ -1,4 +1,4 @@
--- `course::next_of` meets its contract. Assumes nothing.
+-- `course::next_of` meets its contract.
 use borrow.Author.Needs.{needs}
 use native.Mathlib.Omega.{arith}
 use Rattle.course.proofs.Nexts.{replies, opens-block, may-move, moves-on}

@@ -1,4 +1,4 @@
--- `form_cases::write_turns` is safe and ends: at most `n` turns. Assumes nothing.
+-- `form_cases::write_turns` is safe and ends: at most `n` turns.
 use borrow.Author.Needs.{needs}
 use Prim.Native.Nat.{_≤_, _-_}
 use mathlib.Core.Path.{_≡_, refl, _∙_}
@@ -24,8 +24,13 @@ write-turns-spec =
     (λ c κs. search needs)
     (λ c. search needs)
     (λ c. search needs)
-    (λ c. (search needs, c .before .before .before .before .before .before .turned .kept .1 .0 ∙ c .before .before .before .before .before .before .before .before .before .loop .inv .1))
-    (λ c. c .before .before .before .before .before .before .turned .kept .1 .0 ∙ c .before .before .before .before .before .before .before .before .before .loop .inv .1)
+    (λ c. (
+      search needs,
+      c .before .before .before .before .before .before .turned .kept .1 .0
+          ∙ c .before .before .before .before .before .before .before .before .before .loop .inv .1,
+    ))
+    (λ c. c .before .before .before .before .before .before .turned .kept .1 .0
+    ∙ c .before .before .before .before .before .before .before .before .before .loop .inv .1)
     (λ c. search needs)
     (λ c. c .before .loop .inv .1)
     (λ c. search needs))

@@ -1,4 +1,4 @@
--- `host::sarthule_check` meets its contract. Assumes nothing.
+-- `host::sarthule_check` meets its contract.
 use borrow.Author.Needs.{needs}
 use Rattle.host.proofs.Told.{told-short, told-judged}
 use Rattle.host.proofs.sarthule_check.Statement.{statement}
@@ -13,4 +13,6 @@ sarthule-check-spec =
     (λ c κs. search needs)
     (λ c κs. search needs)
     (λ c. search needs)
-    (λ c. told-judged _ _ _ _ _ (c .before .before .before .before .before .before .if1 .left) (c .before .before .before .judge .ensures _ (c .before .before .before .before .check .ensures)) (c .before .before .write-answer .ensures)))
+    (λ c. told-judged _ _ _ _ _ (c .before .before .before .before .before .before .if1 .left)
+    (c .before .before .before .judge .ensures _ (c .before .before .before .before .check .ensures))
+    (c .before .before .write-answer .ensures)))

@@ -1,4 +1,4 @@
--- `host::sarthule_create` meets its contract. Assumes nothing.
+-- `host::sarthule_create` meets its contract.
 use borrow.Author.Needs.{needs}
 use Rattle.host.proofs.Told.{made-short, made}
 use Rattle.host.proofs.sarthule_create.Statement.{statement}
@@ -16,4 +16,5 @@ sarthule-create-spec =
     (λ c. search needs)
     (λ c.
     let m = c .before .before .before .before .before .before .before .create .ensures in
-    made _ _ _ _ _ _ _ _ _ (c .before .before .before .before .before .before .before .before .before .if1 .left) m (c .before .before .before .judge .ensures _ (m .answer)) (c .before .before .write-answer .ensures)))
+    made _ _ _ _ _ _ _ _ _ (c .before .before .before .before .before .before .before .before .before .if1 .left) m
+    (c .before .before .before .judge .ensures _ (m .answer)) (c .before .before .write-answer .ensures)))

@@ -1,4 +1,4 @@
--- `host::sarthule_open` meets its contract. Assumes nothing.
+-- `host::sarthule_open` meets its contract.
 use borrow.Author.Needs.{needs}
 use mathlib.Core.Path.{_≡_, refl}
 use mathlib.Core.Option.{none}
@@ -12,7 +12,9 @@ use Rattle.host.proofs.sarthule_open.Statement.{statement}
 use Rattle.host.proofs.sarthule_open.Tie as tie
 
 -- the questions said yes
-opens : (c : tie.After-enum-told) → let a = c .before .before .before .before .before .before .before .before .before .before .before .args in openRefusal (a .pack .now) (a .workflow) ≡ none
+opens : (c : tie.After-enum-told) → let a =
+    c .before .before .before .before .before .before .before .before .before .before .before .args in
+    openRefusal (a .pack .now) (a .workflow) ≡ none
 opens c = accepted-none _ _ (c .before .before .before .before .before .before .before .open .ensures) (c .enum-told .given .1)
 
 pub sarthule-open-spec : {M : Type 1} → statement M
@@ -30,16 +32,30 @@ sarthule-open-spec =
     (λ c κs. (open-laid _ _ (opens (c .before .before .before)), open-below _ _ (opens (c .before .before .before))))
     (λ c.
     let o = c .before .before .before .before in
-    record { fits = omega (arith, c .before .before .before .size-at .ensures, open-laid _ _ (opens o) .sizes _ (open-below _ _ (opens o)) .1) })
+    record {
+      fits = omega
+          (arith, c .before .before .before .size-at .ensures, open-laid _ _ (opens o) .sizes _ (open-below _ _ (opens o)) .1);
+    })
     (λ c κs. search needs)
     (λ c. search needs)
     (λ c κs. search needs)
     (λ c. search needs)
     (λ c.
-    told-open _ _ _ none _ _ _ _ _ (c .before .before .before .before .before .before .before .before .before .before .before .before .before .before .before .if1 .left) (opens (c .before .before .before .before .before .before .before)) (c .before .before .before .before .before .before .before .before .before .before .before .before .judge .ensures _ (c .before .before .before .before .before .before .before .before .before .before .before .before .before .before .open .ensures)) (c .before .before .before .before .before .before .before .before .before .before .before .write-answer .ensures)
-    (rw (c .before .before .before .before .before .before .size-at .ensures, c .before .before .before .before .operations-at .ensures, c .before .before .before .operands-at .ensures) refl)
+    told-open _ _ _ none _ _ _ _ _
+    (c .before .before .before .before .before .before .before .before .before .before .before .before .before .before .before .if1 .left) (opens (c .before .before .before .before .before .before .before)) (c .before .before .before .before .before .before .before .before .before .before .before .before .judge .ensures _ (c .before .before .before .before .before .before .before .before .before .before .before .before .before .before .open .ensures)) (c .before .before .before .before .before .before .before .before .before .before .before .write-answer .ensures)
+    (rw (
+      c .before .before .before .before .before .before .size-at .ensures,
+      c .before .before .before .before .operations-at .ensures,
+      c .before .before .before .operands-at .ensures,
+    ) refl)
     (c .before .before .write-parts .ensures))
     (λ c. search needs)
     (λ c.
-    told-open _ _ _ _ _ _ _ _ _ (c .before .before .before .before .before .before .before .before .before .before .before .before .if1 .left) (refused-some _ _ _ _ _ (c .before .before .before .before .before .before .before .before .before .before .before .open .ensures) (c .before .before .before .before .enum-told2 .given .1))
-    (c .before .before .before .before .before .before .before .before .before .judge .ensures _ (c .before .before .before .before .before .before .before .before .before .before .before .open .ensures)) (c .before .before .before .before .before .before .before .before .write-answer .ensures) refl (c .before .before .write-parts2 .ensures)))
+    told-open _ _ _ _ _ _ _ _ _
+    (c .before .before .before .before .before .before .before .before .before .before .before .before .if1 .left)
+    (refused-some _ _ _ _ _ (c .before .before .before .before .before .before .before .before .before .before .before .open .ensures)
+    (c .before .before .before .before .enum-told2 .given .1))
+    (c .before .before .before .before .before .before .before .before .before .judge .ensures _
+    (c .before .before .before .before .before .before .before .before .before .before .before .open .ensures))
+    (c .before .before .before .before .before .before .before .before .write-answer .ensures) refl
+    (c .before .before .write-parts2 .ensures)))

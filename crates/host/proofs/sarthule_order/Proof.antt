@@ -1,4 +1,4 @@
--- `host::sarthule_order` meets its contract. Assumes nothing.
+-- `host::sarthule_order` meets its contract.
 use borrow.Author.Needs.{needs}
 use Rattle.host.proofs.Exports.{in-order-short, in-order}
 use Rattle.host.proofs.sarthule_order.Statement.{statement}
@@ -14,4 +14,5 @@ sarthule-order-spec =
     (λ c. search needs)
     (λ c. search needs)
     (λ c. let o = c .before .before .before .before .before .before in
-    in-order _ _ _ _ _ (o .order .result) (c .before .before .before .before .before .before .before .before .if1 .left) (o .order .ensures) (c .before .before .write-answer .ensures)))
+    in-order _ _ _ _ _ (o .order .result) (c .before .before .before .before .before .before .before .before .if1 .left)
+    (o .order .ensures) (c .before .before .write-answer .ensures)))

@@ -1,4 +1,4 @@
--- `host::sarthule_restart` meets its contract. Assumes nothing.
+-- `host::sarthule_restart` meets its contract.
 use borrow.Author.Needs.{needs}
 use mathlib.Core.Path.{refl}
 use Rattle.host.proofs.Exports.{exported-short, exported-slots, exported}
@@ -17,4 +17,6 @@ sarthule-restart-spec =
     (λ c. search needs)
     (λ c. λ pack store.
     let f = c .before .before .before .before .finish .ensures in
-    exported pack store _ _ _ _ _ _ _ _ _ (c .before .before .before .before .before .before .before .before .before .if1 .left) (c .before .before .before .before .before .before .before .before .if2 .left) refl (c .before .before .before .before .before .restart .ensures pack store _) (f .0) (f .1 .0) (f .1 .1)))
+    exported pack store _ _ _ _ _ _ _ _ _ (c .before .before .before .before .before .before .before .before .before .if1 .left)
+    (c .before .before .before .before .before .before .before .before .if2 .left) refl
+    (c .before .before .before .before .before .restart .ensures pack store _) (f .0) (f .1 .0) (f .1 .1)))

@@ -1,4 +1,4 @@
--- `instruction::advanced` meets its contract. Assumes nothing.
+-- `instruction::advanced` meets its contract.
 use borrow.Author.Needs.{needs}
 use Rattle.instruction.proofs.Steps.{next-at}
 use Rattle.instruction.proofs.advanced.Statement.{statement}

@@ -1,4 +1,4 @@
--- `instruction::jumped` meets its contract. Assumes nothing.
+-- `instruction::jumped` meets its contract.
 use mathlib.Core.Path.{refl}
 use borrow.Author.Needs.{needs}
 use Rattle.instruction.proofs.jumped.Statement.{statement}

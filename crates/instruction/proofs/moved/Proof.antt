@@ -1,4 +1,4 @@
--- `instruction::moved` meets its contract. Assumes nothing.
+-- `instruction::moved` meets its contract.
 use native.Mathlib.Omega.{arith}
 use borrow.Author.Needs.{needs}
 use Rattle.instruction.proofs.Steps.{moved-set, moved-copy, moved-add, moved-sub, moved-less, moved-same}
@@ -30,17 +30,21 @@ moved-spec =
     (λ c.
     let m = c .before .before in
     let so = m .before .before .before .before in
-    moved-add _ _ _ _ _ _ (so .source-of .ensures .0) (so .before .pre .3) (m .match .keys3) _ (c .before .add32 .ensures) (c .set3 .ensures))
+    moved-add _ _ _ _ _ _ (so .source-of .ensures .0) (so .before .pre .3) (m .match .keys3) _ (c .before .add32 .ensures)
+    (c .set3 .ensures))
     (λ c.
     let m = c .before .before in
     let so = m .before .before .before .before in
-    moved-sub _ _ _ _ _ _ (so .source-of .ensures .0) (so .before .pre .3) (m .match .keys4) _ (c .before .sub32 .ensures) (c .set4 .ensures))
+    moved-sub _ _ _ _ _ _ (so .source-of .ensures .0) (so .before .pre .3) (m .match .keys4) _ (c .before .sub32 .ensures)
+    (c .set4 .ensures))
     (λ c.
     let m = c .before in
     let so = m .before .before .before .before in
-    moved-less _ _ _ _ _ _ (so .source-of .ensures .0) (so .before .pre .3) _ (m .before .target-of .ensures) (m .match .keys5) (c .jumped .ensures))
+    moved-less _ _ _ _ _ _ (so .source-of .ensures .0) (so .before .pre .3) _ (m .before .target-of .ensures) (m .match .keys5)
+    (c .jumped .ensures))
     (λ c.
     let m = c .before in
     let so = m .before .before .before .before in
     let r = m .match .rest in
-    moved-same _ _ _ _ _ _ (so .source-of .ensures .0) (so .before .pre .3) _ (m .before .target-of .ensures) (omega (arith, so .before .pre .0, r .1, r .0 .1, r .0 .0 .1, r .0 .0 .0 .1, r .0 .0 .0 .0 .1)) (c .jumped2 .ensures)))
+    moved-same _ _ _ _ _ _ (so .source-of .ensures .0) (so .before .pre .3) _ (m .before .target-of .ensures)
+    (omega (arith, so .before .pre .0, r .1, r .0 .1, r .0 .0 .1, r .0 .0 .0 .1, r .0 .0 .0 .0 .1)) (c .jumped2 .ensures)))

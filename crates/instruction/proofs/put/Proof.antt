@@ -1,4 +1,4 @@
--- `instruction::put` meets its contract. Assumes nothing.
+-- `instruction::put` meets its contract.
 use borrow.Author.Needs.{needs}
 use Rattle.keys.proofs.Keys.{data-is}
 use Rattle.instruction.proofs.Steps.{step-put}

@@ -1,4 +1,4 @@
--- `instruction::set` meets its contract. Assumes nothing.
+-- `instruction::set` meets its contract.
 use borrow.Author.Needs.{needs}
 use Rattle.instruction.proofs.Steps.{becomes-at}
 use Rattle.instruction.proofs.set.Statement.{statement}

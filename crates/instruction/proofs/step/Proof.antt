@@ -1,4 +1,4 @@
--- `instruction::step` meets its contract. Assumes nothing.
+-- `instruction::step` meets its contract.
 use mathlib.Core.Path.{sym, _∙_}
 use native.Mathlib.Omega.{arith}
 use borrow.Author.Needs.{needs}
@@ -21,7 +21,8 @@ step-spec =
     let ro = so .before in
     let oo = ro .before in
     let st = oo .before .before in
-    get-step _ _ _ _ (ro .register-of .ensures) (so .source-of .ensures .0) (st .pre .1 .sourced) _ _ _ (sym (oo .operation-of .ensures) ∙ c .before .if1 .taken) (c .got .ensures))
+    get-step _ _ _ _ (ro .register-of .ensures) (so .source-of .ensures .0) (st .pre .1 .sourced) _ _ _
+    (sym (oo .operation-of .ensures) ∙ c .before .if1 .taken) (c .got .ensures))
     (λ c κs.
     let so = c .before .before in
     let oo = so .before .before in
@@ -32,20 +33,31 @@ step-spec =
     let ro = so .before in
     let oo = ro .before in
     let st = oo .before .before in
-    put-step _ _ _ _ (ro .register-of .ensures) (so .source-of .ensures .0) (st .pre .1 .sourced) _ _ _ (sym (oo .operation-of .ensures) ∙ c .before .if2 .taken) (c .put .ensures (rowsOf (st .args .store .now) (st .args .partition))))
+    put-step _ _ _ _ (ro .register-of .ensures) (so .source-of .ensures .0) (st .pre .1 .sourced) _ _ _
+    (sym (oo .operation-of .ensures) ∙ c .before .if2 .taken) (c .put .ensures (rowsOf (st .args .store .now) (st .args .partition))))
     (λ c κs. search needs)
     (λ c.
     let so = c .before .before .before .before in
     let ro = so .before in
     let oo = ro .before in
     let st = oo .before .before in
-    has-step _ _ _ _ (ro .register-of .ensures) (so .source-of .ensures .0) (st .pre .1 .sourced) _ _ _ (sym (oo .operation-of .ensures) ∙ c .before .if3 .taken) (c .tested .ensures))
+    has-step _ _ _ _ (ro .register-of .ensures) (so .source-of .ensures .0) (st .pre .1 .sourced) _ _ _
+    (sym (oo .operation-of .ensures) ∙ c .before .if3 .taken) (c .tested .ensures))
     (λ c κs.
     let e3 = c .before in
     let oo = e3 .before .before .before .before .before in
     let st = oo .before .before in
     let e = oo .operation-of .ensures in (
-      omega (arith, e, st .pre .1 .known, st .pre .1 .no-begin, st .pre .1 .no-end, e3 .if3 .left, e3 .before .if2 .left, e3 .before .before .if1 .left),
+      omega (
+        arith,
+        e,
+        st .pre .1 .known,
+        st .pre .1 .no-begin,
+        st .pre .1 .no-end,
+        e3 .if3 .left,
+        e3 .before .if2 .left,
+        e3 .before .before .if1 .left,
+      ),
       search needs,
       search needs,
       rw e (st .pre .1 .sourced),
@@ -59,4 +71,5 @@ step-spec =
     let st = oo .before .before in
     let e = oo .operation-of .ensures in
     rw (c .at-place .ensures)
-    (move-step _ _ _ (ro .register-of .ensures) _ _ (mv .moved .result) (λ q. e2 .if2 .left (e ∙ q)) (st .pre .0 .2) (rw e at (mv .moved .ensures)))))
+    (move-step _ _ _ (ro .register-of .ensures) _ _ (mv .moved .result) (λ q. e2 .if2 .left (e ∙ q)) (st .pre .0 .2)
+    (rw e at (mv .moved .ensures)))))

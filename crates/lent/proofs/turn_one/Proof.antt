@@ -1,4 +1,4 @@
--- `lent::turn_one` meets its contract: the runtime's turn on slots in which the record is alone. Assumes nothing.
+-- `lent::turn_one` meets its contract: the runtime's turn on slots in which the record is alone.
 use borrow.Author.Needs.{needs}
 use Rattle.lent.proofs.Alone.{one-turned}
 use Rattle.lent.proofs.turn_one.Statement.{statement}

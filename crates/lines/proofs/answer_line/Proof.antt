@@ -1,4 +1,4 @@
--- `lines::answer_line` meets its contract, piece by piece. Assumes nothing.
+-- `lines::answer_line` meets its contract, piece by piece.
 use native.Mathlib.Omega.{arith}
 use borrow.Author.Needs.{needs}
 use Rattle.text.proofs.Laws.{appended-then}
@@ -19,5 +19,9 @@ answer-line-spec =
     (λ c. let d4 = c .before .before in
     let d3 = d4 .before .before .before .before in
     let d2 = d3 .before .before .before .before in
-    let d1 = d2 .before .before .before .before in
-    (appended-then (d1 .append-number .ensures .0) (appended-then (d2 .append-byte .ensures) (appended-then (d3 .append-answer .ensures .0) (d4 .append-byte2 .ensures))), omega arith)))
+    let d1 = d2 .before .before .before .before in (
+      appended-then (d1 .append-number .ensures .0)
+          (appended-then (d2 .append-byte .ensures) (appended-then (d3 .append-answer .ensures .0) (d4 .append-byte2 .ensures))),
+      omega
+          arith,
+    )))

@@ -1,4 +1,4 @@
--- `lines::append_answer` meets its contract, answer by answer. Assumes nothing.
+-- `lines::append_answer` meets its contract, answer by answer.
 use native.Mathlib.Omega.{arith}
 use borrow.Author.Needs.{needs}
 use Rattle.agents.specs.Answers as Answers
@@ -25,10 +25,14 @@ append-answer-spec =
     (λ c. search needs)
     (λ c κs. search needs)
     (λ c. search needs)
-    (λ c. let d = c .before .before in (answer-as _ _ (d .before .before .before .enum-told .given .1) (d .append-bytes .ensures), omega arith))
+    (λ c. let d = c .before .before in
+    (answer-as _ _ (d .before .before .before .enum-told .given .1) (d .append-bytes .ensures), omega arith))
     (λ c. search needs)
-    (λ c. let d = c .before .before in (answer-as _ _ (d .before .before .before .enum-told2 .given .1) (d .append-bytes2 .ensures), omega arith))
+    (λ c. let d = c .before .before in
+    (answer-as _ _ (d .before .before .before .enum-told2 .given .1) (d .append-bytes2 .ensures), omega arith))
     (λ c. search needs)
-    (λ c. let d = c .before .before in (answer-as _ _ (d .before .before .before .answer .given .1) (d .append-reply .ensures .0), omega arith))
+    (λ c. let d = c .before .before in
+    (answer-as _ _ (d .before .before .before .answer .given .1) (d .append-reply .ensures .0), omega arith))
     (λ c. search needs)
-    (λ c. let d = c .before .before in (answer-as _ _ (d .before .before .before .answer2 .given .1) (d .append-refused .ensures .0), omega arith)))
+    (λ c. let d = c .before .before in
+    (answer-as _ _ (d .before .before .before .answer2 .given .1) (d .append-refused .ensures .0), omega arith)))

@@ -1,4 +1,4 @@
--- `lines::append_field` meets its contract, piece by piece. Assumes nothing.
+-- `lines::append_field` meets its contract, piece by piece.
 use native.Mathlib.Omega.{arith}
 use borrow.Author.Needs.{needs}
 use Rattle.text.proofs.Laws.{appended-then}

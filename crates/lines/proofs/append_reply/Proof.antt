@@ -1,4 +1,4 @@
--- `lines::append_reply` meets its contract, piece by piece. Assumes nothing.
+-- `lines::append_reply` meets its contract, piece by piece.
 use native.Mathlib.Omega.{arith}
 use borrow.Author.Needs.{needs}
 use Rattle.text.proofs.Laws.{appended-then}
@@ -19,5 +19,7 @@ append-reply-spec =
     (λ c. search needs)
     (λ c. let d3 = c .before .before in
     let d2 = d3 .before .before .before .before in
-    let d1 = d2 .before .before .before .before in
-    (appended-then (d1 .append-bytes .ensures) (appended-then (d2 .append-field .ensures .0) (d3 .append-field2 .ensures .0)), omega arith)))
+    let d1 = d2 .before .before .before .before in (
+      appended-then (d1 .append-bytes .ensures) (appended-then (d2 .append-field .ensures .0) (d3 .append-field2 .ensures .0)),
+      omega arith,
+    )))

@@ -1,4 +1,4 @@
--- `lines::refused_line` meets its contract, piece by piece. Assumes nothing.
+-- `lines::refused_line` meets its contract, piece by piece.
 use native.Mathlib.Omega.{arith}
 use borrow.Author.Needs.{needs}
 use Rattle.text.proofs.Laws.{appended-then}

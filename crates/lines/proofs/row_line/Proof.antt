@@ -1,4 +1,4 @@
--- `lines::row_line` meets its contract, piece by piece. Assumes nothing.
+-- `lines::row_line` meets its contract, piece by piece.
 use native.Mathlib.Omega.{arith}
 use borrow.Author.Needs.{needs}
 use Rattle.text.proofs.Laws.{appended-then}
@@ -22,5 +22,10 @@ row-line-spec =
     let d4 = d5 .before .before .before .before in
     let d3 = d4 .before .before .before .before in
     let d2 = d3 .before .before .before .before in
-    let d1 = d2 .before .before .before .before in
-    (appended-then (d1 .append-bytes .ensures) (appended-then (d2 .append-field .ensures .0) (appended-then (d3 .append-field2 .ensures .0) (appended-then (d4 .append-field3 .ensures .0) (d5 .append-byte .ensures)))), omega arith)))
+    let d1 = d2 .before .before .before .before in (
+      appended-then (d1 .append-bytes .ensures)
+          (appended-then (d2 .append-field .ensures .0)
+          (appended-then (d3 .append-field2 .ensures .0) (appended-then (d4 .append-field3 .ensures .0) (d5 .append-byte .ensures)))),
+      omega
+          arith,
+    )))

@@ -1,5 +1,4 @@
 -- `listing::print_rows` meets its contract. The loop's invariant: what is printed and the lines that are left come to the whole.
--- Assumes nothing.
 use mathlib.Core.Path.{_≡_, refl}
 use Prim.Native.Nat.{_+_, _-_, _*_, _≤_, _<_}
 use native.Mathlib.Omega.{arith}
@@ -80,7 +79,8 @@ print-rows-spec =
       omega arith,
       omega arith,
       omega arith,
-      printing-more (l .inv .4) _ _ (lines-more _ _ _ _ _ _ _ (omega arith) (omega arith) (st .pre .3) key value) (d .stored-line .ensures .0),
+      printing-more (l .inv .4) _ _ (lines-more _ _ _ _ _ _ _ (omega arith) (omega arith) (st .pre .3) key value)
+          (d .stored-line .ensures .0),
     ))
     (λ c. search needs)
     (λ c. (printing-done (c .before .loop .inv .4) (lines-none _ _ _ _ (omega arith)), omega arith)))

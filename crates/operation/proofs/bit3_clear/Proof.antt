@@ -1,4 +1,4 @@
--- The mask of bit 3 is 8 times that bit, so one is zero where the other is. Assumes nothing.
+-- The mask of bit 3 is 8 times that bit, so one is zero where the other is.
 use native.Mathlib.Omega.{arith}
 use lib.Bits.{bitAnd, and-high}
 use Prim.Native.Nat.{_/_, _%_}

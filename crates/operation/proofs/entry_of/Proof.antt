@@ -1,4 +1,4 @@
--- The table's rule, over all of its sixteen entries by computation. Assumes nothing.
+-- The table's rule, over all of its sixteen entries by computation.
 use borrow.Author.Needs.{needs}
 use Rattle.operation.specs.Operations.{sideOf, operandOf, fixedOf}
 use Rattle.operation.specs.Packed.{entryOf}

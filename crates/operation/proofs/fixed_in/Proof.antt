@@ -1,4 +1,4 @@
--- Bit 4 is what stands above the other parts. Assumes nothing.
+-- Bit 4 is what stands above the other parts.
 use Rattle.operation.proofs.Unpacked.{fixed-bit, is-fixed}
 use Rattle.operation.proofs.fixed_in.Statement.{statement}
 use Rattle.operation.proofs.fixed_in.Tie as tie

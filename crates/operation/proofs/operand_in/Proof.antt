@@ -1,4 +1,4 @@
--- The operand's bits are the remainder by 4 of what stands above the side's; each return is the operand that has them. Assumes nothing.
+-- The operand's bits are the remainder by 4 of what stands above the side's; each return is the operand that has them.
 use mathlib.Core.Path.{sym, _∙_}
 use lib.Bits.{and-mask}
 use Rattle.operation.proofs.Unpacked.{operand-bits, is-below8, is-jump, is-zero, is-any}

@@ -1,4 +1,4 @@
--- The mask of the low three bits is the remainder by 8. Assumes nothing.
+-- The mask of the low three bits is the remainder by 8.
 use lib.Bits.{and-mask}
 use Rattle.operation.proofs.register_of.Statement.{statement}
 use Rattle.operation.proofs.register_of.Tie as tie

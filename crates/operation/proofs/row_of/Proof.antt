@@ -1,4 +1,4 @@
--- The table's entry, taken apart. Assumes nothing.
+-- The table's entry, taken apart.
 use borrow.Author.Needs.{needs}
 use mathlib.Core.Path.{_∙_, ap}
 use Rattle.operation.specs.Parts.{operationOf}

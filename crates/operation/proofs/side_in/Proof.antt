@@ -1,4 +1,4 @@
--- The side's bits are the remainder by 4; each return is the side that has them. Assumes nothing.
+-- The side's bits are the remainder by 4; each return is the side that has them.
 use mathlib.Core.Path.{sym, _∙_}
 use lib.Bits.{and-mask}
 use Rattle.operation.proofs.Unpacked.{side-bits, is-inside, is-outside, is-anywhere}

@@ -1,4 +1,4 @@
--- The mask of the low four bits is the remainder by 16. Assumes nothing.
+-- The mask of the low four bits is the remainder by 16.
 use lib.Bits.{and-mask}
 use Rattle.operation.proofs.source_of.Statement.{statement}
 use Rattle.operation.proofs.source_of.Tie as tie

@@ -1,4 +1,4 @@
--- `pack::check` meets its contract: the layout first, then the workflows. Assumes nothing.
+-- `pack::check` meets its contract: the layout first, then the workflows.
 use borrow.Author.Needs.{needs}
 use mathlib.Core.Path.{sym, _∙_, ap}
 use Rattle.questions.specs.Verdicts.{verdictOf}
@@ -16,5 +16,7 @@ check-spec =
     (λ c. search needs)
     (λ c κs. laid _ (accepted _ _ (c .before .before .check-layout .ensures) (c .enum-told .given .1)))
     (λ c. search needs)
-    (λ c. let e = c .before in c .check-workflows .ensures ∙ ap verdictOf (sym (layout-fine _ _ (e .before .before .check-layout .ensures) (e .enum-told .given .1))))
+    (λ c. let e = c .before in
+    c .check-workflows .ensures
+    ∙ ap verdictOf (sym (layout-fine _ _ (e .before .before .check-layout .ensures) (e .enum-told .given .1))))
     (λ c. layout-refused _ _ _ _ _ (c .before .before .check-layout .ensures) (c .enum-told2 .given .1)))

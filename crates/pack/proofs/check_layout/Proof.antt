@@ -1,4 +1,4 @@
--- `pack::check_layout` meets its contract: questions 1 to 3 by their tests. Assumes nothing.
+-- `pack::check_layout` meets its contract: questions 1 to 3 by their tests.
 use borrow.Author.Needs.{needs}
 use borrow.Author.Tests.{not-true, not-false, le-leb, lt-leb, eq-eqb, ne-eqb}
 use mathlib.Core.Path.{_≡_, refl, sym, _∙_, ap}
@@ -14,7 +14,8 @@ use Rattle.pack.proofs.check_layout.Tie as tie
 yes1 : (c : tie.Else3) → question1 (c .before .before .before .before .before .args .pack .now) ≡ true
 yes1 c = count-asked _ (c .before .before .before .if1 .left) true (is-between 1 16 _ (c .before .if2 .left) (c .if3 .left))
 
-yes2 : (c : tie.Else6) → question2 (c .before .before .before .before .before .before .before .before .before .before .args .pack .now) ≡ true
+yes2 : (c : tie.Else6) →
+    question2 (c .before .before .before .before .before .before .before .before .before .before .args .pack .now) ≡ true
 yes2 c =
     let s = c .before .before .before in
     sizes-asked _ true true true _ (c .before .first-of .ensures) (le-leb _ _ (s .before .if4 .left))
@@ -30,27 +31,38 @@ check-layout-spec =
     (λ c. search needs)
     (λ c. omega (arith, c .shared-slice-known2 .given 0))
     (λ c κs. search needs)
-    (λ c. c .refused2 .ensures ∙ ap verdictOf (sym (layout-asked _ false _ _ (count-asked _ (c .before .before .before .if1 .left) false (too-low 1 16 _ (c .before .if2 .taken))) refl refl)))
+    (λ c. c .refused2 .ensures
+    ∙ ap verdictOf (sym (layout-asked _ false _ _
+    (count-asked _ (c .before .before .before .if1 .left) false (too-low 1 16 _ (c .before .if2 .taken))) refl refl)))
     (λ c κs. search needs)
-    (λ c. c .refused3 .ensures ∙ ap verdictOf (sym (layout-asked _ false _ _ (count-asked _ (c .before .before .before .before .if1 .left) false (too-high 1 16 _ (c .before .if3 .taken))) refl refl)))
+    (λ c. c .refused3 .ensures
+    ∙ ap verdictOf (sym (layout-asked _ false _ _
+    (count-asked _ (c .before .before .before .before .if1 .left) false (too-high 1 16 _ (c .before .if3 .taken))) refl refl)))
     (λ c. search needs)
     (λ c. search needs)
     (λ c κs. search needs)
-    (λ c. c .refused4 .ensures ∙ ap verdictOf (sym (layout-asked _ true false _ (yes1 (c .before .before)) (sizes-asked _ false _ _ _ refl (lt-leb _ _ (c .before .if4 .taken)) refl refl) refl)))
+    (λ c. c .refused4 .ensures
+    ∙ ap verdictOf (sym (layout-asked _ true false _ (yes1 (c .before .before))
+    (sizes-asked _ false _ _ _ refl (lt-leb _ _ (c .before .if4 .taken)) refl refl) refl)))
     (λ c κs. search needs)
     (λ c κs. search needs)
     (λ c.
     let s = c .before .before in
     c .refused5 .ensures
     ∙ ap verdictOf
-    (sym (layout-asked _ true false _ (yes1 (s .before .before)) (sizes-asked _ true false _ _ refl (le-leb _ _ (s .before .if4 .left)) (sym (s .sizes-in-range .ensures) ∙ not-true _ (c .before .if5 .taken)) refl) refl)))
+    (sym (layout-asked _ true false _ (yes1 (s .before .before))
+    (sizes-asked _ true false _ _ refl (le-leb _ _ (s .before .if4 .left))
+    (sym (s .sizes-in-range .ensures) ∙ not-true _ (c .before .if5 .taken)) refl) refl)))
     (λ c κs. search needs)
     (λ c κs. search needs)
     (λ c.
     let s = c .before .before .before .before in
     c .refused6 .ensures
     ∙ ap verdictOf
-    (sym (layout-asked _ true false _ (yes1 (s .before .before)) (sizes-asked _ true true false _ (c .before .before .first-of .ensures) (le-leb _ _ (s .before .if4 .left)) (sym (s .sizes-in-range .ensures) ∙ not-false _ (c .before .before .before .if5 .left)) (lt-leb _ 2048 (c .before .if6 .taken))) refl)))
+    (sym (layout-asked _ true false _ (yes1 (s .before .before))
+    (sizes-asked _ true true false _ (c .before .before .first-of .ensures) (le-leb _ _ (s .before .if4 .left))
+    (sym (s .sizes-in-range .ensures) ∙ not-false _ (c .before .before .before .if5 .left)) (lt-leb _ 2048 (c .before .if6 .taken)))
+    refl)))
     (λ c. search needs)
     (λ c. search needs)
     (λ c. search needs)
@@ -59,7 +71,9 @@ check-layout-spec =
     (λ c.
     let s = c .before .before in
     c .refused7 .ensures
-    ∙ ap verdictOf (sym (layout-asked _ true true false (yes1 (s .before .before .before .before .before)) (yes2 s) (length-asked _ false _ (s .before .first-of .ensures) (ne-eqb _ _ (c .before .if7 .taken))))))
+    ∙ ap verdictOf (sym (layout-asked _ true true false (yes1 (s .before .before .before .before .before)) (yes2 s)
+    (length-asked _ false _ (s .before .first-of .ensures) (ne-eqb _ _ (c .before .if7 .taken))))))
     (λ c.
     let s = c .before in
-    ap verdictOf (sym (layout-asked _ true true true (yes1 (s .before .before .before .before .before)) (yes2 s) (length-asked _ true _ (s .before .first-of .ensures) (eq-eqb _ _ (c .if7 .left)))))))
+    ap verdictOf (sym (layout-asked _ true true true (yes1 (s .before .before .before .before .before)) (yes2 s)
+    (length-asked _ true _ (s .before .first-of .ensures) (eq-eqb _ _ (c .if7 .left)))))))

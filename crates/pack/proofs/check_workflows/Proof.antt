@@ -1,5 +1,5 @@
--- `pack::check_workflows` meets its contract. The loop's invariant: `first` is where workflow w begins in both arrays, and the answer is that for the
--- workflows ahead. Assumes nothing.
+-- `pack::check_workflows` meets its contract. The loop's invariant: `first` is where workflow w begins in both arrays, and the answer is
+-- that for the workflows ahead.
 use borrow.Author.Needs.{needs}
 use mathlib.Core.Path.{_≡_, refl, sym, _∙_, ap}
 use Prim.Native.Nat.{_+_, _*_, _≤_, _-_}
@@ -35,19 +35,40 @@ module _ (c : tie.After-size-at Inv-loop μ-loop) where
   few =
       let l = c .before .before in
       let s = l .before .before .before .before .before in
-      omega (arith, few-instructions (s .args .pack .now) (s .pre) (l .loop .w) (c .before .loop-test .taken), c .size-at .ensures, l .loop .inv .1)
+      omega (
+        arith,
+        few-instructions (s .args .pack .now) (s .pre) (l .loop .w) (c .before .loop-test .taken),
+        c .size-at .ensures,
+        l .loop .inv .1,
+      )
 
-  operations-fit : let l = c .before .before in l .before .before .operations-begin .result + l .loop .first + c .size-at .result ≤ length (l .before .before .before .before .before .args .pack .now)
+  operations-fit : let l = c .before .before in
+      l .before .before .operations-begin .result + l .loop .first + c .size-at .result ≤ length
+      (l .before .before .before .before .before .args .pack .now)
   operations-fit =
       let l = c .before .before in
       let s = l .before .before .before .before .before in
-      omega (arith, operations-within (s .args .pack .now) (s .pre) (l .loop .w) (c .before .loop-test .taken), l .before .before .operations-begin .ensures, c .size-at .ensures, l .loop .inv .1)
+      omega (
+        arith,
+        operations-within (s .args .pack .now) (s .pre) (l .loop .w) (c .before .loop-test .taken),
+        l .before .before .operations-begin .ensures,
+        c .size-at .ensures,
+        l .loop .inv .1,
+      )
 
-  operands-fit : let l = c .before .before in l .before .operands-begin .result + 4 * l .loop .first + 4 * c .size-at .result ≤ length (l .before .before .before .before .before .args .pack .now)
+  operands-fit : let l = c .before .before in
+      l .before .operands-begin .result + 4 * l .loop .first + 4 * c .size-at .result ≤ length
+      (l .before .before .before .before .before .args .pack .now)
   operands-fit =
       let l = c .before .before in
       let s = l .before .before .before .before .before in
-      omega (arith, operands-within (s .args .pack .now) (s .pre) (l .loop .w) (c .before .loop-test .taken), l .before .operands-begin .ensures, c .size-at .ensures, l .loop .inv .1)
+      omega (
+        arith,
+        operands-within (s .args .pack .now) (s .pre) (l .loop .w) (c .before .loop-test .taken),
+        l .before .operands-begin .ensures,
+        c .size-at .ensures,
+        l .loop .inv .1,
+      )
 
   -- the pack is short
   short : length (c .before .before .before .before .before .before .before .args .pack .now) ≤ 10273
@@ -55,19 +76,24 @@ module _ (c : tie.After-size-at Inv-loop μ-loop) where
 
 -- the parts in hand are the workflow's
 module _ (c : tie.After-part2 Inv-loop μ-loop) where
-  operations-here : let l = c .before .before .before .before in c .before .part .result .now ≡ operationsOf (l .before .before .before .before .before .args .pack .now) (l .loop .w)
+  operations-here : let l = c .before .before .before .before in
+      c .before .part .result .now ≡ operationsOf (l .before .before .before .before .before .args .pack .now) (l .loop .w)
   operations-here =
       let z = c .before .before in
       let l = z .before .before in
-      operations-are _ _ _ _ (l .loop .inv .1) (z .size-at .ensures) _ _ (l .before .before .operations-begin .ensures) (c .before .part .ensures)
+      operations-are _ _ _ _ (l .loop .inv .1) (z .size-at .ensures) _ _ (l .before .before .operations-begin .ensures)
+      (c .before .part .ensures)
 
-  operands-here : let l = c .before .before .before .before in c .part2 .result .now ≡ operandsOf (l .before .before .before .before .before .args .pack .now) (l .loop .w)
+  operands-here : let l = c .before .before .before .before in
+      c .part2 .result .now ≡ operandsOf (l .before .before .before .before .before .args .pack .now) (l .loop .w)
   operands-here =
       let z = c .before .before in
       let l = z .before .before in
       operands-are _ _ _ _ (l .loop .inv .1) (z .size-at .ensures) _ _ (l .before .operands-begin .ensures) (c .part2 .ensures)
 
-  workflow-here : let l = c .before .before .before .before in codeNo (l .loop .w) (c .before .part .result .now) (c .part2 .result .now) ≡ workflowNo (l .before .before .before .before .before .args .pack .now) (l .loop .w)
+  workflow-here : let l = c .before .before .before .before in
+      codeNo (l .loop .w) (c .before .part .result .now) (c .part2 .result .now) ≡ workflowNo
+      (l .before .before .before .before .before .args .pack .now) (l .loop .w)
   workflow-here = parts-of _ _ _ _ operations-here operands-here
 
   sized : (1 ≤ length (c .before .part .result .now)) × (length (c .part2 .result .now) ≡ 4 * length (c .before .part .result .now))
@@ -119,7 +145,12 @@ check-workflows-spec =
     let t = z .before in
     let l = t .before in (
       omega arith,
-      omega (arith, first-next (l .before .before .before .before .before .args .pack .now) (l .loop .w), l .loop .inv .1, z .size-at .ensures),
+      omega (
+        arith,
+        first-next (l .before .before .before .before .before .args .pack .now) (l .loop .w),
+        l .loop .inv .1,
+        z .size-at .ensures,
+      ),
       l .loop .inv .2 ∙ first-yes _ _ _ (t .loop-test .taken) _ (told k) (c .enum-told2 .given .1),
     ))
     (λ c. ap verdictOf (sym (c .before .loop .inv .2 ∙ first-done _ _ _ (c .loop-test .left)))))

@@ -1,4 +1,4 @@
--- `pack::operands` meets its contract: a part of the pack, or on refusal the empty part. Assumes nothing.
+-- `pack::operands` meets its contract: a part of the pack, or on refusal the empty part.
 use borrow.Author.Needs.{needs}
 use mathlib.Core.Path.{_≡_, sym, _∙_}
 use mathlib.Core.Option.{none}

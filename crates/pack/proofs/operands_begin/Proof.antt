@@ -1,4 +1,4 @@
--- `pack::operands_begin` meets its contract: the length gives the number of instructions. Assumes nothing.
+-- `pack::operands_begin` meets its contract: the length gives the number of instructions.
 use borrow.Author.Needs.{needs}
 use native.Mathlib.Omega.{arith}
 use Rattle.pack.proofs.operands_begin.Statement.{statement}
@@ -10,5 +10,11 @@ operands-begin-spec =
     (tie.spec
     (λ c κs. search needs)
     (λ c. omega (arith, c .before .before .pre .whole, c .operations-begin .ensures))
-    (λ c. omega (arith, c .before .before .pre .whole, c .before .before .pre .short, c .before .before .pre .few, c .operations-begin .ensures))
+    (λ c. omega (
+      arith,
+      c .before .before .pre .whole,
+      c .before .before .pre .short,
+      c .before .before .pre .few,
+      c .operations-begin .ensures,
+    ))
     (λ c. omega (arith, c .before .before .pre .whole, c .operations-begin .ensures)))

@@ -1,4 +1,4 @@
--- `pack::operands_part` meets its contract: the part is within the pack by its layout. Assumes nothing.
+-- `pack::operands_part` meets its contract: the part is within the pack by its layout.
 use borrow.Author.Needs.{needs}
 use native.Mathlib.Omega.{arith}
 use Rattle.pack.specs.Layout.{operandsOf}
@@ -16,5 +16,10 @@ operands-part-spec =
     (λ c. let s = c .before .before .before in omega (arith, s .pre .0 .sizes (s .args .w) (s .pre .1) .1, c .size-at .ensures))
     (λ c κs.
     let s = c .before .before .before in
-    omega (arith, operands-within (s .args .pack .now) (s .pre .0) (s .args .w) (s .pre .1), c .before .operands-at .ensures, c .size-at .ensures))
+    omega (
+      arith,
+      operands-within (s .args .pack .now) (s .pre .0) (s .args .w) (s .pre .1),
+      c .before .operands-at .ensures,
+      c .size-at .ensures,
+    ))
     (λ c. rw (c .before .before .operands-at .ensures, c .before .size-at .ensures) at (c .part .ensures)))

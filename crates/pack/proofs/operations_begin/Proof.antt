@@ -1,4 +1,4 @@
--- `pack::operations_begin` meets its contract: the first byte is the count. Assumes nothing.
+-- `pack::operations_begin` meets its contract: the first byte is the count.
 use borrow.Author.Needs.{needs}
 use native.Mathlib.Omega.{arith}
 use Rattle.pack.proofs.operations_begin.Statement.{statement}

@@ -1,4 +1,4 @@
--- `pack::operations_part` meets its contract: the part is within the pack by its layout. Assumes nothing.
+-- `pack::operations_part` meets its contract: the part is within the pack by its layout.
 use borrow.Author.Needs.{needs}
 use native.Mathlib.Omega.{arith}
 use Rattle.pack.specs.Layout.{operationsOf}
@@ -15,5 +15,10 @@ operations-part-spec =
     (λ c κs. search needs)
     (λ c κs.
     let s = c .before .before .before in
-    omega (arith, operations-within (s .args .pack .now) (s .pre .0) (s .args .w) (s .pre .1), c .before .operations-at .ensures, c .size-at .ensures))
+    omega (
+      arith,
+      operations-within (s .args .pack .now) (s .pre .0) (s .args .w) (s .pre .1),
+      c .before .operations-at .ensures,
+      c .size-at .ensures,
+    ))
     (λ c. rw (c .before .before .operations-at .ensures, c .before .size-at .ensures) at (c .part .ensures)))

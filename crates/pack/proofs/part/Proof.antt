@@ -1,4 +1,4 @@
--- `pack::part` meets its contract. Assumes nothing.
+-- `pack::part` meets its contract.
 use borrow.Author.Needs.{needs}
 use native.Mathlib.Nat.{add-sub-cancel-left}
 use Rattle.pack.proofs.part.Statement.{statement}

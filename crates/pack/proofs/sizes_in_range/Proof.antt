@@ -1,4 +1,4 @@
--- `pack::sizes_in_range` meets its contract. The loop's invariant: the answer is that for the sizes ahead. Assumes nothing.
+-- `pack::sizes_in_range` meets its contract. The loop's invariant: the answer is that for the sizes ahead.
 use borrow.Author.Needs.{needs}
 use mathlib.Core.Path.{_≡_, sym, _∙_}
 use Prim.Native.Nat.{_≤_, _-_}
@@ -32,10 +32,14 @@ sizes-in-range-spec =
     sym (l .before .loop .inv .1 ∙ each-fails _ _ _ (l .loop-test .taken) (size-low _ _ _ (c .before .read16 .ensures) (c .if1 .taken))))
     (λ c.
     let l = c .before .before .before in
-    sym (l .before .loop .inv .1 ∙ each-fails _ _ _ (l .loop-test .taken) (size-high _ _ _ (c .before .before .read16 .ensures) (c .if2 .taken))))
+    sym (l .before .loop .inv .1
+    ∙ each-fails _ _ _ (l .loop-test .taken) (size-high _ _ _ (c .before .before .read16 .ensures) (c .if2 .taken))))
     (λ c. search needs)
     (λ c. search needs)
     (λ c.
-    let l = c .before .before .before in
-    (omega arith, l .before .loop .inv .1 ∙ each-more _ _ _ (l .loop-test .taken) (size-in _ _ _ (c .before .before .read16 .ensures) (c .before .if1 .left) (c .if2 .left))))
+    let l = c .before .before .before in (
+      omega arith,
+      l .before .loop .inv .1
+          ∙ each-more _ _ _ (l .loop-test .taken) (size-in _ _ _ (c .before .before .read16 .ensures) (c .before .if1 .left) (c .if2 .left)),
+    ))
     (λ c. sym (c .before .loop .inv .1 ∙ each-none _ _ _ (c .loop-test .left))))

@@ -1,4 +1,4 @@
--- `reader::opening_of` meets its contract: the pack's own opening, then where the workflow stands. Assumes nothing.
+-- `reader::opening_of` meets its contract: the pack's own opening, then where the workflow stands.
 use borrow.Author.Needs.{needs}
 use mathlib.Core.Path.{_≡_}
 use mathlib.Core.Option.{none}
@@ -22,5 +22,7 @@ opening-of-spec =
     (λ c κs. (open-laid _ _ (opens (c .before)), open-below _ _ (opens (c .before))))
     (λ c κs. (open-laid _ _ (opens (c .before .before)), open-below _ _ (opens (c .before .before))))
     (λ c. search needs)
-    (λ c. let e = c .before .before .before in found-there _ _ _ _ _ _ (e .before .before .open .ensures) (opens e) (c .before .before .operations-at .ensures) (c .before .operands-at .ensures) (c .size-at .ensures))
+    (λ c. let e = c .before .before .before in
+    found-there _ _ _ _ _ _ (e .before .before .open .ensures) (opens e) (c .before .before .operations-at .ensures)
+    (c .before .operands-at .ensures) (c .size-at .ensures))
     (λ c. found-none _ _ _ _ _ _ (c .before .before .open .ensures) (c .enum-told2 .given .1)))

@@ -1,4 +1,4 @@
--- `reader::part_or_none` meets its contract. Assumes nothing.
+-- `reader::part_or_none` meets its contract.
 use mathlib.Core.Path.{sym}
 use native.Mathlib.Nat.{add-sub-cancel-left}
 use native.Mathlib.Omega.{arith}

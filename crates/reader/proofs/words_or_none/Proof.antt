@@ -1,4 +1,4 @@
--- `reader::words_or_none` meets its contract: where a fourth of the pack is fewer than n, so is the pack fewer than 4n. Assumes nothing.
+-- `reader::words_or_none` meets its contract: where a fourth of the pack is fewer than n, so is the pack fewer than 4n.
 use Prim.Native.Nat.{_*_}
 use mathlib.Core.Path.{sym}
 use native.Mathlib.Omega.{arith}

@@ -1,4 +1,4 @@
--- `runtime::order` meets its contract. Assumes nothing.
+-- `runtime::order` meets its contract.
 use borrow.Author.Needs.{needs}
 use Rattle.questions.proofs.Tests.{no-yes}
 use Rattle.agents.specs.Answers as Answers
@@ -15,6 +15,20 @@ order-spec =
     (λ c. search needs)
     (λ c. search needs)
     (λ c. search needs)
-    (λ c. let k = c .before .before .before .before in ((λ pack records. order-done pack (c .before .before .before .before .before .before .before .args .store .now) (k .order .last .0) records (k .order .result) (k .order .ensures) (c .enum-told .given .1)), (λ a. k .order .ensures .made (c .enum-told .given .1))))
+    (λ c.
+    let k = c .before .before .before .before in
+    let a = k .before .before .before .args in (
+      λ pack records.
+          order-done pack (record { store = a .store .now; records = records }) (k .order .last .0) (k .order .result) (k .order .ensures)
+          (c .enum-told .given .1),
+      λ y. k .order .ensures .made (c .enum-told .given .1),
+    ))
     (λ c. search needs)
-    (λ c. let k = c .before .before .before .before .before in ((λ pack records. order-refused pack (c .before .before .before .before .before .before .before .before .args .store .now) (k .order .last .0) records (k .order .result) (k .order .ensures) _ _ _ (c .before .v .given .1)), (λ a. no-yes a))))
+    (λ c.
+    let k = c .before .before .before .before .before in
+    let a = k .before .before .before .args in (
+      λ pack records.
+          order-refused pack (record { store = a .store .now; records = records }) (k .order .last .0) (k .order .result)
+          (k .order .ensures) _ _ _ (c .before .v .given .1),
+      λ y. no-yes y,
+    )))

@@ -1,4 +1,4 @@
--- `runtime::restart` meets its contract. Assumes nothing.
+-- `runtime::restart` meets its contract.
 use borrow.Author.Needs.{needs}
 use mathlib.Core.Path.{_∙_, ap}
 use Rattle.agents.specs.declared.Answer.the-variants.{Done}
@@ -13,4 +13,5 @@ restart-spec =
     (tie.spec
     (λ c κs. search needs)
     (λ c κs. search needs)
-    (λ c pack store records. is-restart pack store records _ (c .done .ensures ∙ ap (outcome Done) (c .before .no-agents .ensures))))
+    (λ c pack store records. is-restart pack (record { store = store; records = records }) _
+    (c .done .ensures ∙ ap (outcome Done) (c .before .no-agents .ensures))))

@@ -1,4 +1,4 @@
--- `schedule_check::check_bytes` meets its contract, question by question. Assumes nothing.
+-- `schedule_check::check_bytes` meets its contract, question by question.
 use mathlib.Core.Path.{_≡_, sym, _∙_}
 use Prim.Native.Nat.{_≤_}
 use native.Mathlib.Omega.{arith}
@@ -22,7 +22,9 @@ check-bytes-spec =
     (λ c. c .refused .ensures ∙ no-22 _ _ (c .before .before .length-right .ensures) (c .before .if1 .taken))
     (λ c κs. laid _ (sym (c .before .length-right .ensures) ∙ not-false _ (c .if1 .left)))
     (λ c κs. search needs)
-    (λ c. let b = c .before .before .before in c .refused2 .ensures ∙ no-23 _ _ _ (b .before .length-right .ensures) (b .if1 .left) (c .before .before .events-right .ensures) (c .before .if2 .taken))
+    (λ c. let b = c .before .before .before in
+    c .refused2 .ensures ∙ no-23 _ _ _ (b .before .length-right .ensures) (b .if1 .left) (c .before .before .events-right .ensures)
+    (c .before .if2 .taken))
     (λ c κs. long (c .before))
     (λ c κs. long (c .before .before))
     (λ c κs. search needs)
@@ -30,11 +32,15 @@ check-bytes-spec =
     (λ c. let b = c .before .before .before .before .before in
     let a = b .before .before in
     c .refused3 .ensures
-    ∙ no-9 _ _ _ _ _ _ (a .before .length-right .ensures) (a .if1 .left) (b .before .events-right .ensures) (b .if2 .left) (long (b .before))
-    (c .before .before .before .before .partition-count .ensures) (c .before .before .before .capacity .ensures) (c .before .before .numbers-right .ensures) (c .before .if3 .taken))
+    ∙ no-9 _ _ _ _ _ _ (a .before .length-right .ensures) (a .if1 .left) (b .before .events-right .ensures) (b .if2 .left)
+    (long (b .before))
+    (c .before .before .before .before .partition-count .ensures) (c .before .before .before .capacity .ensures)
+    (c .before .before .numbers-right .ensures) (c .before .if3 .taken))
     (λ c κs. search needs)
     (λ c. let b = c .before .before .before .before .before in
     let a = b .before .before in
     c .accepted .ensures
-    ∙ no-no _ _ _ _ _ _ (a .before .length-right .ensures) (a .if1 .left) (b .before .events-right .ensures) (b .if2 .left) (long (b .before))
-    (c .before .before .before .before .partition-count .ensures) (c .before .before .before .capacity .ensures) (c .before .before .numbers-right .ensures) (c .before .if3 .left)))
+    ∙ no-no _ _ _ _ _ _ (a .before .length-right .ensures) (a .if1 .left) (b .before .events-right .ensures) (b .if2 .left)
+    (long (b .before))
+    (c .before .before .before .before .partition-count .ensures) (c .before .before .before .capacity .ensures)
+    (c .before .before .numbers-right .ensures) (c .before .if3 .left)))

@@ -1,4 +1,4 @@
--- `schedule_check::check_schedule` meets its contract: the pack's no, or the schedule's. Assumes nothing.
+-- `schedule_check::check_schedule` meets its contract: the pack's no, or the schedule's.
 use mathlib.Core.Path.{_∙_}
 use borrow.Author.Needs.{needs}
 use Rattle.schedule_check.specs.Questions.{scheduleRefusal}
@@ -17,4 +17,5 @@ check-schedule-spec =
     (λ c. search needs)
     (λ c κs. search needs)
     (λ c. c .check-bytes .ensures ∙ then-accepted _ _ _ (c .before .before .before .check .ensures) (c .before .enum-told .given .1))
-    (λ c. c .refused .ensures ∙ then-refused _ _ _ _ _ _ (c .before .before .before .before .check .ensures) (c .before .before .v .given .1)))
+    (λ c. c .refused .ensures
+    ∙ then-refused _ _ _ _ _ _ (c .before .before .before .before .check .ensures) (c .before .before .v .given .1)))

@@ -1,4 +1,4 @@
--- `schedule_check::event_right` meets its contract, by the tests that led to each return. Assumes nothing.
+-- `schedule_check::event_right` meets its contract, by the tests that led to each return.
 use borrow.Author.Tests.{lt-leb, le-leb, eq-eqb, ne-eqb}
 use Rattle.schedule_check.specs.Questions.{eventRight}
 use Rattle.schedule_check.proofs.event_right.Statement.{statement}

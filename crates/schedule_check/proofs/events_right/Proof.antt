@@ -1,4 +1,4 @@
--- `schedule_check::events_right` meets its contract. The loop's invariant: the events that are left answer the whole. Assumes nothing.
+-- `schedule_check::events_right` meets its contract. The loop's invariant: the events that are left answer the whole.
 use mathlib.Core.Path.{_≡_, refl, sym, ap, _∙_}
 use Prim.Native.Nat.{_-_, _≤_}
 use native.Mathlib.Nat.{sub-zero}
@@ -39,7 +39,8 @@ events-right-spec =
     (λ c κs. search needs)
     (λ c. let l = c .before .before .before .before .before in
     let a = l .before .before .before .before .args in
-    let f = event-wrong (a .s .now) _ _ (l .loop .i) _ refl (l .before .read16 .ensures) (c .before .event-right .ensures) (c .if1 .taken) in
+    let f = event-wrong (a .s .now) _ _ (l .loop .i) _ refl (l .before .read16 .ensures) (c .before .event-right .ensures)
+    (c .if1 .taken) in
     sym (each-fails _ _ _ (omega arith) f) ∙ l .loop .inv .1)
     (λ c. search needs)
     (λ c. search needs)

@@ -1,4 +1,4 @@
--- `schedule_check::length_right` meets its contract, by the tests that led to each return. Assumes nothing.
+-- `schedule_check::length_right` meets its contract, by the tests that led to each return.
 use native.Mathlib.Omega.{arith}
 use borrow.Author.Needs.{needs}
 use Rattle.schedule_check.proofs.Steps.{not-laid, laid-as}

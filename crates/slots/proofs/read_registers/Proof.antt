@@ -1,4 +1,4 @@
--- `slots::read_registers` meets its contract. Assumes nothing.
+-- `slots::read_registers` meets its contract.
 use borrow.Author.Needs.{needs}
 use native.Mathlib.Nat.{add-assoc}
 use Rattle.words.specs.Words as Words

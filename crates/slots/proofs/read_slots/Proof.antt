@@ -1,4 +1,4 @@
--- `slots::read_slots` meets its contract. Assumes nothing.
+-- `slots::read_slots` meets its contract.
 use borrow.Author.Needs.{needs}
 use Rattle.slots.specs.Records.{recordsIn}
 use Rattle.slots.proofs.read_slots.Statement.{statement}

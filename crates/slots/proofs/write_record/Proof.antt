@@ -1,4 +1,4 @@
--- `slots::write_record` meets its contract. Assumes nothing.
+-- `slots::write_record` meets its contract.
 use borrow.Author.Needs.{needs}
 use Prim.Native.Nat.{_*_}
 use Rattle.slots.proofs.Records.{record-written}

@@ -1,4 +1,4 @@
--- `slots::write_registers` meets its contract. Assumes nothing.
+-- `slots::write_registers` meets its contract.
 use borrow.Author.Needs.{needs}
 use mathlib.Core.Path.{_≡_, refl, ap, _∙_}
 use native.Mathlib.Omega.{arith}
@@ -37,5 +37,6 @@ write-registers-spec =
     let l = c .before .before .before .before .before .loop in
     let s = c .before .before .before .before .before .before .before .args in
     (search needs, cc (l .inv .1, c .before .before .write32 .ensures, puts-more 4 (s .bytes .now) (s .at) (s .t3) (l .i))))
-    (λ c. let s = c .before .before .before .args in ap length (c .before .loop .inv .1) ∙ length-puts 4 (s .bytes .now) (s .at) (s .t3) (c .before .loop .i))
+    (λ c. let s = c .before .before .before .args in
+    ap length (c .before .loop .inv .1) ∙ length-puts 4 (s .bytes .now) (s .at) (s .t3) (c .before .loop .i))
     (λ c. let s = c .before .before .before .args in c .before .loop .inv .1 ∙ ap (puts 4 (s .bytes .now) (s .at) (s .t3)) (omega arith)))

@@ -1,4 +1,4 @@
--- `slots::write_slots` meets its contract. Assumes nothing.
+-- `slots::write_slots` meets its contract.
 use borrow.Author.Needs.{needs}
 use mathlib.Core.Path.{_≡_, refl, ap, _∙_}
 use native.Mathlib.Omega.{arith}
@@ -37,8 +37,12 @@ write-slots-spec =
     let l = c .before .before .before .before .before .before .loop in
     let s = c .before .before .before .before .before .before .before .before .args in
     (search needs, cc (l .inv .1, c .before .before .write-record .ensures, records-more (s .bytes .now) (s .t2) (l .i))))
-    (λ c. let s = c .before .before .before .args in ap length (c .before .loop .inv .1) ∙ length-records (s .bytes .now) (s .t2) (c .before .loop .i))
+    (λ c. let s = c .before .before .before .args in
+    ap length (c .before .loop .inv .1) ∙ length-records (s .bytes .now) (s .t2) (c .before .loop .i))
     (λ c.
     let s = c .before .before .before in
-    let e = c .before .loop .inv .1 ∙ ap (withRecords (s .args .bytes .now) (s .args .t2)) (omega arith) in
-    (e, ap slotsIn e ∙ slots-back (s .args .bytes .now) (s .args .t2) (s .pre) (eight-records (s .args .t2) _ (s .good .1 .0)) (all-fitting (s .args .t2) _ (s .good .1 .0)))))
+    let e = c .before .loop .inv .1 ∙ ap (withRecords (s .args .bytes .now) (s .args .t2)) (omega arith) in (
+      e,
+      ap slotsIn e ∙ slots-back (s .args .bytes .now) (s .args .t2) (s .pre) (eight-records (s .args .t2) _ (s .good .1 .0))
+          (all-fitting (s .args .t2) _ (s .good .1 .0)),
+    )))

@@ -1,11 +1,11 @@
--- `store_check::book_ok` meets its contract. The loop: the keys still to be read are good and answer for all. Assumes nothing.
+-- `store_check::book_ok` meets its contract. The loop: the keys still to be read are good and answer for all.
 use mathlib.Core.Bool.{true}
 use mathlib.Core.Path.{_≡_, refl, sym, _∙_}
 use Prim.Native.Nat.{suc, _+_, _*_, _-_}
 use native.Mathlib.Omega.{arith}
 use Rattle.words.specs.Words.{fields}
 use Rattle.store.specs.Questions.{keysOk, bookOk}
-use Rattle.store_check.proofs.Five.{book-few, book-next, book-small, book-no, book-more}
+use Rattle.store_check.proofs.Five.{book-few, book-next, book-key, book-no, book-more}
 use Rattle.store_check.proofs.book_ok.Statement.{statement}
 use Rattle.store_check.proofs.book_ok.Tie as tie
 
@@ -30,21 +30,24 @@ book-ok-spec =
     (λ c κs. omega arith)
     (λ c. omega arith)
     (λ c κs. omega arith)
-    (λ c. let r = c .before in
-    omega (arith, r .read64 .ensures, book-small _ _ _ _ (more (r .before)) (r .before .before .loop .inv .1)))
-    (λ c. let r4 = c .before in
+    (λ c κs. let r = c .before in book-key _ _ _ _ (more (r .before)) (r .before .before .loop .inv .1) _ (r .read64 .ensures))
+    (λ c. let l5 = c .before in
+    let r4 = l5 .before in
     let r = r4 .before in
     let lp = r .before .before in
-    sym (book-no _ _ _ _ (more (r .before)) (lp .loop .inv .1) _ _ (r .read64 .ensures) (r4 .read642 .ensures) (c .if1 .taken))
+    sym (book-no _ _ _ _ (more (r .before)) (lp .loop .inv .1) _ _ (r .read64 .ensures) (r4 .read642 .ensures)
+    (λ q. c .if1 .taken (q ∙ sym (l5 .last-of-five .ensures))))
     ∙ lp .loop .inv .2)
     (λ c. omega arith)
     (λ c. omega arith)
-    (λ c. let r4 = c .before in
+    (λ c. let l5 = c .before in
+    let r4 = l5 .before in
     let r = r4 .before in
     let lp = r .before .before in (
       omega arith,
       book-next _ _ _ _ (more (r .before)) (lp .loop .inv .1),
-      sym (book-more _ _ _ _ (more (r .before)) (lp .loop .inv .1) _ _ (r .read64 .ensures) (r4 .read642 .ensures) (c .if1 .left))
+      sym (book-more _ _ _ _ (more (r .before)) (lp .loop .inv .1) _ _ (r .read64 .ensures) (r4 .read642 .ensures)
+          (c .if1 .left ∙ l5 .last-of-five .ensures))
           ∙ lp .loop .inv .2,
     ))
     (λ c. let lp = c .before in sym (book-few _ _ _ (lp .loop .inv .1) (c .loop-test .left)) ∙ lp .loop .inv .2))

@@ -1,4 +1,4 @@
--- `store_check::check_book` meets its contract. Assumes nothing.
+-- `store_check::check_book` meets its contract.
 use borrow.Author.Needs.{needs}
 use mathlib.Core.Path.{_∙_}
 use Prim.Native.Nat.{_≤_}

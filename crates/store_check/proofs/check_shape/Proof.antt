@@ -1,4 +1,4 @@
--- `store_check::check_shape` meets its contract: each answer is the first no, by the answers before it. Assumes nothing.
+-- `store_check::check_shape` meets its contract: each answer is the first no, by the answers before it.
 use borrow.Author.Needs.{needs}
 use mathlib.Core.Bool.{true}
 use mathlib.Core.Path.{_≡_, sym, ap, ap₂, _∙_}
@@ -17,7 +17,8 @@ numbers : (n : tie.After-numbers-right) →
     let xs = n .before .before .before .before .before .args .s .now in
     numbersRight (partsOf xs) (capOf xs) ≡ n .numbers-right .result
 numbers n =
-    ap₂ numbersRight (sym (n .before .before .partition-count .ensures)) (sym (n .before .capacity .ensures)) ∙ sym (n .numbers-right .ensures)
+    ap₂ numbersRight (sym (n .before .before .partition-count .ensures)) (sym (n .before .capacity .ensures))
+    ∙ sym (n .numbers-right .ensures)
 
 right : (c : tie.Else2) →
     let xs = c .before .before .before .before .before .before .args .s .now in
@@ -45,7 +46,8 @@ check-shape-spec =
     (λ c. let n = c .before .before in
     let xs = n .before .before .before .before .before .args .s .now in
     c .refused2 .ensures
-    ∙ ap verdictOf (sym (no-9 xs (nine-numbers xs _ (n .before .before .before .if1 .left) (numbers n ∙ not-true _ (c .before .if2 .taken))))))
+    ∙ ap verdictOf (sym (no-9 xs
+    (nine-numbers xs _ (n .before .before .before .if1 .left) (numbers n ∙ not-true _ (c .before .if2 .taken))))))
     (λ c κs. let m = numbers-mean _ _ (right c) in
     let n = c .before in
     (omega (arith, m, n .before .before .partition-count .ensures), omega (arith, m, n .before .capacity .ensures)))

@@ -1,4 +1,4 @@
--- `store_check::check_store` meets its contract: the first no, by the answers in hand. Assumes nothing.
+-- `store_check::check_store` meets its contract: the first no, by the answers in hand.
 use borrow.Author.Needs.{needs}
 use mathlib.Core.Bool.{true}
 use mathlib.Core.Path.{_≡_, sym, ap, _∙_}

@@ -1,4 +1,4 @@
--- `store_check::filled` meets its contract. Assumes nothing.
+-- `store_check::filled` meets its contract.
 use borrow.Author.Needs.{needs}
 use mathlib.Core.Path.{sym, _∙_}
 use Rattle.store_check.proofs.Steps.{filled-no, filled-is}
@@ -9,11 +9,6 @@ pub filled-spec : {M : Type 1} → statement M
 filled-spec =
     tie.close
     (tie.spec
+    (λ c. sym (filled-no _ _ _ _ _ (c .if1 .taken)))
     (λ c κs. search needs)
-    (λ c κs. search needs)
-    (λ c. let u = c .before in
-    sym (filled-no _ _ _ (u .used-count .ensures) _ (u .before .capacity .ensures) (c .if1 .taken)))
-    (λ c κs. search needs)
-    (λ c. let u = c .before .before in
-    c .blank-rows .ensures
-    ∙ sym (filled-is _ _ _ (u .used-count .ensures) _ (u .before .capacity .ensures) (c .before .if1 .left))))
+    (λ c. c .blank-rows .ensures ∙ sym (filled-is _ _ _ _ _ (c .before .if1 .left))))

@@ -1,4 +1,4 @@
--- `store_check::keys_ok` meets its contract. The loop: the keys still to be read, from `low` on, answer for all. Assumes nothing.
+-- `store_check::keys_ok` meets its contract. The loop: the keys still to be read, from `low` on, answer for all.
 use borrow.Author.Needs.{needs}
 use mathlib.Core.Bool.{true}
 use mathlib.Core.Path.{_≡_, sym, _∙_}
@@ -6,8 +6,9 @@ use Prim.Native.Nat.{suc, _+_, _*_, _-_, _≤_}
 use native.Mathlib.Nat.{sub-zero}
 use native.Mathlib.Omega.{arith}
 use borrow.Author.Tests.{not-true, not-false}
+use Rattle.keys.specs.Keys.{isForm}
 use Rattle.words.specs.Words.{fields}
-use Rattle.store.specs.Questions.{isForm, keysOk}
+use Rattle.store.specs.Questions.{keysOk}
 use Rattle.store_check.proofs.Rising.{rises, rises-all, rises-low, rises-no-form, rises-more, rises-done, form-small}
 use Rattle.store_check.proofs.keys_ok.Statement.{statement}
 use Rattle.store_check.proofs.keys_ok.Tie as tie
@@ -30,7 +31,7 @@ more c = let h = c .loop-test .taken in omega arith
 is-form : (e : tie.Else2 Inv-loop μ-loop) →
     let r = e .before .before .before in
     isForm (r .before .before .before .before .args .book) (r .read64 .result) ≡ true
-is-form e = sym (e .before .form .ensures) ∙ not-false _ (e .if2 .left)
+is-form e = sym (e .before .of-form .ensures) ∙ not-false _ (e .if2 .left)
 
 pub keys-ok-spec : {M : Type 1} → statement M
 keys-ok-spec =
@@ -49,7 +50,7 @@ keys-ok-spec =
     (λ c. let r = c .before .before .before in
     let lp = r .before .before in
     sym (rises-no-form _ (lp .loop .low) _ _ _ _ _ (more (r .before)) (r .read64 .ensures)
-    (sym (c .before .form .ensures) ∙ not-true _ (c .if2 .taken)))
+    (sym (c .before .of-form .ensures) ∙ not-true _ (c .if2 .taken)))
     ∙ lp .loop .inv .2)
     (λ c. omega (arith, form-small _ _ (is-form c)))
     (λ c. omega arith)

@@ -1,4 +1,4 @@
--- `text::append_digits` meets its contract. The measure is the number. Assumes nothing.
+-- `text::append_digits` meets its contract. The measure is the number.
 use Prim.Native.Nat.{ℕ, _<_}
 use native.Mathlib.Omega.{arith}
 use borrow.Author.Needs.{needs}
@@ -23,7 +23,9 @@ abbrev append-digits-below : ℕ → In 1 append-digits-kinds.ps
 append-digits-below t = and 1 append-digits-kinds.ps (falls 1 append-digits-kinds.ps _<_ μ-append-digits t) append-digits.Pre
 
 pub +append-digits-spec : {M : Type 1} → statement M
-+append-digits-spec = close μ-append-digits λ t. append-digits-lts.spec (append-byte-reads.Asked, append-byte-reads.Learnt, append-digits-below t, append-digits.Post)
++append-digits-spec =
+    close μ-append-digits λ t. append-digits-lts.spec
+    (append-byte-reads.Asked, append-byte-reads.Learnt, append-digits-below t, append-digits.Post)
     (append-digits-at t)
     append-digits.Post
     (λ c. search needs)
@@ -36,4 +38,5 @@ pub +append-digits-spec : {M : Type 1} → statement M
     (λ c. search needs)
     (λ c κs. let b = c .before .before .before .before .before in omega (arith, size-more (b .before .before .args .x) (b .if1 .left)))
     (λ c. search needs)
-    (λ c. number-more (c .before .before .before .before .before .before .before .before .if1 .left) (c .before .before .before .before .before .before .append-digits .ensures) (c .before .before .append-byte2 .ensures))
+    (λ c. number-more (c .before .before .before .before .before .before .before .before .if1 .left)
+    (c .before .before .before .before .before .before .append-digits .ensures) (c .before .before .append-byte2 .ensures))

@@ -1,4 +1,4 @@
--- `text::append_byte` meets its contract. Assumes nothing.
+-- `text::append_byte` meets its contract.
 use borrow.Author.Needs.{needs}
 use Rattle.text.proofs.Laws.{appended-byte}
 use Rattle.text.proofs.append_byte.Statement.{statement}

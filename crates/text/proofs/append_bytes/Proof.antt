@@ -1,4 +1,4 @@
--- `text::append_bytes` meets its contract. The loop's invariant: the first i bytes of `src` are appended. Assumes nothing.
+-- `text::append_bytes` meets its contract. The loop's invariant: the first i bytes of `src` are appended.
 use Prim.Native.Nat.{_+_, _-_, _≤_}
 use native.Mathlib.Omega.{arith}
 use borrow.Author.Needs.{needs}

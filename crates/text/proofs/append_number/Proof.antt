@@ -1,4 +1,4 @@
--- `text::append_number` meets its contract: a number of 64 bits is below 10 ^ 20. Assumes nothing.
+-- `text::append_number` meets its contract: a number of 64 bits is below 10 ^ 20.
 use native.Mathlib.Omega.{arith}
 use borrow.Author.Needs.{needs}
 use Rattle.text.proofs.Laws.{decimal-length}
@@ -11,4 +11,5 @@ append-number-spec =
     (tie.spec
     (λ c κs. omega (arith, decimal-length 19 (c .before .before .args .x) (omega arith)))
     (λ c. search needs)
-    (λ c. let b = c .before .before in (b .append-digits .ensures, omega (arith, decimal-length 19 (b .before .before .before .args .x) (omega arith)))))
+    (λ c. let b = c .before .before in
+    (b .append-digits .ensures, omega (arith, decimal-length 19 (b .before .before .before .args .x) (omega arith)))))

@@ -1,4 +1,4 @@
--- `turn::leave_block` meets its contract. Assumes nothing.
+-- `turn::leave_block` meets its contract.
 use borrow.Author.Needs.{needs}
 use mathlib.Core.List.{[]}
 use mathlib.Core.Path.{sym, _∙_, ap}

@@ -1,4 +1,4 @@
--- `turn::reply` meets its contract. Assumes nothing.
+-- `turn::reply` meets its contract.
 use borrow.Author.Needs.{needs}
 use mathlib.Core.Path.{ap}
 use Rattle.agents.specs.declared.Agent.{Agent}

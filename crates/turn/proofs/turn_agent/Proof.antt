@@ -1,4 +1,4 @@
--- `turn::turn_agent` meets its contract. Assumes nothing.
+-- `turn::turn_agent` meets its contract.
 use borrow.Author.Needs.{needs}
 use mathlib.Core.Path.{_≡_, sym, _∙_, ap, subst}
 use Prim.Native.Nat.{ℕ, _^_, _<_}

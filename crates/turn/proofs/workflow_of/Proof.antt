@@ -1,6 +1,6 @@
--- `turn::workflow_of` meets its contract. Assumes nothing.
+-- `turn::workflow_of` meets its contract.
 use borrow.Author.Needs.{needs}
-use Rattle.meaning.proofs.Book.{got-value, got-zero}
+use Rattle.contents.proofs.Book.{got-value, got-zero}
 use Rattle.turn.proofs.workflow_of.Statement.{statement}
 use Rattle.turn.proofs.workflow_of.Tie as tie
 

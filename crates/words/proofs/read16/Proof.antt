@@ -1,4 +1,4 @@
--- `words::read16` meets its contract, by arithmetic on its 2 bytes. Assumes nothing.
+-- `words::read16` meets its contract, by arithmetic on its 2 bytes.
 use borrow.Author.Needs.{needs}
 use native.Mathlib.Omega.{arith}
 use Rattle.words.specs.Words.{le}

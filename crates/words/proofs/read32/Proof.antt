@@ -1,4 +1,4 @@
--- `words::read32` meets its contract, by arithmetic on its 4 bytes. Assumes nothing.
+-- `words::read32` meets its contract, by arithmetic on its 4 bytes.
 use borrow.Author.Needs.{needs}
 use native.Mathlib.Nat.{add-assoc}
 use native.Mathlib.Omega.{arith}

@@ -1,4 +1,4 @@
--- `words::read64` meets its contract, by arithmetic on its 8 bytes. Assumes nothing.
+-- `words::read64` meets its contract, by arithmetic on its 8 bytes.
 use borrow.Author.Needs.{needs}
 use native.Mathlib.Nat.{add-assoc}
 use native.Mathlib.Omega.{arith}

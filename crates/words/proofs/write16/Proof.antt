@@ -1,4 +1,4 @@
--- `words::write16` meets its contract, by computation. Assumes nothing.
+-- `words::write16` meets its contract, by computation.
 use borrow.Author.Needs.{needs}
 use mathlib.Core.Path.{_≡_}
 use Prim.Native.Nat.{_/_, _%_}

@@ -1,4 +1,4 @@
--- `words::write32` meets its contract, by computation. Assumes nothing.
+-- `words::write32` meets its contract, by computation.
 use borrow.Author.Needs.{needs}
 use native.Mathlib.Nat.{add-assoc, div-div-eq-div-mul}
 use mathlib.Core.Path.{_≡_}

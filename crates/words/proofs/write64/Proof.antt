@@ -1,4 +1,4 @@
--- `words::write64` meets its contract, by computation. Assumes nothing.
+-- `words::write64` meets its contract, by computation.
 use borrow.Author.Needs.{needs}
 use native.Mathlib.Nat.{add-assoc, div-div-eq-div-mul}
 use mathlib.Core.Path.{_≡_}
@@ -38,4 +38,5 @@ write64-spec =
     (λ c. search needs)
     (λ c. simp length-set (omega arith))
     (λ c. search needs)
-    (λ c. let high : c .args .x / 72057594037927936 % 256 ≡ c .args .x / 72057594037927936 = omega arith in simp (add-assoc, div-div-eq-div-mul, high)))
+    (λ c. let high : c .args .x / 72057594037927936 % 256 ≡ c .args .x / 72057594037927936 = omega arith in
+    simp (add-assoc, div-div-eq-div-mul, high)))

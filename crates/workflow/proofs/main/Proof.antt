@@ -1,4 +1,4 @@
--- `workflow::main` is safe and ends: what it writes is a part of its buffer, by the contract of `schedule::run::run`. Assumes nothing.
+-- `workflow::main` is safe and ends: what it writes is a part of its buffer, by the contract of `schedule::run::run`.
 use mathlib.Core.Path.{sym}
 use borrow.Author.Needs.{needs}
 use lib.Seq.{length-take-le}

@@ -1,4 +1,4 @@
--- `block::log_row` meets its contract. Assumes nothing.
+-- `block::log::log_row` meets its contract.
 use mathlib.Core.Path.{ap, _∙_}
 use Prim.Native.Nat.{ℕ}
 use borrow.Author.Needs.{needs}

@@ -1,5 +1,5 @@
--- `block::run_on` meets its contract. The loop's invariant: the run stands inside the block, and what the rules make of it from here is what
--- they make of it from the start. Assumes nothing.
+-- `block::run::run_on` meets its contract. The loop's invariant: the run stands inside the block, and what the rules make of it from here is
+-- what they make of it from the start.
 use mathlib.Core.Path.{_≡_, refl, sym, _∙_}
 use Prim.Native.Nat.{_-_}
 use native.Mathlib.Omega.{arith}
@@ -18,7 +18,8 @@ use Rattle.block.proofs.run.run_on.Statement.{statement}
 use Rattle.block.proofs.run.run_on.Tie as tie
 
 abbrev Inv-loop : tie.InvT-loop
-Inv-loop ops operands store partition x₀ x = Inside ops x × (runOf ops operands (rowsOf store partition) x ≡ runOf ops operands (rowsOf store partition) x₀)
+Inv-loop ops operands store partition x₀ x =
+    Inside ops x × (runOf ops operands (rowsOf store partition) x ≡ runOf ops operands (rowsOf store partition) x₀)
 
 abbrev μ-loop : tie.MeasureT-loop
 μ-loop ops operands store partition x₀ x = length ops - x .place .position
@@ -28,7 +29,8 @@ stepped : (c : tie.After-step Inv-loop μ-loop) →
     let lp = c .before .before .before .before .before .before .before .before in
     let a = lp .before .before .before .before .args in
     let at = lp .loop .x .place .position in
-    Stepped (act (instructionOf (getD (a .ops .now) at 0) (wordAt (a .operands .now) at)) (placeOf (lp .loop .x .place))) (rowsOf (a .store .now) (a .partition)) (lp .loop .x) (c .step .result) (putsOf (operationAt (a .ops .now) at))
+    Stepped (act (instructionOf (getD (a .ops .now) at 0) (wordAt (a .operands .now) at)) (placeOf (lp .loop .x .place)))
+    (rowsOf (a .store .now) (a .partition)) (lp .loop .x) (c .step .result) (putsOf (operationAt (a .ops .now) at))
 stepped c = rw (c .before .word-in .ensures) at (c .step .ensures)
 
 pub run-on-spec : {M : Type 1} → statement M
@@ -52,7 +54,8 @@ run-on-spec =
     let st = lp .before .before .before .before in
     let a = st .args in (
       lp .loop .inv .0 .kept,
-      run-ends (a .ops .now) (a .operands .now) (st .pre .0) (rowsOf (a .store .now) (a .partition)) (lp .loop .x) _ refl (il .if1 .taken) (sym (oo .operation-of .ensures) ∙ ro .before .if2 .taken) _ (ro .register-of .ensures) refl
+      run-ends (a .ops .now) (a .operands .now) (st .pre .0) (rowsOf (a .store .now) (a .partition)) (lp .loop .x) _ refl (il .if1 .taken)
+          (sym (oo .operation-of .ensures) ∙ ro .before .if2 .taken) _ (ro .register-of .ensures) refl
           ∙ lp .loop .inv .1,
     ))
     (λ c κs.
@@ -66,7 +69,8 @@ run-on-spec =
     let a = st .args in
     let i = lp .loop .inv .0 in (
       (st .pre .1, st .pre .2, i .kept, search needs),
-      fits-here (a .ops .now) (a .operands .now) (st .pre .0) (lp .loop .x) _ (il .if1 .taken) i (λ q. c .before .if2 .left (oo .operation-of .ensures ∙ q)) (c .word-in .ensures),
+      fits-here (a .ops .now) (a .operands .now) (st .pre .0) (lp .loop .x) _ (il .if1 .taken) i
+          (λ q. c .before .if2 .left (oo .operation-of .ensures ∙ q)) (c .word-in .ensures),
     ))
     (λ c.
     let el = c .before .before in
@@ -75,7 +79,8 @@ run-on-spec =
     let lp = il .before .before in
     let st = lp .before .before .before .before in
     let a = st .args in
-    let f = goes-further (a .ops .now) (a .operands .now) (st .pre .0) (rowsOf (a .store .now) (a .partition)) (lp .loop .x) (c .step .result) (il .if1 .taken) (lp .loop .inv .0) (λ q. el .if2 .left (oo .operation-of .ensures ∙ q)) (stepped c) in
+    let f = goes-further (a .ops .now) (a .operands .now) (st .pre .0) (rowsOf (a .store .now) (a .partition)) (lp .loop .x)
+    (c .step .result) (il .if1 .taken) (lp .loop .inv .0) (λ q. el .if2 .left (oo .operation-of .ensures ∙ q)) (stepped c) in
     omega (arith, f .further, il .if1 .taken))
     (λ c.
     let el = c .before .before in
@@ -85,8 +90,10 @@ run-on-spec =
     let st = lp .before .before .before .before in
     let a = st .args in
     let n : operationAt (a .ops .now) (lp .loop .x .place .position) ≡ end → ⊥ = λ q. el .if2 .left (oo .operation-of .ensures ∙ q) in (
-      goes-further (a .ops .now) (a .operands .now) (st .pre .0) (rowsOf (a .store .now) (a .partition)) (lp .loop .x) (c .step .result) (il .if1 .taken) (lp .loop .inv .0) n (stepped c) .inside,
-      sym (runs-on (a .ops .now) (a .operands .now) (st .pre .0) (rowsOf (a .store .now) (a .partition)) (lp .loop .x) (c .step .result) (il .if1 .taken) (lp .loop .inv .0) n (stepped c))
+      goes-further (a .ops .now) (a .operands .now) (st .pre .0) (rowsOf (a .store .now) (a .partition)) (lp .loop .x) (c .step .result)
+          (il .if1 .taken) (lp .loop .inv .0) n (stepped c) .inside,
+      sym (runs-on (a .ops .now) (a .operands .now) (st .pre .0) (rowsOf (a .store .now) (a .partition)) (lp .loop .x) (c .step .result)
+          (il .if1 .taken) (lp .loop .inv .0) n (stepped c))
           ∙ lp .loop .inv .1,
     ))
     (λ c.
@@ -95,6 +102,7 @@ run-on-spec =
     let st = lp .before .before .before .before in
     let a = st .args in (
       lp .loop .inv .0 .kept,
-      run-none (a .ops .now) (a .operands .now) (st .pre .0) (rowsOf (a .store .now) (a .partition)) (lp .loop .x) _ refl (al .if1 .left) refl
+      run-none (a .ops .now) (a .operands .now) (st .pre .0) (rowsOf (a .store .now) (a .partition)) (lp .loop .x) _ refl
+          (al .if1 .left) refl
           ∙ lp .loop .inv .1,
     )))

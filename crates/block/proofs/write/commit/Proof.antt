@@ -1,4 +1,4 @@
--- `block::commit` meets its contract. Assumes nothing.
+-- `block::write::commit` meets its contract.
 use mathlib.Core.Path.{sym, ap, _∙_}
 use Prim.Native.Nat.{ℕ}
 use native.Mathlib.Omega.{arith}
@@ -39,7 +39,8 @@ commit-spec =
       ),
       (
         keys-right r (st .pre .2) (a .id) (a .step) _ (k .1) (k .2) q z e _ (a .partition) (st .pre .1),
-        ap (λ (j : ℕ). foundIn j (keysIn (rowsOf (a .store .now) (a .partition)))) (first-key r (st .pre .2) (a .id) (a .step) _ (k .1) (k .2) q z e) ∙ st .pre .3,
+        ap (λ (j : ℕ). foundIn j (keysIn (rowsOf (a .store .now) (a .partition))))
+            (first-key r (st .pre .2) (a .id) (a .step) _ (k .1) (k .2) q z e) ∙ st .pre .3,
       ),
     ))
     (λ c. search needs)
@@ -51,8 +52,10 @@ commit-spec =
     let a = st .args in
     let k = lk .log-key .ensures in
     let q = w .insert-row .ensures in
-    written (a .store .now) _ (a .partition) (a .ran) (st .pre .2) (a .id) (a .step) (k .1) (k .2) (w .insert-row .result) (q .0) (rw (k .0) at (q .1))
-    (keys-good (a .store .now) (a .partition) (st .pre .0) (st .pre .1)) (log-none _ (a .id) (a .step) _ (k .1) (k .2) (st .pre .3)) (rw (c .if1 .taken) at (pa .put-all .ensures)))
+    written (a .store .now) _ (a .partition) (a .ran) (st .pre .2) (a .id) (a .step) (k .1) (k .2) (w .insert-row .result) (q .0)
+    (rw (k .0) at (q .1))
+    (keys-good (a .store .now) (a .partition) (st .pre .0) (st .pre .1)) (log-none _ (a .id) (a .step) _ (k .1) (k .2) (st .pre .3))
+    (rw (c .if1 .taken) at (pa .put-all .ensures)))
     (λ c. search needs)
     (λ c.
     let pa = c .before .before .before in
@@ -62,5 +65,7 @@ commit-spec =
     let a = st .args in
     let k = lk .log-key .ensures in
     let q = w .insert-row .ensures in
-    no-room (a .store .now) _ (a .partition) (a .ran) (st .pre .2) (a .id) (a .step) (k .1) (k .2) (w .insert-row .result) (q .0) (rw (k .0) at (q .1))
-    (keys-good (a .store .now) (a .partition) (st .pre .0) (st .pre .1)) (log-none _ (a .id) (a .step) _ (k .1) (k .2) (st .pre .3)) (rw (c .if1 .left) at (pa .put-all .ensures))))
+    no-room (a .store .now) _ (a .partition) (a .ran) (st .pre .2) (a .id) (a .step) (k .1) (k .2) (w .insert-row .result) (q .0)
+    (rw (k .0) at (q .1))
+    (keys-good (a .store .now) (a .partition) (st .pre .0) (st .pre .1)) (log-none _ (a .id) (a .step) _ (k .1) (k .2) (st .pre .3))
+    (rw (c .if1 .left) at (pa .put-all .ensures))))

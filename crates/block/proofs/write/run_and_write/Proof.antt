@@ -1,4 +1,4 @@
--- `block::run_and_write` meets its contract. Assumes nothing.
+-- `block::write::run_and_write` meets its contract.
 use borrow.Author.Needs.{needs}
 use Rattle.block.proofs.Writes.{same-block}
 use Rattle.block.proofs.write.run_and_write.Statement.{statement}

@@ -1,4 +1,4 @@
--- `block::through_block` meets its contract. Assumes nothing.
+-- `block::write::through_block` meets its contract.
 use mathlib.Core.Option.{some}
 use mathlib.Core.Path.{refl, sym, ap, _∙_}
 use native.Mathlib.Omega.{arith}
@@ -20,8 +20,11 @@ through-block-spec =
     let f = c .before .before in
     let lr = f .before .before in
     let st = lr .before .before .before .before .before in
-    let a = st .args in
-    (st .pre .sound, omega (arith, st .pre .below), at-row (logKey (a .id) (a .step)) (rowsOf (a .store .now) (a .partition)) _ (sym (lr .log-row .ensures) ∙ f .f .given .1)))
+    let a = st .args in (
+      st .pre .sound,
+      omega (arith, st .pre .below),
+      at-row (logKey (a .id) (a .step)) (rowsOf (a .store .now) (a .partition)) _ (sym (lr .log-row .ensures) ∙ f .f .given .1),
+    ))
     (λ c. search needs)
     (λ c κs.
     let f = c .before .before in
@@ -35,7 +38,8 @@ through-block-spec =
     let st = lr .before .before .before .before .before in
     let a = st .args in
     through-logged _ _ _ _ _ _ _ _
-    (log-some (rowsOf (a .store .now) (a .partition)) (a .id) (a .step) _ (omega (arith, st .fits .id .fits)) (omega (arith, st .fits .step .fits)) (sym (lr .log-row .ensures) ∙ f .f .given .1)
+    (log-some (rowsOf (a .store .now) (a .partition)) (a .id) (a .step) _ (omega (arith, st .fits .id .fits))
+    (omega (arith, st .fits .step .fits)) (sym (lr .log-row .ensures) ∙ f .f .given .1)
     ∙ ap some (sym (c .value-at .ensures))) refl)
     (λ c. search needs)
     (λ c.
@@ -44,5 +48,6 @@ through-block-spec =
     let lr = f .before .before in
     let st = lr .before .before .before .before .before in
     let a = st .args in
-    rw (log-none (rowsOf (a .store .now) (a .partition)) (a .id) (a .step) _ (omega (arith, st .fits .id .fits)) (omega (arith, st .fits .step .fits)) (sym (lr .log-row .ensures) ∙ f .f2 .given .1))
+    rw (log-none (rowsOf (a .store .now) (a .partition)) (a .id) (a .step) _ (omega (arith, st .fits .id .fits))
+    (omega (arith, st .fits .step .fits)) (sym (lr .log-row .ensures) ∙ f .f2 .given .1))
     (w .run-and-write .ensures)))

@@ -1,4 +1,4 @@
--- `case_print::print::is_zero` is safe and ends. Assumes nothing.
+-- `case_print::print::is_zero` is safe and ends.
 use borrow.Author.Needs.{needs}
 use Prim.Native.Nat.{_-_, _≤_}
 use lib.ListN.{length}

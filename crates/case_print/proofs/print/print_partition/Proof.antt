@@ -1,4 +1,4 @@
--- `case_print::print::print_partition` is safe and ends. Assumes nothing.
+-- `case_print::print::print_partition` is safe and ends.
 use borrow.Author.Needs.{needs}
 use Prim.Native.Nat.{_≤_}
 use lib.ListN.{length}

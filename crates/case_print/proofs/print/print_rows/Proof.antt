@@ -1,4 +1,4 @@
--- `case_print::print::print_rows` is safe and ends. Assumes nothing.
+-- `case_print::print::print_rows` is safe and ends.
 use borrow.Author.Needs.{needs}
 use Prim.Native.Nat.{_+_, _-_, _≤_}
 use Rattle.case_print.proofs.print.print_rows.Statement.{statement}

@@ -1,4 +1,4 @@
--- `case_print::print::print_rows_of` is safe: the rows of a partition lie within the store. Assumes nothing.
+-- `case_print::print::print_rows_of` is safe: the rows of a partition lie within the store.
 use Rattle.store.specs.Layout.{partsOf, capOf}
 use Rattle.store.proofs.Lists.{before}
 use Rattle.store.proofs.Bytes.{keys-within}
@@ -17,8 +17,18 @@ print-rows-of-spec =
     (λ c κs. search needs)
     (λ c κs. let e = c .before .before .before .before in
     let k = c .before .before .row-count in (
-      omega (arith, keys-within (e .args .s .now) (e .pre .0) (e .args .p) (e .pre .1) (k .result) (k .ensures .0), c .before .key-place .ensures),
-      omega (arith, e .pre .0 .size, before (capOf (e .args .s .now)) {p = e .args .p} {q = partsOf (e .args .s .now) + 1} (omega arith), c .value-place .ensures, k .ensures .0),
+      omega (
+        arith,
+        keys-within (e .args .s .now) (e .pre .0) (e .args .p) (e .pre .1) (k .result) (k .ensures .0),
+        c .before .key-place .ensures,
+      ),
+      omega (
+        arith,
+        e .pre .0 .size,
+        before (capOf (e .args .s .now)) {p = e .args .p} {q = partsOf (e .args .s .now) + 1} (omega arith),
+        c .value-place .ensures,
+        k .ensures .0,
+      ),
       k .ensures .1,
     ))
     (λ c. search needs))

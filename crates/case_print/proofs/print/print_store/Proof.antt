@@ -1,4 +1,4 @@
--- `case_print::print::print_store` is safe: rows are looked for only where questions 9 and 10 say yes. Assumes nothing.
+-- `case_print::print::print_store` is safe: rows are looked for only where questions 9 and 10 say yes.
 use borrow.Author.Needs.{needs}
 use Rattle.case_print.proofs.print.print_store.Statement.{statement}
 use Rattle.case_print.proofs.print.print_store.Tie as tie

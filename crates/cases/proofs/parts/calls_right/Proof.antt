@@ -1,4 +1,4 @@
--- `cases::parts::calls_right` is safe and ends. Assumes nothing.
+-- `cases::parts::calls_right` is safe and ends.
 use borrow.Author.Needs.{needs}
 use Prim.Native.Nat.{_-_, _≤_}
 use lib.ListN.{length}

@@ -1,4 +1,4 @@
--- `cases::parts::records_right` is safe and ends. Assumes nothing.
+-- `cases::parts::records_right` is safe and ends.
 use borrow.Author.Needs.{needs}
 use Prim.Native.Nat.{_-_, _≤_}
 use Rattle.cases.proofs.parts.records_right.Statement.{statement}

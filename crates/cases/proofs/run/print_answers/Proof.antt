@@ -1,4 +1,4 @@
--- `cases::run::print_answers` is safe and ends: 29 bytes of the calls are passed in each round. Assumes nothing.
+-- `cases::run::print_answers` is safe and ends: 29 bytes of the calls are passed in each round.
 use borrow.Author.Needs.{needs}
 use Prim.Native.Nat.{_-_, _≤_}
 use mathlib.Core.Path.{_≡_, refl}

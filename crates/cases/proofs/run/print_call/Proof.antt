@@ -1,4 +1,4 @@
--- `cases::run::print_call` is safe: the copy of the store is a part of the buffer. Assumes nothing.
+-- `cases::run::print_call` is safe: the copy of the store is a part of the buffer.
 use lib.Seq.{length-take-le}
 use mathlib.Core.Path.{sym}
 use borrow.Author.Needs.{needs}

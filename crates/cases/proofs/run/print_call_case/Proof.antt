@@ -1,4 +1,4 @@
--- `cases::run::print_call_case` is safe: the call is there. Assumes nothing.
+-- `cases::run::print_call_case` is safe: the call is there.
 use borrow.Author.Needs.{needs}
 use Rattle.cases.proofs.run.print_call_case.Statement.{statement}
 use Rattle.cases.proofs.run.print_call_case.Tie as tie

@@ -1,4 +1,4 @@
--- `cases::run::print_case` is safe: both parts are there. Assumes nothing.
+-- `cases::run::print_case` is safe: both parts are there.
 use borrow.Author.Needs.{needs}
 use Rattle.cases.proofs.run.print_case.Statement.{statement}
 use Rattle.cases.proofs.run.print_case.Tie as tie

@@ -1,4 +1,4 @@
--- `cases::run::print_schedule` is safe: what it writes is a part of its buffer, by the contract of `schedule::run::run`. Assumes nothing.
+-- `cases::run::print_schedule` is safe: what it writes is a part of its buffer, by the contract of `schedule::run::run`.
 use mathlib.Core.Path.{sym}
 use lib.Seq.{length-take-le}
 use borrow.Author.Needs.{needs}

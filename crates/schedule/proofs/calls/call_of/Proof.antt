@@ -1,4 +1,4 @@
--- `schedule::calls::call_of` meets its contract, kind by kind. Assumes nothing.
+-- `schedule::calls::call_of` meets its contract, kind by kind.
 use borrow.Author.Needs.{needs}
 use Rattle.schedule.proofs.Listed.{same-call, names-0, names-3, kind-0, kind-1, kind-2, kind-3, kind-4}
 use Rattle.schedule.proofs.calls.call_of.Statement.{statement}
@@ -17,8 +17,11 @@ call-of-spec =
     (λ c κs. search needs)
     (λ c. search needs)
     (λ c. same-call _ _ (kind-2 _ _ _ _ (c .before .before .if3 .taken)) (c .crash .ensures))
-    (λ c κs. let q = c .before .before .before .before .before .before .before .before .pre in (q .0, names-3 _ _ _ (c .before .if4 .taken) (q .1)))
+    (λ c κs. let q = c .before .before .before .before .before .before .before .before .pre in
+    (q .0, names-3 _ _ _ (c .before .if4 .taken) (q .1)))
     (λ c. search needs)
     (λ c. same-call _ _ (kind-3 _ _ _ _ (c .before .before .if4 .taken)) (c .retry-of .ensures))
     (λ c κs. search needs)
-    (λ c. let d = c .before in same-call _ _ (kind-4 _ _ _ _ (d .before .before .before .if1 .left) (d .before .before .if2 .left) (d .before .if3 .left) (d .if4 .left)) (c .restart .ensures _ _ _)))
+    (λ c. let d = c .before in
+    same-call _ _ (kind-4 _ _ _ _ (d .before .before .before .if1 .left) (d .before .before .if2 .left) (d .before .if3 .left)
+    (d .if4 .left)) (c .restart .ensures _ _ _)))

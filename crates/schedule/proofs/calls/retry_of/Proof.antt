@@ -1,4 +1,4 @@
--- `schedule::calls::retry_of` meets its contract. Assumes nothing.
+-- `schedule::calls::retry_of` meets its contract.
 use borrow.Author.Needs.{needs}
 use Rattle.schedule.proofs.Listed.{same-call, retries}
 use Rattle.schedule.proofs.calls.retry_of.Statement.{statement}

@@ -1,4 +1,4 @@
--- `schedule::run::run` meets its contract: the first no, or the run. Assumes nothing.
+-- `schedule::run::run` meets its contract: the first no, or the run.
 use native.Mathlib.Omega.{arith}
 use borrow.Author.Needs.{needs}
 use Rattle.schedule.proofs.Goes.{allowed, none-said, printed-run, printed-refused}
@@ -11,8 +11,22 @@ run-spec =
     (tie.spec
     (λ c κs. search needs)
     (λ c. search needs)
-    (λ c κs. (allowed _ _ (none-said _ _ _ (c .before .before .before .before .check-schedule .ensures) (c .before .before .enum-told .given .1)), search needs, search needs))
+    (λ c κs. (
+      allowed _ _
+          (none-said _ _ _ (c .before .before .before .before .check-schedule .ensures) (c .before .before .enum-told .given .1)),
+      search
+          needs,
+      search needs,
+    ))
     (λ c. search needs)
     (λ c κs. search needs)
-    (λ c. (printed-run _ _ _ (c .before .before .before .before .before .check-schedule .ensures) _ (c .before .before .before .enum-told .given .1) (c .run-in .ensures .0), c .run-in .ensures .1))
-    (λ c. (printed-refused _ _ _ (c .before .before .before .before .before .check-schedule .ensures) _ _ _ _ _ _ (c .before .before .before .v .given .1) (c .refused-line .ensures .0), c .refused-line .ensures .0 .room)))
+    (λ c. (
+      printed-run _ _ _ (c .before .before .before .before .before .check-schedule .ensures) _
+          (c .before .before .before .enum-told .given .1) (c .run-in .ensures .0),
+      c .run-in .ensures .1,
+    ))
+    (λ c. (
+      printed-refused _ _ _ (c .before .before .before .before .before .check-schedule .ensures) _ _ _ _ _ _
+          (c .before .before .before .v .given .1) (c .refused-line .ensures .0),
+      c .refused-line .ensures .0 .room,
+    )))

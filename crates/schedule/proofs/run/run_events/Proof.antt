@@ -1,5 +1,4 @@
--- `schedule::run::run_events` meets its contract. The loop's invariant: the first i events were run, and their answers printed. Assumes
--- nothing.
+-- `schedule::run::run_events` meets its contract. The loop's invariant: the first i events were run, and their answers printed.
 use mathlib.Core.Path.{_≡_, refl, _∙_}
 use Prim.Native.Nat.{_+_, _-_, _*_, _≤_}
 use native.Mathlib.Omega.{arith}
@@ -30,14 +29,24 @@ run-events-spec =
     (λ c κs. search needs)
     (λ c. search needs)
     (λ c κs. search needs)
-    (λ c. let b = c .before .before .before .before .before .before in (search needs, refl, refl, omega arith, going-none _ _ (b .pre .1) (c .no-agents .ensures) (omega arith)))
+    (λ c. let b = c .before .before .before .before .before .before in
+    (search needs, refl, refl, omega arith, going-none _ _ (b .pre .1) (c .no-agents .ensures) (omega arith)))
     (λ c κs. (c .before .before .before .before .before .before .before .before .before .pre .0, omega arith))
-    (λ c κs. let b = c .before .before .before .before .before .before .before .before .before .before .before .before .before .before in omega (arith, b .pre .0 .laid .few-events))
+    (λ c κs. let b = c .before .before .before .before .before .before .before .before .before .before .before .before .before .before in
+    omega (arith, b .pre .0 .laid .few-events))
     (λ c. search needs)
     (λ c. search needs)
     (λ c. let d = c .before .before .before .before .before .before .before in
-    let l = d .before .before .before in
-    (omega arith, search needs, search needs, omega arith, going-more (l .loop .inv .4) (d .call-event .ensures) (c .before .before .answer-line .ensures .0)))
+    let l = d .before .before .before in (
+      omega arith,
+      search needs,
+      search needs,
+      omega arith,
+      going-more (l .loop .inv .4) (d .call-event .ensures) (c .before .before .answer-line .ensures .0),
+    ))
     (λ c. search needs)
     (λ c. search needs)
-    (λ c. let l = c .before in (gone (omega arith) (l .loop .inv .4), omega (arith, l .before .before .before .before .before .before .before .pre .0 .laid .few-events))))
+    (λ c. let l = c .before in (
+      gone (omega arith) (l .loop .inv .4),
+      omega (arith, l .before .before .before .before .before .before .before .pre .0 .laid .few-events),
+    )))

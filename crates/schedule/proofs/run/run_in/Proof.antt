@@ -1,4 +1,4 @@
--- `schedule::run::run_in` meets its contract: no store is longer than the buffer. Assumes nothing.
+-- `schedule::run::run_in` meets its contract: no store is longer than the buffer.
 use mathlib.Core.Path.{_≡_, sym, _∙_}
 use Prim.Native.Nat.{_≤_}
 use native.Mathlib.Omega.{arith}
@@ -12,10 +12,13 @@ use Rattle.schedule.proofs.run.run_in.Statement.{statement}
 use Rattle.schedule.proofs.run.run_in.Tie as tie
 
 -- the length of the store, and that it fits
-sized : (c : tie.After-store-size) → c .store-size .result ≡ sizeOf (partsOf (now (c .before .before .before .before .before .before .before .args .s))) (capOf (now (c .before .before .before .before .before .before .before .args .s)))
+sized : (c : tie.After-store-size) →
+    c .store-size .result ≡ sizeOf (partsOf (now (c .before .before .before .before .before .before .before .args .s)))
+    (capOf (now (c .before .before .before .before .before .before .before .args .s)))
 sized c = size-as _ _ _ _ _ (c .store-size .ensures) (c .before .before .partition-count .ensures) (c .before .capacity .ensures)
 
-fits : (c : tie.After-store-size) → c .store-size .result ≤ length (now (c .before .before .before .before .before .before .before .args .store))
+fits : (c : tie.After-store-size) →
+    c .store-size .result ≤ length (now (c .before .before .before .before .before .before .before .args .store))
 fits c = let q = c .before .before .before .before .before .before .before .pre in omega (arith, sized c, size-fits _ _ (q .0 .numbers) .2)
 
 pub run-in-spec : {M : Type 1} → statement M
@@ -24,10 +27,12 @@ run-in-spec =
     (tie.spec
     (λ c κs. search needs)
     (λ c κs. search needs)
-    (λ c κs. let f = size-fits _ _ (c .before .before .before .before .before .before .pre .0 .numbers) in (omega (arith, f .0), omega (arith, f .1)))
+    (λ c κs. let f = size-fits _ _ (c .before .before .before .before .before .before .pre .0 .numbers) in
+    (omega (arith, f .0), omega (arith, f .1)))
     (λ c. fits c)
     (λ c. sym (length-take-le _ _ (fits (c .before))))
-    (λ c κs. let d = c .before .before in let q = d .before .before .before .before .before .before .before .pre in (q .0, length-take-le _ _ (fits d) ∙ sized d, q .2))
+    (λ c κs. let d = c .before .before in let q = d .before .before .before .before .before .before .before .pre in
+    (q .0, length-take-le _ _ (fits d) ∙ sized d, q .2))
     (λ c. search needs)
     (λ c. search needs)
     (λ c. search needs))

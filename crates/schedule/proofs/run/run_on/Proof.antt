@@ -1,4 +1,4 @@
--- `schedule::run::run_on` meets its contract. Assumes nothing.
+-- `schedule::run::run_on` meets its contract.
 use native.Mathlib.Omega.{arith}
 use borrow.Author.Needs.{needs}
 use Rattle.schedule.proofs.Goes.{fresh-chain, chain-sound, prints}
@@ -16,7 +16,17 @@ run-on-spec =
     (λ c κs. search needs)
     (λ c κs. search needs)
     (λ c κs. let b = c .before .before .before .before .before .before .before .before .before .before .before .before .before .before .before .before .before in (b .pre .0, fresh-chain _ _ _ _ _ _ _ (c .before .before .before .before .before .before .before .before .before .before .before .partition-count .ensures) (c .before .before .before .before .before .before .before .before .before .before .capacity .ensures) (b .pre .0) (b .pre .1) (c .before .before .before .before .before .before .before .before .create .ensures), omega arith))
-    (λ c κs. let d = c .before .before .before .before .before .before in (chain-sound (d .run-events .ensures .0 .going .ran .chain), omega (arith, d .run-events .ensures .1, d .run-events .kept .1 .1 .1 .0, d .before .before .before .before .before .events-line .ensures .1, d .before .before .before .before .before .events-line .kept .0, c .before .before .before .before .before .before .before .before .before .before .before .before .before .before .before .before .before .before .before .before .before .before .before .before .pre .2)))
+    (λ c κs. let d = c .before .before .before .before .before .before in (
+      chain-sound (d .run-events .ensures .0 .going .ran .chain),
+      omega (
+        arith,
+        d .run-events .ensures .1,
+        d .run-events .kept .1 .1 .1 .0,
+        d .before .before .before .before .before .events-line .ensures .1,
+        d .before .before .before .before .before .events-line .kept .0,
+        c .before .before .before .before .before .before .before .before .before .before .before .before .before .before .before .before .before .before .before .before .before .before .before .before .pre .2,
+      ),
+    ))
     (λ c. search needs)
     (λ c. search needs)
     (λ c. let p = c .before .before in

@@ -1,4 +1,4 @@
--- `store::head::key_place` meets its contract. Assumes nothing.
+-- `store::head::key_place` meets its contract.
 use borrow.Author.Needs.{needs}
 use mathlib.Core.Path.{ap}
 use Prim.Native.Nat.{ℕ, _*_}

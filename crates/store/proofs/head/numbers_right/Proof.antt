@@ -1,4 +1,4 @@
--- `store::check::numbers_right` meets its contract, by the tests that led to each return. Assumes nothing.
+-- `store::head::numbers_right` meets its contract, by the tests that led to each return.
 use borrow.Author.Tests.{lt-leb, le-leb}
 use Rattle.store.specs.Questions.{numbersRight}
 use Rattle.store.proofs.head.numbers_right.Statement.{statement}

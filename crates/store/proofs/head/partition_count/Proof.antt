@@ -1,4 +1,4 @@
--- `store::head::partition_count` meets its contract: one byte is a number of one byte. Assumes nothing.
+-- `store::head::partition_count` meets its contract: one byte is a number of one byte.
 use borrow.Author.Needs.{needs}
 use native.Mathlib.Omega.{arith}
 use Rattle.words.specs.Words as Words

@@ -1,4 +1,4 @@
--- `store::head::times` meets its contract. Assumes nothing.
+-- `store::head::times` meets its contract.
 use mathlib.Core.Path.{refl}
 use native.Mathlib.Nat.{mul-le-mul}
 use native.Mathlib.Omega.{arith}

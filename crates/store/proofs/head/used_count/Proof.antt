@@ -1,4 +1,4 @@
--- `store::head::used_count` meets its contract: the used count is the number of rows. Assumes nothing.
+-- `store::head::used_count` meets its contract: the used count is the number of rows.
 use borrow.Author.Needs.{needs}
 use mathlib.Core.Path.{sym, _∙_}
 use Rattle.store.proofs.Bytes.{count-is, used-here}
@@ -13,4 +13,5 @@ used-count-spec =
     (λ c. search needs)
     (λ c κs. search needs)
     (λ c. search needs)
-    (λ c. let st = c .before .before in let a = st .args in c .read16 .ensures ∙ sym (count-is (a .s .now) (a .p) ∙ used-here (a .s .now) (a .p) (st .pre .1))))
+    (λ c. let st = c .before .before in let a = st .args in
+    c .read16 .ensures ∙ sym (count-is (a .s .now) (a .p) ∙ used-here (a .s .now) (a .p) (st .pre .1))))

@@ -1,4 +1,4 @@
--- `store::head::value_place` meets its contract. Assumes nothing.
+-- `store::head::value_place` meets its contract.
 use borrow.Author.Needs.{needs}
 use mathlib.Core.Path.{ap, ap₂}
 use Prim.Native.Nat.{ℕ, _+_, _*_}

@@ -1,4 +1,4 @@
--- `store::rows::find` meets its contract. Assumes nothing.
+-- `store::rows::find` meets its contract.
 use borrow.Author.Needs.{needs}
 use mathlib.Core.List.{List}
 use mathlib.Core.Path.{_≡_, sym, ap, subst, _∙_}

@@ -1,4 +1,4 @@
--- `store::rows::get` meets its contract. Assumes nothing.
+-- `store::rows::get` meets its contract.
 use borrow.Author.Needs.{needs}
 use mathlib.Core.Path.{_≡_, sym, ap, _∙_}
 use Rattle.store.specs.Rows.{rowsOf, keysIn}
@@ -21,13 +21,19 @@ get-spec =
     (λ c κs. search needs)
     (λ c. search needs)
     (λ c κs. let d = c .before .before .before in
-    let st = d .before .before in
-    (st .pre .0, st .pre .1, at-row (st .args .key) (rowsOf (st .args .s .now) (st .args .p)) (c .before .f .given .0 .0) (found d ∙ c .before .f .given .1)))
+    let st = d .before .before in (
+      st .pre .0,
+      st .pre .1,
+      at-row (st .args .key) (rowsOf (st .args .s .now) (st .args .p)) (c .before .f .given .0 .0) (found d ∙ c .before .f .given .1),
+    ))
     (λ c. search needs)
     (λ c. let m = c .before .before in
     let d = m .before .before in
     let st = d .before .before in
-    ap Value (c .value-at .ensures) ∙ sym (ap gotOf (at-lookup (st .args .key) (rowsOf (st .args .s .now) (st .args .p)) (m .f .given .0 .0) (found d ∙ m .f .given .1))))
+    ap Value (c .value-at .ensures)
+    ∙ sym (ap gotOf (at-lookup (st .args .key) (rowsOf (st .args .s .now) (st .args .p)) (m .f .given .0 .0)
+    (found d ∙ m .f .given .1))))
     (λ c. let d = c .before .before in
     let st = d .before .before in
-    sym (ap gotOf (no-lookup (st .args .key) (rowsOf (st .args .s .now) (st .args .p)) (c .enum-told .given .0 .0) (found d ∙ c .enum-told .given .1)))))
+    sym (ap gotOf (no-lookup (st .args .key) (rowsOf (st .args .s .now) (st .args .p)) (c .enum-told .given .0 .0)
+    (found d ∙ c .enum-told .given .1)))))

@@ -1,11 +1,12 @@
--- `store::rows::search` meets its contract. The loop: the search among all the keys comes to what it comes to among those still to be read, i
--- places further on. Assumes nothing.
+-- `store::rows::search` meets its contract. The loop: the search among all the keys comes to what it comes to among those still to be read,
+-- i places further on.
 use mathlib.Core.Path.{_≡_, sym, ap, _∙_}
 use Prim.Native.Nat.{_+_, _*_, _-_}
 use native.Mathlib.Omega.{arith}
 use Rattle.words.specs.Words.{fields}
 use Rattle.store.specs.declared.rows.Found.the-variants.{At, Belongs}
-use Rattle.store.proofs.Found.{shift, sought, shift-none, shift-at, shift-belongs, shift-more, searched, next-smaller, next-equal, next-greater, none-left}
+use Rattle.store.proofs.Found.{shift, sought, shift-none, shift-at, shift-belongs, shift-more, searched, next-smaller, next-equal}
+use Rattle.store.proofs.Found.{next-greater, none-left}
 use Rattle.store.proofs.rows.search.Statement.{statement}
 use Rattle.store.proofs.rows.search.Tie as tie
 
@@ -27,13 +28,17 @@ search-spec =
     (λ c. let rd = c .before .before in
     let lp = rd .before .before in
     let a = lp .before .before .args in
-    let q = next-equal (a .key) 8 (a .s .now) (lp .loop .at) (lp .loop .left) (lp .loop .left - 1) (omega arith) (sym (rd .read64 .ensures) ∙ sym (c .if2 .taken)) in
-    searched (a .key) (fields 8 (a .s .now) (a .from) (a .n)) (At (lp .loop .i)) (sym (lp .loop .inv .2 ∙ ap (shift (lp .loop .i)) q ∙ shift-at (lp .loop .i))))
+    let q = next-equal (a .key) 8 (a .s .now) (lp .loop .at) (lp .loop .left) (lp .loop .left - 1) (omega arith)
+    (sym (rd .read64 .ensures) ∙ sym (c .if2 .taken)) in
+    searched (a .key) (fields 8 (a .s .now) (a .from) (a .n)) (At (lp .loop .i))
+    (sym (lp .loop .inv .2 ∙ ap (shift (lp .loop .i)) q ∙ shift-at (lp .loop .i))))
     (λ c. let rd = c .before .before in
     let lp = rd .before .before in
     let a = lp .before .before .args in
-    let q = next-greater (a .key) 8 (a .s .now) (lp .loop .at) (lp .loop .left) (lp .loop .left - 1) (omega arith) (omega (arith, rd .read64 .ensures, c .if2 .left, c .before .if1 .taken)) in
-    searched (a .key) (fields 8 (a .s .now) (a .from) (a .n)) (Belongs (lp .loop .i)) (sym (lp .loop .inv .2 ∙ ap (shift (lp .loop .i)) q ∙ shift-belongs (lp .loop .i))))
+    let q = next-greater (a .key) 8 (a .s .now) (lp .loop .at) (lp .loop .left) (lp .loop .left - 1) (omega arith)
+    (omega (arith, rd .read64 .ensures, c .if2 .left, c .before .if1 .taken)) in
+    searched (a .key) (fields 8 (a .s .now) (a .from) (a .n)) (Belongs (lp .loop .i))
+    (sym (lp .loop .inv .2 ∙ ap (shift (lp .loop .i)) q ∙ shift-belongs (lp .loop .i))))
     (λ c. omega arith)
     (λ c. omega arith)
     (λ c. omega arith)
@@ -41,12 +46,15 @@ search-spec =
     (λ c. let rd = c .before in
     let lp = rd .before .before in
     let a = lp .before .before .args in
-    let q = next-smaller (a .key) 8 (a .s .now) (lp .loop .at) (lp .loop .left) (lp .loop .left - 1) (omega arith) (omega (arith, rd .read64 .ensures, c .if1 .left)) in (
+    let q = next-smaller (a .key) 8 (a .s .now) (lp .loop .at) (lp .loop .left) (lp .loop .left - 1) (omega arith)
+    (omega (arith, rd .read64 .ensures, c .if1 .left)) in (
       omega arith,
       omega arith,
-      lp .loop .inv .2 ∙ ap (shift (lp .loop .i)) q ∙ shift-more (lp .loop .i) (sought (a .key) (fields 8 (a .s .now) (lp .loop .at + 8) (lp .loop .left - 1))),
+      lp .loop .inv .2 ∙ ap (shift (lp .loop .i)) q
+          ∙ shift-more (lp .loop .i) (sought (a .key) (fields 8 (a .s .now) (lp .loop .at + 8) (lp .loop .left - 1))),
     ))
     (λ c. let lp = c .before in
     let a = lp .before .before .args in
     searched (a .key) (fields 8 (a .s .now) (a .from) (a .n)) (Belongs (lp .loop .i))
-    (sym (lp .loop .inv .2 ∙ ap (shift (lp .loop .i)) (none-left (a .key) 8 (a .s .now) (lp .loop .at) (lp .loop .left) (omega arith)) ∙ shift-belongs (lp .loop .i)))))
+    (sym (lp .loop .inv .2 ∙ ap (shift (lp .loop .i)) (none-left (a .key) 8 (a .s .now) (lp .loop .at) (lp .loop .left) (omega arith))
+    ∙ shift-belongs (lp .loop .i)))))

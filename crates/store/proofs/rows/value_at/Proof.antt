@@ -1,4 +1,4 @@
--- `store::rows::value_at` meets its contract. Assumes nothing.
+-- `store::rows::value_at` meets its contract.
 use mathlib.Core.Path.{sym, ap, _∙_}
 use native.Mathlib.Omega.{arith}
 use Rattle.words.specs.Words.{le}
@@ -10,6 +10,17 @@ pub value-at-spec : {M : Type 1} → statement M
 value-at-spec =
     tie.close
     (tie.spec
-    (λ c κs. let st = c .before in (st .pre .0 .formed .shape, st .pre .1, omega (arith, row-below (st .args .s .now) (st .pre .0 .formed) (st .args .p) (st .pre .1) (st .args .i) (st .pre .2))))
-    (λ c κs. let st = c .before .before in omega (arith, value-within (st .args .s .now) (st .pre .0 .formed .shape) (st .args .p) (st .pre .1) (st .args .i) (row-below (st .args .s .now) (st .pre .0 .formed) (st .args .p) (st .pre .1) (st .args .i) (st .pre .2))))
-    (λ c. let st = c .before .before .before in c .read32 .ensures ∙ ap (le 4 (st .args .s .now)) (c .before .value-place .ensures) ∙ sym (value-is (st .args .s .now) (st .args .p) (st .args .i) (st .pre .2))))
+    (λ c κs. let st = c .before in (
+      st .pre .0 .formed .shape,
+      st .pre .1,
+      omega (arith, row-below (st .args .s .now) (st .pre .0 .formed) (st .args .p) (st .pre .1) (st .args .i) (st .pre .2)),
+    ))
+    (λ c κs. let st = c .before .before in
+    omega (
+      arith,
+      value-within (st .args .s .now) (st .pre .0 .formed .shape) (st .args .p) (st .pre .1) (st .args .i)
+          (row-below (st .args .s .now) (st .pre .0 .formed) (st .args .p) (st .pre .1) (st .args .i) (st .pre .2)),
+    ))
+    (λ c. let st = c .before .before .before in
+    c .read32 .ensures ∙ ap (le 4 (st .args .s .now)) (c .before .value-place .ensures)
+    ∙ sym (value-is (st .args .s .now) (st .args .p) (st .args .i) (st .pre .2))))

@@ -1,4 +1,4 @@
--- `store_check::any_order::check_book` meets its contract. Assumes nothing.
+-- `store_check::any_order::check_book` meets its contract.
 use borrow.Author.Needs.{needs}
 use mathlib.Core.Path.{_∙_}
 use Prim.Native.Nat.{_≤_}
@@ -20,7 +20,11 @@ check-book-spec =
     let st = k .before .before in
     let xs = st .args .s .now in
     let l : k .partition-count .result ≤ partsOf xs = omega (arith, k .partition-count .ensures) in
-    omega (arith, keys-within xs (st .pre .shape) (k .partition-count .result) l (c .before .used-count .result) (omega (arith, used-le xs (st .pre) (k .partition-count .result) l))))
+    omega (
+      arith,
+      keys-within xs (st .pre .shape) (k .partition-count .result) l (c .before .used-count .result)
+          (omega (arith, used-le xs (st .pre) (k .partition-count .result) l)),
+    ))
     (λ c. let u = c .before .before in
     let k = u .before in
     c .book-whole .ensures ∙ book-is _ _ _ _ (k .partition-count .ensures) (u .used-count .ensures) (c .before .key-place .ensures)))

@@ -1,4 +1,4 @@
--- `store_check::any_order::check_in_any_order` meets its contract: the first no, by the answers in hand. Assumes nothing.
+-- `store_check::any_order::check_in_any_order` meets its contract: the first no, by the answers in hand.
 use borrow.Author.Needs.{needs}
 use mathlib.Core.Bool.{true}
 use mathlib.Core.Path.{_≡_, sym, ap, _∙_}

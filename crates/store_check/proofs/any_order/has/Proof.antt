@@ -1,4 +1,4 @@
--- `store_check::any_order::has` meets its contract: wherever it looks first, the answer is whether the key is among them. Assumes nothing.
+-- `store_check::any_order::has` meets its contract: wherever it looks first, the answer is whether the key is among them.
 use borrow.Author.Needs.{needs}
 use mathlib.Core.Path.{refl, sym, ap, _∙_}
 use Prim.Native.Nat.{ℕ}
@@ -18,7 +18,8 @@ has-spec =
     (λ c κs. search needs)
     (λ c. let t = c .before .before in
     let a = t .before .before .args in
-    sym (member-at (a .key) (a .s .now) (a .from) (a .n) (a .near) _ (t .if1 .taken) refl (sym (c .before .read64 .ensures) ∙ c .if2 .taken)))
+    sym (member-at (a .key) (a .s .now) (a .from) (a .n) (a .near) _ (t .if1 .taken) refl
+    (sym (c .before .read64 .ensures) ∙ c .if2 .taken)))
     (λ c κs. search needs)
     (λ c. let a = c .before .before .before .args in
     rw (member-place (a .key) (fields 8 (a .s .now) (a .from) (a .n)), length-fields 8 (a .s .now) (a .from) (a .n))

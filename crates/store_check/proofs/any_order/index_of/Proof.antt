@@ -1,4 +1,5 @@
--- `store_check::any_order::index_of` meets its contract. The loop: the place among all the keys is i and the place among those still to be read. Assumes nothing.
+-- `store_check::any_order::index_of` meets its contract. The loop: the place among all the keys is i and the place among those still to be
+-- read.
 use borrow.Author.Needs.{needs}
 use mathlib.Core.Path.{_≡_, sym, ap, _∙_}
 use Prim.Native.Nat.{ℕ, _+_, _*_, _-_, _≤_}
@@ -11,7 +12,8 @@ use Rattle.store_check.proofs.any_order.index_of.Statement.{statement}
 use Rattle.store_check.proofs.any_order.index_of.Tie as tie
 
 abbrev Inv-loop : tie.InvT-loop
-Inv-loop s from n key at₀ i₀ at i = (i ≤ n) × (at ≡ from + 8 * i) × (indexOf key (fields 8 s from n) ≡ i + indexOf key (fields 8 s at (n - i)))
+Inv-loop s from n key at₀ i₀ at i =
+    (i ≤ n) × (at ≡ from + 8 * i) × (indexOf key (fields 8 s from n) ≡ i + indexOf key (fields 8 s at (n - i)))
 
 abbrev μ-loop : tie.MeasureT-loop
 μ-loop s from n key at₀ i₀ at i = n - i
@@ -22,11 +24,16 @@ index-of-spec =
     (tie.spec
     Inv-loop
     μ-loop
-    (λ c. let a = c .before .args in (search needs, omega arith, omega (arith, ap (λ (m : ℕ). indexOf (a .key) (fields 8 (a .s .now) (a .from) m)) (sub-zero (a .n)))))
+    (λ c. let a = c .before .args in
+    (search needs, omega arith, omega (arith, ap (λ (m : ℕ). indexOf (a .key) (fields 8 (a .s .now) (a .from) m)) (sub-zero (a .n)))))
     (λ c κs. omega arith)
     (λ c. let lp = c .before .before .before in
     let a = lp .before .before .args in
-    omega (arith, index-hit (a .key) 8 (a .s .now) (lp .loop .at) (a .n - lp .loop .i) (a .n - (lp .loop .i + 1)) (omega arith) (sym (c .before .read64 .ensures) ∙ c .if1 .taken)))
+    omega (
+      arith,
+      index-hit (a .key) 8 (a .s .now) (lp .loop .at) (a .n - lp .loop .i) (a .n - (lp .loop .i + 1)) (omega arith)
+          (sym (c .before .read64 .ensures) ∙ c .if1 .taken),
+    ))
     (λ c. omega arith)
     (λ c. omega arith)
     (λ c. omega arith)
@@ -34,7 +41,11 @@ index-of-spec =
     let a = lp .before .before .args in (
       omega arith,
       omega arith,
-      omega (arith, index-miss (a .key) 8 (a .s .now) (lp .loop .at) (a .n - lp .loop .i) (a .n - (lp .loop .i + 1)) (omega arith) (λ e. c .if1 .left (c .before .read64 .ensures ∙ e))),
+      omega (
+        arith,
+        index-miss (a .key) 8 (a .s .now) (lp .loop .at) (a .n - lp .loop .i) (a .n - (lp .loop .i + 1)) (omega arith)
+            (λ e. c .if1 .left (c .before .read64 .ensures ∙ e)),
+      ),
     ))
     (λ c. let lp = c .before in
     let a = lp .before .before .args in

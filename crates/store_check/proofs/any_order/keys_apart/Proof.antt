@@ -1,4 +1,4 @@
--- `store_check::any_order::keys_apart` meets its contract. The loop: the keys that were passed are good and marked. Assumes nothing.
+-- `store_check::any_order::keys_apart` meets its contract. The loop: the keys that were passed are good and marked.
 use borrow.Author.Needs.{needs}
 use mathlib.Core.Bool.{true}
 use mathlib.Core.Path.{_≡_, refl, sym, _∙_}
@@ -6,22 +6,26 @@ use Prim.Native.Nat.{_+_, _*_, _-_, _≤_}
 use native.Mathlib.Omega.{arith}
 use borrow.Author.Tests.{not-true, not-false}
 use lib.ListN.{length, length-set}
+use Rattle.keys.specs.Keys.{isForm}
 use Rattle.words.specs.Words.{fields}
-use Rattle.store.specs.Questions.{isForm, keysApart, allIn}
+use Rattle.store.specs.Questions.{keysApart, allIn}
 use Rattle.store_check.proofs.Steps.{keys-done, all-done}
 use Rattle.store_check.proofs.Marks.{marked, keys-all, no-form, key-twice, key-more, mark-more}
 use Rattle.store_check.proofs.any_order.keys_apart.Statement.{statement}
 use Rattle.store_check.proofs.any_order.keys_apart.Tie as tie
 
 abbrev Inv-loop : tie.InvT-loop
-Inv-loop s from n book marks₀ mark at₀ i₀ marks at i = (i ≤ n) × (at ≡ from + 8 * i) × (length marks ≡ length marks₀) × (keysApart book (fields 8 s at (n - i)) ≡ true) × (allIn (marked marks mark) (fields 8 s at (n - i)) ≡ true)
+Inv-loop s from n book marks₀ mark at₀ i₀ marks at i =
+    (i ≤ n) × (at ≡ from + 8 * i) × (length marks ≡ length marks₀) × (keysApart book (fields 8 s at (n - i)) ≡ true)
+    × (allIn (marked marks mark) (fields 8 s at (n - i)) ≡ true)
 
 abbrev μ-loop : tie.MeasureT-loop
 μ-loop s from n book marks₀ mark at₀ i₀ marks at i = i
 
 -- the key that was read is of a form
-is-form : (e : tie.Else1 Inv-loop μ-loop) → isForm (e .before .before .before .before .before .before .before .args .book) (e .before .before .read64 .result) ≡ true
-is-form e = sym (e .before .form .ensures) ∙ not-false _ (e .if1 .left)
+is-form : (e : tie.Else1 Inv-loop μ-loop) →
+    isForm (e .before .before .before .before .before .before .before .args .book) (e .before .before .read64 .result) ≡ true
+is-form e = sym (e .before .of-form .ensures) ∙ not-false _ (e .if1 .left)
 
 pub keys-apart-spec : {M : Type 1} → statement M
 keys-apart-spec =
@@ -41,14 +45,17 @@ keys-apart-spec =
     (λ c. let r = c .before .before in
     let lp = r .before .before in
     let a = lp .before .before .before .args in
-    sym (no-form (a .s .now) (a .from) (a .n) (lp .loop .i) (lp .loop .at) (r .read64 .result) (lp .loop .inv .0) (r .before .loop-test .taken) (lp .loop .inv .1) (r .read64 .ensures) (a .book) (sym (c .before .form .ensures) ∙ not-true _ (c .if1 .taken))))
+    sym (no-form (a .s .now) (a .from) (a .n) (lp .loop .i) (lp .loop .at) (r .read64 .result) (lp .loop .inv .0)
+    (r .before .loop-test .taken) (lp .loop .inv .1) (r .read64 .ensures) (a .book)
+    (sym (c .before .of-form .ensures) ∙ not-true _ (c .if1 .taken))))
     (λ c. omega arith)
     (λ c κs. ((omega arith, omega arith), c .before .before .before .before .before .loop .inv .4))
     (λ c. search needs)
     (λ c. let r = c .before .before .before .before .before in
     let lp = r .before .before in
     let a = lp .before .before .before .args in
-    sym (key-twice (a .s .now) (a .from) (a .n) (lp .loop .i) (lp .loop .at) (r .read64 .result) (lp .loop .inv .0) (r .before .loop-test .taken) (lp .loop .inv .1) (r .read64 .ensures) (a .book) (sym (c .before .seen .ensures) ∙ c .if2 .taken)))
+    sym (key-twice (a .s .now) (a .from) (a .n) (lp .loop .i) (lp .loop .at) (r .read64 .result) (lp .loop .inv .0)
+    (r .before .loop-test .taken) (lp .loop .inv .1) (r .read64 .ensures) (a .book) (sym (c .before .seen .ensures) ∙ c .if2 .taken)))
     (λ c. omega arith)
     (λ c. omega arith)
     (λ c. omega arith)
@@ -59,10 +66,15 @@ keys-apart-spec =
       omega arith,
       omega arith,
       simp length-set (lp .loop .inv .2),
-      key-more (a .s .now) (a .from) (a .n) (lp .loop .i) (lp .loop .at) (r .read64 .result) (lp .loop .inv .0) (r .before .loop-test .taken) (lp .loop .inv .1) (r .read64 .ensures) (a .book) (is-form (c .before .before .before)) (sym (c .before .seen .ensures) ∙ c .if2 .left) (lp .loop .inv .3),
-      mark-more (a .s .now) (a .from) (a .n) (lp .loop .i) (lp .loop .at) (r .read64 .result) (lp .loop .inv .0) (r .before .loop-test .taken) (lp .loop .inv .1) (r .read64 .ensures) (lp .loop .marks) (a .mark) (omega arith) (lp .loop .inv .4),
+      key-more (a .s .now) (a .from) (a .n) (lp .loop .i) (lp .loop .at) (r .read64 .result) (lp .loop .inv .0)
+          (r .before .loop-test .taken) (lp .loop .inv .1) (r .read64 .ensures) (a .book) (is-form (c .before .before .before))
+          (sym (c .before .seen .ensures) ∙ c .if2 .left) (lp .loop .inv .3),
+      mark-more (a .s .now) (a .from) (a .n) (lp .loop .i) (lp .loop .at) (r .read64 .result) (lp .loop .inv .0)
+          (r .before .loop-test .taken) (lp .loop .inv .1) (r .read64 .ensures) (lp .loop .marks) (a .mark) (omega arith)
+          (lp .loop .inv .4),
     ))
     (λ c. search needs)
     (λ c. let lp = c .before in
     let a = lp .before .before .before .args in
-    sym (keys-all (a .book) true (a .s .now) (a .from) (a .n) (lp .loop .i) (lp .loop .at) (omega arith) (lp .loop .inv .1) (lp .loop .inv .3))))
+    sym (keys-all (a .book) true (a .s .now) (a .from) (a .n) (lp .loop .i) (lp .loop .at) (omega arith) (lp .loop .inv .1)
+    (lp .loop .inv .3))))

@@ -1,4 +1,4 @@
--- `store_check::any_order::seen` meets its contract: a place without the mark has none of the keys. Assumes nothing.
+-- `store_check::any_order::seen` meets its contract: a place without the mark has none of the keys.
 use borrow.Author.Needs.{needs}
 use mathlib.Core.Path.{sym, ap}
 use Prim.Native.Nat.{ℕ}

@@ -1,4 +1,4 @@
--- `store_write::bytes::clear` meets its contract. The loop: the first i bytes are zero, the others are as they were. Assumes nothing.
+-- `store_write::bytes::clear` meets its contract. The loop: the first i bytes are zero, the others are as they were.
 use borrow.Author.Needs.{needs}
 use mathlib.Core.List.{_++_, append-nil}
 use mathlib.Core.Path.{_≡_, refl, _∙_}
@@ -26,8 +26,11 @@ clear-spec =
     (λ c. omega arith)
     (λ c. omega arith)
     (λ c. simp length-set (omega arith))
-    (λ c. let lp = c .before in
-    (simp length-set (omega arith), simp length-set (lp .loop .inv .1), rw (lp .loop .inv .2) (fill-more (lp .loop .i) 0 (lp .before .args .s .now) (omega arith))))
+    (λ c. let lp = c .before in (
+      simp length-set (omega arith),
+      simp length-set (lp .loop .inv .1),
+      rw (lp .loop .inv .2) (fill-more (lp .loop .i) 0 (lp .before .args .s .now) (omega arith)),
+    ))
     (λ c. c .before .loop .inv .1)
     (λ c. let lp = c .before in
     let e : lp .loop .i ≡ length (lp .before .args .s .now) = omega arith in

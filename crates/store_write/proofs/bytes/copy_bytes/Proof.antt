@@ -1,4 +1,4 @@
--- `store_write::bytes::copy_bytes` meets its contract. The loop: the first i bytes are copied. Assumes nothing.
+-- `store_write::bytes::copy_bytes` meets its contract. The loop: the first i bytes are copied.
 use borrow.Author.Needs.{needs}
 use mathlib.Core.Path.{_≡_, refl, ap, _∙_}
 use Prim.Native.Nat.{ℕ, _-_, _≤_}

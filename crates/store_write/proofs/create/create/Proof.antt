@@ -1,4 +1,4 @@
--- `store_write::create::create` meets its contract. Assumes nothing.
+-- `store_write::create::create` meets its contract.
 use borrow.Author.Needs.{needs}
 use mathlib.Core.Path.{sym, _∙_}
 use Prim.Native.Nat.{_≤_}
@@ -27,13 +27,16 @@ create-spec =
     (λ c κs. search needs)
     (λ c. let n = c .before .before in
     let a = n .before .before .args in
-    created-9 (a .s .now) (a .parts) (a .cap) (c .refused .result) (sym (n .numbers-right .ensures) ∙ not-true _ (c .before .if1 .taken)) (c .refused .ensures))
+    created-9 (a .s .now) (a .parts) (a .cap) (c .refused .result) (sym (n .numbers-right .ensures) ∙ not-true _ (c .before .if1 .taken))
+    (c .refused .ensures))
     (λ c κs. (omega (arith, right c), omega (arith, right c)))
     (λ c κs. search needs)
     (λ c. let z = c .before .before in
     let n = z .before .before in
     let a = n .before .before .args in
-    created-10 (a .s .now) (a .parts) (a .cap) (c .refused2 .result) (sym (n .numbers-right .ensures) ∙ not-false _ (z .before .if1 .left)) (λ e. c .before .if2 .taken (e ∙ sym (z .store-size .ensures))) (c .refused2 .ensures))
+    created-10 (a .s .now) (a .parts) (a .cap) (c .refused2 .result)
+    (sym (n .numbers-right .ensures) ∙ not-false _ (z .before .if1 .left))
+    (λ e. c .before .if2 .taken (e ∙ sym (z .store-size .ensures))) (c .refused2 .ensures))
     (λ c κs. search needs)
     (λ c. omega (arith, right (c .before .before .before .before .before .before)))
     (λ c. search needs)
@@ -50,6 +53,7 @@ create-spec =
     let n = e .before in
     let a = n .before .before .args in
     let long = z .if2 .left ∙ z .before .store-size .ensures in
-    created-fresh (a .s .now) (a .parts) (a .cap) (c .accepted .result) (w .write16 .last .0) (sym (n .numbers-right .ensures) ∙ not-false _ (e .if1 .left)) long
+    created-fresh (a .s .now) (a .parts) (a .cap) (c .accepted .result) (w .write16 .last .0)
+    (sym (n .numbers-right .ensures) ∙ not-false _ (e .if1 .left)) long
     (w .write16 .ensures ∙ rw (cl .clear .ensures) (fresh-written (a .parts) (a .cap) (length (a .s .now)) long (right e .3)))
     (c .accepted .ensures)))

@@ -1,4 +1,4 @@
--- `store_write::part::copy_back` meets its contract. Assumes nothing.
+-- `store_write::part::copy_back` meets its contract.
 use borrow.Author.Needs.{needs}
 use mathlib.Core.Path.{refl}
 use Prim.Native.Nat.{_+_, _*_}
@@ -24,8 +24,17 @@ copy-back-spec =
     let k = w .before .before .before .before in
     let cp = k .before .before in
     let st = cp .before .before .before .before in
-    let a = st .args in
-    (omega (arith, w .copy-bytes .kept .0, k .key-place .ensures, cp .capacity .ensures, keys-within (a .s .now) (st .pre .0) (a .p) (st .pre .1) (capOf (a .s .now)) (omega arith)), omega (arith, cp .capacity .ensures, st .pre .2)))
+    let a = st .args in (
+      omega (
+        arith,
+        w .copy-bytes .kept .0,
+        k .key-place .ensures,
+        cp .capacity .ensures,
+        keys-within (a .s .now) (st .pre .0) (a .p) (st .pre .1) (capOf (a .s .now)) (omega arith),
+      ),
+      omega
+          (arith, cp .capacity .ensures, st .pre .2),
+    ))
     (λ c. search needs)
     (λ c. search needs)
     (λ c. search needs)
@@ -34,8 +43,18 @@ copy-back-spec =
     let v = w1 .before .before in
     let cp = v .before .before .before .before in
     let st = cp .before .before .before .before in
-    let a = st .args in
-    (omega (arith, w2 .copy-bytes2 .kept .0, w1 .copy-bytes .kept .0, v .value-place .ensures, cp .capacity .ensures, st .pre .0 .size, values-fit (partsOf (a .s .now)) (capOf (a .s .now)) (a .p) (st .pre .1)), omega (arith, cp .capacity .ensures, st .pre .2)))
+    let a = st .args in (
+      omega (
+        arith,
+        w2 .copy-bytes2 .kept .0,
+        w1 .copy-bytes .kept .0,
+        v .value-place .ensures,
+        cp .capacity .ensures,
+        st .pre .0 .size,
+        values-fit (partsOf (a .s .now)) (capOf (a .s .now)) (a .p) (st .pre .1),
+      ),
+      omega (arith, cp .capacity .ensures, st .pre .2),
+    ))
     (λ c. search needs)
     (λ c. let w3 = c .before .before in
     let w2 = w3 .before .before .before .before in
@@ -46,5 +65,6 @@ copy-back-spec =
     let st = cp .before .before .before .before in
     let a = st .args in
     rw (w3 .copy-bytes3 .ensures, w2 .copy-bytes2 .ensures, w1 .copy-bytes .ensures)
-    (part-copied (partsOf (a .s .now)) (capOf (a .s .now)) (a .p) (a .part .now) (a .s .now) (cp .capacity .result) (3 + 2 * a .p) (k .key-place .result) (v .value-place .result) (2 + 8 * cp .capacity .result)
+    (part-copied (partsOf (a .s .now)) (capOf (a .s .now)) (a .p) (a .part .now) (a .s .now) (cp .capacity .result) (3 + 2 * a .p)
+    (k .key-place .result) (v .value-place .result) (2 + 8 * cp .capacity .result)
     (cp .capacity .ensures) refl (omega (arith, k .key-place .ensures)) (omega (arith, v .value-place .ensures)) refl)))

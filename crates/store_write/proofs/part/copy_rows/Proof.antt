@@ -1,4 +1,4 @@
--- `store_write::part::copy_rows` meets its contract. Assumes nothing.
+-- `store_write::part::copy_rows` meets its contract.
 use borrow.Author.Needs.{needs}
 use mathlib.Core.List.{List, _++_}
 use mathlib.Core.Path.{refl, subst, sym}
@@ -28,8 +28,10 @@ copy-rows-spec =
     (λ c κs. let v = c .before in
     let k = v .before in
     let st = k .before .before .before .before in
-    let a = st .args in
-    (omega (arith, st .pre .3, st .pre .4), omega (arith, k .key-place .ensures, rows-within (a .s .now) (st .pre .0) (a .p) (st .pre .1) (a .i) (a .m) (st .pre .2) .0)))
+    let a = st .args in (
+      omega (arith, st .pre .3, st .pre .4),
+      omega (arith, k .key-place .ensures, rows-within (a .s .now) (st .pre .0) (a .p) (st .pre .1) (a .i) (a .m) (st .pre .2) .0),
+    ))
     (λ c. search needs)
     (λ c. search needs)
     (λ c. search needs)
@@ -39,8 +41,10 @@ copy-rows-spec =
     let v = w .before .before in
     let cp = v .before .before in
     let st = cp .before .before .before in
-    let a = st .args in
-    (omega (arith, w .copy-bytes .kept .0, cp .capacity .ensures, st .pre .3, st .pre .4), omega (arith, v .value-place .ensures, rows-within (a .s .now) (st .pre .0) (a .p) (st .pre .1) (a .i) (a .m) (st .pre .2) .1)))
+    let a = st .args in (
+      omega (arith, w .copy-bytes .kept .0, cp .capacity .ensures, st .pre .3, st .pre .4),
+      omega (arith, v .value-place .ensures, rows-within (a .s .now) (st .pre .0) (a .p) (st .pre .1) (a .i) (a .m) (st .pre .2) .1),
+    ))
     (λ c. search needs)
     (λ c rs h. let w2 = c .before .before in
     let w1 = w2 .before .before .before .before in
@@ -51,5 +55,7 @@ copy-rows-spec =
     let a = st .args in
     let fits = rows-within (a .s .now) (st .pre .0) (a .p) (st .pre .1) (a .i) (a .m) (st .pre .2) in
     subst (λ (bs : List ℕ). Holds (capOf (a .s .now)) bs (a .n + a .m) (rs ++ take (a .m) (drop (a .i) (rowsOf (a .s .now) (a .p)))))
-    (sym (rw (w2 .copy-bytes2 .ensures, w1 .copy-bytes .ensures, cp .capacity .ensures, k .key-place .ensures, v .value-place .ensures) refl))
-    (copied-rows (capOf (a .s .now)) (a .part .now) (a .s .now) (a .n) (a .p) (a .i) (a .m) rs h (st .pre .3) (fits .0) (fits .1) (st .pre .2))))
+    (sym (rw (w2 .copy-bytes2 .ensures, w1 .copy-bytes .ensures, cp .capacity .ensures, k .key-place .ensures, v .value-place .ensures)
+    refl))
+    (copied-rows (capOf (a .s .now)) (a .part .now) (a .s .now) (a .n) (a .p) (a .i) (a .m) rs h (st .pre .3) (fits .0) (fits .1)
+    (st .pre .2))))

@@ -1,0 +1,222 @@
+-- Equal contents mean equal bytes: two stores that pass 9 to 12, with the same P, that mean the same store of the rules are byte for byte
+-- the same.
+use mathlib.Core.Bool.{Bool, true, false}
+use mathlib.Core.List.{List}
+use mathlib.Core.Option.{Option, none, some, Option·getD, Option·some-injective}
+use mathlib.Core.Path.{_≡_, refl, sym, ap, subst, _∙_, fun-ext}
+use Prim.Native.Nat.{ℕ, zero, suc, _+_, _-_, _/_, _%_, _^_, _≤_, _<_}
+use native.Mathlib.Omega.{arith}
+use native.Mathlib.Decide.{decLt, ℕ-discrete}
+use borrow.Author.Tests.{lt-ltb, eq-eqb, ne-eqb, ltb-true, leb-true}
+use lib.Dec.{eqb, ltb, leb}
+use lib.ListN.{length, getD}
+use Rattle.contents.specs.Wrote.{Wrote}
+use Rattle.contents.specs.Contents.{valueIn, argumentsOf, requestOf, bookOf, contentsOf}
+use Rattle.questions.specs.Basics.{if_then_else_, isSome}
+use Rattle.keys.specs.Keys.{bookKey, isDataKey, isLogKey, isBookKey, tableOf, logOf, isForm}
+use Rattle.keys.specs.Keys as Keys
+use Rattle.rules.specs.Store.{Request}
+use Rattle.rules.specs.Store as Rules
+use Rattle.questions.proofs.Tests.{no-yes, and-left, and-right}
+use Rattle.questions.proofs.Updates.{none-some}
+use Rattle.words.specs.Words as Words
+use Rattle.store.specs.Layout.{AllBytes, partsOf}
+use Rattle.store.specs.Ordered.{InOrder}
+use Rattle.store.specs.Rows.{Row, keysIn, lookup, rowsOf, storeOf}
+use Rattle.store.specs.Rows as Rows
+use Rattle.store.specs.Questions.{member, keysApart, keysOk, bookOk, question12, storeRefusal}
+use Rattle.store.specs.Questions as Questions
+use Rattle.store.specs.Sound.{Sound}
+use Rattle.store.specs.Sound as Sounds
+use Rattle.store.proofs.Bytes.{past-rows}
+use Rattle.store.proofs.Sound.{store-ok, apart-forms, no-form, keys-apart, keys-rising, book-five}
+use Rattle.store.proofs.Order.{member-is}
+use Rattle.store.proofs.Equal.{same-rows, equal-bytes}
+use Rattle.contents.specs.Equal.{EqualContents}
+
+-- ---- what the contents say of each key
+
+module _ (rows : List Row) (k : ℕ) where
+  data-said : isDataKey k ≡ true → tableOf (valueIn rows) (k - 2 ^ 63) ≡ lookup k rows
+  unfolding Keys.isDataKey
+  data-said e =
+      let l = leb-true (2 ^ 63) k (and-left (leb (2 ^ 63) k) _ e) in
+      let h = ltb-true k (2 ^ 63 + 2 ^ 32) (and-right (leb (2 ^ 63) k) _ e) in
+      rw (lt-ltb (k - 2 ^ 63) (2 ^ 32) (omega arith)) (ap (λ (j : ℕ). lookup j rows) (omega arith))
+
+  log-said : isLogKey k ≡ true → logOf (valueIn rows) (k / 65536) (k % 65536) ≡ lookup k rows
+  unfolding Keys.isLogKey
+  log-said e =
+      let h = ltb-true k (2 ^ 48) e in
+      rw (lt-ltb (k / 65536) (2 ^ 32) (omega arith), lt-ltb (k % 65536) 65536 (omega arith)) (ap (λ (j : ℕ). lookup j rows) (omega arith))
+
+-- two partitions that mean the same
+same-part : (rs qs : List Row) → keysApart false (keysIn rs) ≡ true → keysApart false (keysIn qs) ≡ true
+    → ((k : ℕ) → tableOf (valueIn rs) k ≡ tableOf (valueIn qs) k) → ((id t : ℕ) → logOf (valueIn rs) id t ≡ logOf (valueIn qs) id t) →
+    (k : ℕ) → lookup k rs ≡ lookup k qs
+unfolding Keys.isForm
+same-part rs qs a b d l k = go (isDataKey k) refl (isLogKey k) refl
+  where
+    go : (x : Bool) → isDataKey k ≡ x → (y : Bool) → isLogKey k ≡ y → lookup k rs ≡ lookup k qs
+    go true e y f = sym (data-said rs k e) ∙ d (k - 2 ^ 63) ∙ data-said qs k e
+    go false e true f = sym (log-said rs k f) ∙ l (k / 65536) (k % 65536) ∙ log-said qs k f
+    go false e false f = no-form false k rs (apart-forms false _ a) (rw (e, f) refl)
+        ∙ sym (no-form false k qs (apart-forms false _ b) (rw (e, f) refl))
+
+-- ---- the book
+
+some-same : (o o′ : Option ℕ) → isSome o ≡ true → isSome o′ ≡ true → Option·getD o 0 ≡ Option·getD o′ 0 → o ≡ o′
+some-same none o′ a b e = no-yes a
+some-same (some v) none a b e = no-yes b
+some-same (some v) (some v′) a b e = ap some e
+
+module _ (rows : List Row) (whole : bookOk (keysIn rows) ≡ true) (id : ℕ) where
+  -- an id whose first row is missing has none
+  none-booked : (k : ℕ) → k / 8 ≡ id → lookup (bookKey id 0) rows ≡ none → lookup k rows ≡ none
+  none-booked k e z = go (lookup k rows) refl
+    where
+      go : (o : Option ℕ) → lookup k rows ≡ o → lookup k rows ≡ none
+      go none f = f
+      go (some v) f =
+          let m : member (bookKey (k / 8) 0) (keysIn rows) ≡ true =
+          book-five (keysIn rows) k 0 whole (member-is k rows ∙ ap isSome f) (omega arith) in
+          no-yes (sym (ap isSome z) ∙ sym (member-is (bookKey id 0) rows) ∙ ap (λ (i : ℕ). member (bookKey i 0) (keysIn rows)) (sym e) ∙ m)
+
+  -- and one whose first row is there has all five
+  all-booked : (w : ℕ) → lookup (bookKey id 0) rows ≡ some w → (j : ℕ) → j < 5 → isSome (lookup (bookKey id j) rows) ≡ true
+  all-booked w f j h =
+      let e : bookKey id 0 / 8 ≡ id = omega arith in
+      sym (member-is (bookKey id j) rows) ∙ ap (λ (i : ℕ). member (bookKey i j) (keysIn rows)) (sym e)
+      ∙ book-five (keysIn rows) (bookKey id 0) j whole (member-is (bookKey id 0) rows ∙ ap isSome f) h
+
+module _ (rs qs : List Row) (a : keysApart true (keysIn rs) ≡ true) (b : keysApart true (keysIn qs) ≡ true)
+    (c : bookOk (keysIn rs) ≡ true) (d : bookOk (keysIn qs) ≡ true)
+    (h : (id : ℕ) → bookOf (valueIn rs) id ≡ bookOf (valueIn qs) id) where
+  abbrev Same : (k : ℕ) → Type 0
+  Same k = lookup k rs ≡ lookup k qs
+
+  by-row : (id w w′ : ℕ) → lookup (bookKey id 0) rs ≡ some w → lookup (bookKey id 0) qs ≡ some w′ → w ≡ w′ →
+      argumentsOf (valueIn rs) id ≡ argumentsOf (valueIn qs) id
+      → (j : ℕ) → j ≤ 4 → Same (bookKey id j)
+  by-row id w w′ f g e l zero z = f ∙ ap some e ∙ sym g
+  by-row id w w′ f g e l (suc zero) z =
+      some-same _ _ (all-booked rs c id w f 1 (omega arith)) (all-booked qs d id w′ g 1 (omega arith)) (ap (λ (x : List ℕ). getD x 0 0) l)
+  by-row id w w′ f g e l (suc (suc zero)) z =
+      some-same _ _ (all-booked rs c id w f 2 (omega arith)) (all-booked qs d id w′ g 2 (omega arith)) (ap (λ (x : List ℕ). getD x 1 0) l)
+  by-row id w w′ f g e l (suc (suc (suc zero))) z =
+      some-same _ _ (all-booked rs c id w f 3 (omega arith)) (all-booked qs d id w′ g 3 (omega arith)) (ap (λ (x : List ℕ). getD x 2 0) l)
+  by-row id w w′ f g e l (suc (suc (suc (suc zero)))) z =
+      some-same _ _ (all-booked rs c id w f 4 (omega arith)) (all-booked qs d id w′ g 4 (omega arith)) (ap (λ (x : List ℕ). getD x 3 0) l)
+  by-row id w w′ f g e l (suc (suc (suc (suc (suc j))))) z = absurd (omega arith)
+
+  by-first : (k : ℕ) → k % 8 ≤ 4 → (o o′ : Option ℕ) → lookup (bookKey (k / 8) 0) rs ≡ o → lookup (bookKey (k / 8) 0) qs ≡ o′
+      → requestOf o (argumentsOf (valueIn rs) (k / 8)) ≡ requestOf o′ (argumentsOf (valueIn qs) (k / 8)) → Same k
+  unfolding requestOf
+  by-first k z none none f g e = none-booked rs c (k / 8) k refl f ∙ sym (none-booked qs d (k / 8) k refl g)
+  by-first k z none (some w′) f g e = none-some (record { workflow = w′; arguments = argumentsOf (valueIn qs) (k / 8) }) refl e
+  by-first k z (some w) none f g e = none-some (record { workflow = w; arguments = argumentsOf (valueIn rs) (k / 8) }) refl (sym e)
+  by-first k z (some w) (some w′) f g e =
+      let r = Option·some-injective (record { workflow = w; arguments = argumentsOf (valueIn rs) (k / 8) })
+      (record { workflow = w′; arguments = argumentsOf (valueIn qs) (k / 8) }) e in
+      let is : bookKey (k / 8) (k % 8) ≡ k = omega arith in
+      subst Same is (by-row (k / 8) w w′ f g (ap (λ (x : Request). x .workflow) r) (ap (λ (x : Request). x .arguments) r) (k % 8) z)
+
+  same-book : (k : ℕ) → Same k
+  unfolding Keys.isForm
+  same-book k = go (isBookKey k) refl
+    where
+      go : (x : Bool) → isBookKey k ≡ x → Same k
+      go true e = with-key (unfold Keys.isBookKey in
+          (ltb-true k (2 ^ 35) (and-left (ltb k (2 ^ 35)) _ e), leb-true (k % 8) 4 (and-right (ltb k (2 ^ 35)) _ e)))
+        where
+          with-key : (k < 2 ^ 35) × (k % 8 ≤ 4) → Same k
+          with-key l =
+              by-first k (l .1) (lookup (bookKey (k / 8) 0) rs) (lookup (bookKey (k / 8) 0) qs) refl refl
+              (unfold bookOf in rw (lt-ltb (k / 8) (2 ^ 32) (omega (arith, l .0))) at (h (k / 8)))
+      go false e = no-form true k rs (apart-forms true _ a) e ∙ sym (no-form true k qs (apart-forms true _ b) e)
+
+-- ---- whole stores
+
+pub equal-contents : EqualContents
+unfolding contentsOf Sounds.KeysGood Questions.question12
+equal-contents xs ys bx by px py ep e =
+    equal-bytes xs ys (sx .0 .formed) (sy .0 .formed) bx by ep (ap (λ (s : Rules.Store). s .room) e) rows
+  where
+    sx : Sound xs × (question12 xs ≡ true)
+    sx = store-ok xs px
+
+    sy : Sound ys × (question12 ys ≡ true)
+    sy = store-ok ys py
+
+    good : (zs : List ℕ) → Sound zs → (p : ℕ) → p ≤ partsOf zs → keysOk (eqb p (partsOf zs)) (keysIn (rowsOf zs p)) ≡ true
+    good zs s p l = s .keys p l
+
+    found : (p : ℕ) → Dec (p < partsOf xs) → Dec (p ≡ partsOf xs) → rowsOf xs p ≡ rowsOf ys p
+    found p (yes l) m =
+        let gx : keysOk false (keysIn (rowsOf xs p)) ≡ true =
+        rw (ne-eqb p (partsOf xs) (omega arith)) at (good xs (sx .0) p (omega arith)) in
+        let gy : keysOk false (keysIn (rowsOf ys p)) ≡ true =
+        rw (ne-eqb p (partsOf ys) (omega (arith, ep))) at (good ys (sy .0) p (omega (arith, ep))) in
+        same-rows (rowsOf xs p) (rowsOf ys p) (keys-rising false _ gx) (keys-rising false _ gy)
+        (same-part (rowsOf xs p) (rowsOf ys p) (keys-apart false _ gx) (keys-apart false _ gy)
+        (λ k. rw (lt-ltb p (partsOf xs) l, lt-ltb p (partsOf ys) (omega (arith, ep))) at (ap (λ (s : Rules.Store). s .rows p k) e))
+        (λ id t. rw (
+          lt-ltb p (partsOf xs) l,
+          lt-ltb p (partsOf ys) (omega (arith, ep)),
+        ) at (ap (λ (s : Rules.Store). s .log .usual p id t) e)))
+    found p (no l) (yes m) =
+        let gx : keysOk true (keysIn (rowsOf xs p)) ≡ true = rw (eq-eqb p (partsOf xs) m) at (good xs (sx .0) p (omega arith)) in
+        let gy : keysOk true (keysIn (rowsOf ys p)) ≡ true =
+        rw (eq-eqb p (partsOf ys) (m ∙ ep)) at (good ys (sy .0) p (omega (arith, ep))) in
+        same-rows (rowsOf xs p) (rowsOf ys p) (keys-rising true _ gx) (keys-rising true _ gy)
+        (same-book (rowsOf xs p) (rowsOf ys p) (keys-apart true _ gx) (keys-apart true _ gy)
+        (ap (λ (n : ℕ). bookOk (keysIn (rowsOf xs n))) m ∙ sx .1) (ap (λ (n : ℕ). bookOk (keysIn (rowsOf ys n))) (m ∙ ep) ∙ sy .1)
+        (λ id. ap (λ (n : ℕ). bookOf (valueIn (rowsOf xs n)) id) m ∙ ap (λ (s : Rules.Store). s .book id) e
+        ∙ ap (λ (n : ℕ). bookOf (valueIn (rowsOf ys n)) id) (sym (m ∙ ep))))
+    found p (no l) (no m) = past-rows xs p (omega arith) ∙ sym (past-rows ys p (omega (arith, ep)))
+
+    rows : (p : ℕ) → rowsOf xs p ≡ rowsOf ys p
+    rows p = found p (decLt p (partsOf xs)) (ℕ-discrete p (partsOf xs))
+
+-- The bytes that hold a store of the rules are the only ones.
+pub only-bytes : (store store′ : List ℕ) (s : Rules.Store) → partsOf store′ ≡ partsOf store → contentsOf (storeOf store′) ≡ s →
+    AllBytes store′ →
+    storeRefusal store′ ≡ none → (other : List ℕ) → AllBytes other → storeRefusal other ≡ none → partsOf other ≡ partsOf store →
+    contentsOf (storeOf other) ≡ s → other ≡ store′
+only-bytes store store′ s p h b r other bo ro po ho = equal-contents other store′ bo b ro r (po ∙ sym p) (ho ∙ sym h)
+
+-- ---- rows in another order mean the same
+
+module _ (xs ys : List ℕ) (o : InOrder xs ys) where
+  same-values : (p : ℕ) → valueIn (rowsOf ys p) ≡ valueIn (rowsOf xs p)
+  same-values p = fun-ext {f = valueIn (rowsOf ys p)} {g = valueIn (rowsOf xs p)} (o .same p)
+
+  book-values : valueIn (rowsOf ys (partsOf ys)) ≡ valueIn (rowsOf xs (partsOf xs))
+  book-values = ap (λ (n : ℕ). valueIn (rowsOf ys n)) (o .parts) ∙ same-values (partsOf xs)
+
+  book-count : length (rowsOf ys (partsOf ys)) ≡ length (rowsOf xs (partsOf xs))
+  book-count = ap (λ (n : ℕ). length (rowsOf ys n)) (o .parts) ∙ o .count (partsOf xs)
+
+  pub ordered-contents : contentsOf (storeOf ys) ≡ contentsOf (storeOf xs)
+  unfolding contentsOf
+  ordered-contents = λ i.
+      record {
+        room = o .cap i;
+        used = λ p. if_then_else_ (ltb p (o .parts i)) (o .count p i) 0;
+        rows = λ p k. if_then_else_ (ltb p (o .parts i)) (tableOf (same-values p i) k) none;
+        log = record { usual = λ p id t. if_then_else_ (ltb p (o .parts i)) (logOf (same-values p i) id t) none };
+        bookUsed = book-count i;
+        book = bookOf (book-values i);
+      }
+
+-- nothing written
+pub wrote-nothing : (store : List ℕ) → Wrote store store (contentsOf (storeOf store))
+wrote-nothing store =
+    record {
+      parts = refl;
+      cap = refl;
+      sound = λ e. e;
+      holds = refl;
+      only = only-bytes store store (contentsOf (storeOf store)) refl refl;
+      bytes = λ r e. refl;
+    }
