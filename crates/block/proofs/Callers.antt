@@ -208,16 +208,16 @@ module _ (xs ys : List ℕ) (p : ℕ) (h : p < partsOf xs) (a : Agent) (code : C
       go (full e m f q) = q
 
   -- P, C and the book stay, and the store is sound
-  pub record Stays : Type 0 where
+  pub record BookStays : Type 0 where
     pub parts : partsOf ys ≡ partsOf xs
     pub cap : capOf ys ≡ capOf xs
     pub book-rows : rowsOf ys (partsOf ys) ≡ rowsOf xs (partsOf xs)
     pub sound : Sound xs → Sound ys
 
-  pub stays : Stays
+  pub stays : BookStays
   stays = go way
     where
-      same : ys ≡ xs → Stays
+      same : ys ≡ xs → BookStays
       same q =
           record {
             parts = ap partsOf q;
@@ -226,7 +226,7 @@ module _ (xs ys : List ℕ) (p : ℕ) (h : p < partsOf xs) (a : Agent) (code : C
             sound = subst Sound (sym q);
           }
 
-      go : Came xs ys p (a .id) (a .step) block r o → Stays
+      go : Came xs ys p (a .id) (a .step) block r o → BookStays
       go (found v e f q) = same q
       go (wrote e m f c) =
           record {

@@ -15,7 +15,7 @@ use Rattle.questions.specs.declared.Verdict.the-variants.{Accepted}
 use Rattle.questions.proofs.Each.{each-at}
 use Rattle.operation.specs.declared.Operand.the-variants.{Jump}
 use Rattle.operation.specs.Parts.{targetOf}
-use Rattle.operation.specs.Operations.{end, put, operandOf}
+use Rattle.operation.specs.Operations.{opEnd, opPut, operandOf}
 use Rattle.code.specs.Layout.{operationAt, wordAt}
 use Rattle.code.specs.Questions.{insideAt, putsBefore, isNoEnd}
 use Rattle.code.specs.Questions as Questions
@@ -34,10 +34,10 @@ module _ (ops ws : List ℕ) (right : Right ops ws) where
     accepted : Accepted ≡ verdictOf (instructionNo (right .workflow) ops ws i)
     accepted = ap verdictOf (sym (yes-at ops ws right i h))
 
-    put-room : operationAt ops i ≡ put → putsBefore ops i < 16
+    put-room : operationAt ops i ≡ opPut → putsBefore ops i < 16
     put-room e = counted-put ops i e (yes-7 (right .workflow) ops ws i (yes-at ops ws right i h))
 
-    module _ (n : operationAt ops i ≡ end → ⊥) where
+    module _ (n : operationAt ops i ≡ opEnd → ⊥) where
       pub inside-next : insideAt ops (suc i) ≡ true
       inside-next = subst (λ (j : ℕ). insideAt ops j ≡ true) (add-one i)
           (stays-inside (right .workflow) ops ws i Accepted accepted refl s n)
@@ -46,7 +46,7 @@ module _ (ops ws : List ℕ) (right : Right ops ws) where
       puts-behind =
           ap (putsBefore ops) (sym (add-one i))
           ∙ puts-next (right .workflow) ops ws i Accepted accepted refl (operationAt ops i) (putsBefore ops i) _ refl refl refl s n
-          ∙ go (eqb (operationAt ops i) put)
+          ∙ go (eqb (operationAt ops i) opPut)
         where
           go : (t : Bool) → if_then_else_ t (putsBefore ops i + 1) (putsBefore ops i) ≡ putsBefore ops i + if_then_else_ t 1 0
           go true = refl
@@ -58,7 +58,7 @@ module _ (ops ws : List ℕ) (right : Right ops ws) where
   unfolding Questions.isNoEnd
   stretch zero j h s e = rw (add-zero j) (s, omega arith)
   stretch (suc n) j h s e =
-      let m = eqb-false (operationAt ops j) end (not-true (eqb (operationAt ops j) end) (e j (omega arith) (omega arith))) in
+      let m = eqb-false (operationAt ops j) opEnd (not-true (eqb (operationAt ops j) opEnd) (e j (omega arith) (omega arith))) in
       let r = stretch n (suc j) (omega arith) (inside-next j (omega arith) s m) (λ k l l′. e k (omega arith) (omega arith)) in
       let q : suc j + n ≡ j + suc n = omega arith in (
         subst (λ (k : ℕ). insideAt ops k ≡ true) q (r .0),
@@ -75,7 +75,7 @@ module _ (ops ws : List ℕ) (right : Right ops ws) where
 
   -- what the code's step asks for
   pub fits-here : (x : Running) (w : ℕ) → x .place .position < length ops → Inside ops x →
-      (operationAt ops (x .place .position) ≡ end → ⊥) → w ≡ wordAt ws (x .place .position) → Fits (getD ops (x .place .position) 0) w x
+      (operationAt ops (x .place .position) ≡ opEnd → ⊥) → w ≡ wordAt ws (x .place .position) → Fits (getD ops (x .place .position) 0) w x
   fits-here x w h on n e =
       record {
         known = omega (arith, known-at ops ws right (x .place .position) h, no-return ops ws right (x .place .position) h (on .inside));

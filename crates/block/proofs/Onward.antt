@@ -25,7 +25,7 @@ use Rattle.store.specs.Rows as Rows
 use Rattle.operation.specs.declared.Operand.{Operand}
 use Rattle.operation.specs.declared.Operand.the-variants.{Any, Below8, Jump, Zero}
 use Rattle.operation.specs.Parts.{targetOf}
-use Rattle.operation.specs.Operations.{begin, end, operandOf}
+use Rattle.operation.specs.Operations.{opBegin, opEnd, operandOf}
 use Rattle.code.specs.Layout.{operationAt, wordAt, registerAt}
 use Rattle.code.specs.Questions.{insideAt, putsBefore}
 use Rattle.code.specs.Meaning.{decode, instructionOf, codeOf}
@@ -59,7 +59,7 @@ module _ (d w : ℕ) (rs : List Row) (x : Running) where
   jumps Jump n e = (refl, cc)
   jumps Zero n e = none-some n refl e
 
-  leads : (op : ℕ) → op < 12 → (shape (decode op d w) .stands ≡ some outside → ⊥) → (op ≡ end → ⊥) →
+  leads : (op : ℕ) → op < 12 → (shape (decode op d w) .stands ≡ some outside → ⊥) → (op ≡ opEnd → ⊥) →
       (n : ℕ) → within (act (decode op d w) (placeOf (x .place))) (workOf rs x) probe .newKeys ≡ n → Lands op n
   unfolding probe Blocks.within
   leads op k out e n f = go (act (decode op d w) (placeOf (x .place))) (agrees (decode op d w) (placeOf (x .place))) f
@@ -70,14 +70,14 @@ module _ (d w : ℕ) (rs : List Row) (x : Running) where
       go (reads j to) (s, on, p) q = inl (sym q ∙ p _)
       go (puts j v) a q = inl (sym q)
       go (opens p) a q = absurd (out (ap (λ (y : Instruction). shape y .stands) a))
-      go (closes v) a q = absurd (e (eqb-true op end (sym (decoded-end d w op) ∙ ap closing (a .1))))
+      go (closes v) a q = absurd (e (eqb-true op opEnd (sym (decoded-end d w op) ∙ ap closing (a .1))))
       go (returns v) a q = absurd (out a)
 
 -- ---- one step of the loop
 
 module _ (ops ws : List ℕ) (right : Right ops ws) where
   module _ (rs : List Row) (x y : Running) (h : x .place .position < length ops) (on : Inside ops x)
-      (n : operationAt ops (x .place .position) ≡ end → ⊥)
+      (n : operationAt ops (x .place .position) ≡ opEnd → ⊥)
       (t : Stepped (act (instructionOf (getD ops (x .place .position) 0) (wordAt ws (x .place .position))) (placeOf (x .place))) rs x y
       (putsOf (operationAt ops (x .place .position)))) where
     lands-at : Lands (registerAt ops (x .place .position)) (wordAt ws (x .place .position)) rs x (operationAt ops (x .place .position))
@@ -151,7 +151,7 @@ module _ (ops ws : List ℕ) (right : Right ops ws) where
     closed v e = λ i. record { table = tableOf (seen (rowsIn (pending i)) rs); newKeys = newIn (pending i) rs; result = yields (e i) }
 
     -- at END
-    pub run-ends : x .place .position < length ops → operationAt ops (x .place .position) ≡ end → (d : ℕ) →
+    pub run-ends : x .place .position < length ops → operationAt ops (x .place .position) ≡ opEnd → (d : ℕ) →
         d ≡ registerAt ops (x .place .position) → r .result ≡ getD (x .place .registers) d 0 → blockOf rs r ≡ runOf ops ws rs x
     unfolding Blocks.runFrom Instructions.actAt Instructions.act Blocks.within Meaning.decode
     run-ends h o d p e =
@@ -175,7 +175,7 @@ module _ (ops ws : List ℕ) (rs : List Row) (first : ℕ) (registers : List ℕ
   abbrev pub started : Running
   started = record { place = record { position = first + 1; registers = registers }; pending = p }
 
-  pub starts-inside : operationAt ops first ≡ begin → Inside ops started
+  pub starts-inside : operationAt ops first ≡ opBegin → Inside ops started
   starts-inside e = record { inside = begins ops first e; kept = kept; few = omega (arith, zero-yet) }
 
   pub starts : runOf ops ws rs started ≡ runBlock (codeOf ops ws) (record { position = first; registers = registers })

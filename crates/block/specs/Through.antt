@@ -35,7 +35,7 @@ pub record Ready (ops ws xs : List ℕ) (p begin : ℕ) : Type 0 where
   pub sound : Sound xs
   pub below : p < partsOf xs
   pub in-code : begin < length ops
-  pub begins : operationAt ops begin ≡ Operations.begin
+  pub begins : operationAt ops begin ≡ Operations.opBegin
 
 -- the rules' run of that block, on the table of partition p
 abbrev pub blockAt : (ops ws xs : List ℕ) (p begin : ℕ) → (registers : List ℕ) → Block

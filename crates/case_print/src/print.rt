@@ -6,7 +6,7 @@ use libc::STDOUT_FILENO;
 ghost use Prim.Native.Nat.{_+_, _*_, _≤_, _<_};
 ghost use lib.ListN.{length};
 ghost use Rattle.store.specs.Layout.{partsOf};
-ghost use Rattle.store.specs.Sound.{Shape};
+ghost use Rattle.store.specs.Sound.{Dimensions};
 
 // The first `n` bytes of a line.
 fn write_line(line: &[u8], n: usize)
@@ -91,7 +91,7 @@ pub fn print_opened(pack: &[u8], workflow: u32) {
 
 // used PARTITION COUNT, of each partition, the book last
 fn print_counts(s: &[u8])
-    requires { ⌜ Shape (now s) ⌝ }
+    requires { ⌜ Dimensions (now s) ⌝ }
 {
     let parts = store::head::partition_count(s);
     let mut p = 0;
@@ -124,7 +124,7 @@ fn print_partition(s: &[u8], p: usize, keys: usize, values: usize, n: usize)
 
 // The rows of partition `p`.
 fn print_rows_of(s: &[u8], p: usize)
-    requires { ⌜ Shape (now s) × (p ≤ partsOf (now s)) ⌝ }
+    requires { ⌜ Dimensions (now s) × (p ≤ partsOf (now s)) ⌝ }
 {
     let n = rows::row_count(s, p);
     let keys = store::head::key_place(s, p, 0);
@@ -134,7 +134,7 @@ fn print_rows_of(s: &[u8], p: usize)
 
 // The rows of all partitions, the book last.
 fn print_rows(s: &[u8])
-    requires { ⌜ Shape (now s) ⌝ }
+    requires { ⌜ Dimensions (now s) ⌝ }
 {
     let parts = store::head::partition_count(s);
     let mut p = 0;

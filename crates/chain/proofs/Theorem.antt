@@ -42,7 +42,7 @@ use Rattle.chain.proofs.Mirror.{Mirror, mirror, answered-as, tallies-as
 
 -- ── the store of a chain: P and C stay, and questions 9 to 12 say yes ──
 
-pub record Sized (P C : ℕ) (store : List ℕ) : Type 0 where
+pub record Passing (P C : ℕ) (store : List ℕ) : Type 0 where
   pub parts : partsOf store ≡ P
   pub cap : capOf store ≡ C
   pub passes : storeRefusal store ≡ none
@@ -51,7 +51,7 @@ no-book : (xs : List ℕ) → rowsOf xs (partsOf xs) ≡ [] → StoreQuestions.q
 unfolding StoreQuestions.question12 StoreQuestions.bookOk keysIn StoreQuestions.allIn
 no-book xs e = rw e refl
 
-sized-start : (buffer store : List ℕ) (P C : ℕ) → Created buffer store P C Accepted → Sized P C store
+sized-start : (buffer store : List ℕ) (P C : ℕ) → Created buffer store P C Accepted → Passing P C store
 sized-start buffer store P C h =
     let m = h .made refl in
     record {
@@ -60,25 +60,25 @@ sized-start buffer store P C h =
       passes = store-passes store (m .0) (no-book store (ap (λ (st : Store). st .rows (partsOf store)) (m .1)));
     }
 
-sized-kept : {P C : ℕ} {lent lent′ : Lent} → lent′ ≡ lent → Sized P C (lent .store) → Sized P C (lent′ .store)
-sized-kept {P} {C} k s = subst (λ (x : Lent). Sized P C (x .store)) (sym k) s
+sized-kept : {P C : ℕ} {lent lent′ : Lent} → lent′ ≡ lent → Passing P C (lent .store) → Passing P C (lent′ .store)
+sized-kept {P} {C} k s = subst (λ (x : Lent). Passing P C (x .store)) (sym k) s
 
-sized-left : {P C : ℕ} {lent lent′ : Lent} {s : State} → Left lent lent′ s → Sized P C (lent .store) → Sized P C (lent′ .store)
+sized-left : {P C : ℕ} {lent lent′ : Lent} {s : State} → Left lent lent′ s → Passing P C (lent .store) → Passing P C (lent′ .store)
 sized-left l s =
     let w = l .written in
     record { parts = w .parts ∙ s .parts; cap = w .cap ∙ s .cap; passes = w .sound (s .passes) }
 
 module _ (pack : List ℕ) (P C : ℕ) where
   sized-next : (lent : Lent) (c : Call) (answer : Answer) (lent′ : Lent) →
-      Carried pack lent c answer lent′ → Sized P C (lent .store) → Sized P C (lent′ .store)
+      Carried pack lent c answer lent′ → Passing P C (lent .store) → Passing P C (lent′ .store)
   sized-next lent c answer lent′ h s = go (refusalFor pack lent c) refl
     where
-      go : (o : Option No) → refusalFor pack lent c ≡ o → Sized P C (lent′ .store)
+      go : (o : Option No) → refusalFor pack lent c ≡ o → Passing P C (lent′ .store)
       go none e = sized-left (h .carried e .1) s
       go (some n) e = sized-kept (h .refused n e .1) s
 
   -- In a chain questions 9 to 12 never say no.
-  pub sized : (events : List Event) (lent : Lent) → Chain pack P C events lent → Sized P C (lent .store)
+  pub sized : (events : List Event) (lent : Lent) → Chain pack P C events lent → Passing P C (lent .store)
   sized events lent (begins buffer store₀ h) = sized-start buffer store₀ P C h
   sized events lent (goes-on events₀ lent₀ c answer lent′ chain h) =
       sized-next lent₀ c answer lent′ h (sized events₀ lent₀ chain)
@@ -108,7 +108,7 @@ module _ (pack : List ℕ) (P C : ℕ) (events : List Event) (lent : Lent) (chai
   abbrev m : Mirror pack C events lent
   m = mirror pack P C events lent chain
 
-  abbrev z : Sized P C (lent .store)
+  abbrev z : Passing P C (lent .store)
   z = sized pack P C events lent chain
 
   rows-as : (p k : ℕ) → contentsOf (storeOf (lent .store)) .rows p k ≡ (machineOf (packOf pack) events) .tables p k

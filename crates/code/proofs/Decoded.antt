@@ -27,7 +27,7 @@ use Rattle.operation.specs.declared.Side.the-variants.{Anywhere, Inside, Outsid
 use Rattle.operation.specs.declared.Operand.{Operand}
 use Rattle.operation.specs.declared.Operand.the-variants.{Any, Below8, Jump, Zero}
 use Rattle.operation.specs.Parts.{targetOf, sourceOf}
-use Rattle.operation.specs.Operations.{begin, end, return, sideOf, operandOf}
+use Rattle.operation.specs.Operations.{opBegin, opEnd, opReturn, sideOf, operandOf}
 use Rattle.code.specs.Layout.{operationAt, registerAt, wordAt}
 use Rattle.code.specs.Questions.{legal, inRange, insideBehind, insideAt, stands, isNoEnd, landsFrom, lands, question4, question8}
 use Rattle.code.specs.Refusal.{instructionNo, codeNo}
@@ -79,7 +79,7 @@ ownSide Inside = some inside
 ownSide Outside = some outside
 
 abbrev pub behindOf : (operation : ℕ) → Option Side
-behindOf op = if_then_else_ (eqb op begin) (some inside) (if_then_else_ (eqb op end) (some outside) none)
+behindOf op = if_then_else_ (eqb op opBegin) (some inside) (if_then_else_ (eqb op opEnd) (some outside) none)
 
 abbrev pub targetBy : Operand → (w : ℕ) → Option ℕ
 targetBy Any w = none
@@ -121,10 +121,10 @@ module _ (d w : ℕ) where
       go (yes h) = decoded-shape op h .1
       go (no n) =
           let g : 12 ≤ op = omega arith in
-          rw (List·getD-eq-default, ne-eqb op begin (λ e. n (omega arith)), ne-eqb op end (λ e. n (omega arith))) refl
+          rw (List·getD-eq-default, ne-eqb op opBegin (λ e. n (omega arith)), ne-eqb op opEnd (λ e. n (omega arith))) refl
 
   decoded-side : (inside : Bool) (op : ℕ) → sideBehind (sideFor inside) (decode op d w) ≡ sideFor (insideBehind op inside)
-  decoded-side b op = ap (λ o. Option·getD o (sideFor b)) (decoded-behind op) ∙ go (eqb op begin) (eqb op end)
+  decoded-side b op = ap (λ o. Option·getD o (sideFor b)) (decoded-behind op) ∙ go (eqb op opBegin) (eqb op opEnd)
     where
       go : (x y : Bool) →
           Option·getD (if_then_else_ x (some inside) (if_then_else_ y (some outside) none)) (sideFor b)
@@ -133,32 +133,32 @@ module _ (d w : ℕ) where
       go false true = refl
       go false false = refl
 
-  pub decoded-end : (op : ℕ) → isEnd (decode op d w) ≡ eqb op end
-  decoded-end op = ap closing (decoded-behind op) ∙ go (eqb op end) refl
+  pub decoded-end : (op : ℕ) → isEnd (decode op d w) ≡ eqb op opEnd
+  decoded-end op = ap closing (decoded-behind op) ∙ go (eqb op opEnd) refl
     where
-      go : (y : Bool) → eqb op end ≡ y → closing (if_then_else_ (eqb op begin) (some inside) (if_then_else_ y (some outside) none)) ≡ y
-      go true e = let n : op ≡ end = eqb-true op end e in rw n refl
-      go false e = either (eqb op begin)
+      go : (y : Bool) → eqb op opEnd ≡ y → closing (if_then_else_ (eqb op opBegin) (some inside) (if_then_else_ y (some outside) none)) ≡ y
+      go true e = let n : op ≡ opEnd = eqb-true op opEnd e in rw n refl
+      go false e = either (eqb op opBegin)
         where
           either : (x : Bool) → closing (if_then_else_ x (some inside) none) ≡ false
           either true = refl
           either false = refl
 
   -- only BEGIN opens a block
-  decoded-opens : (op : ℕ) → shape (decode op d w) .behind ≡ some inside → op ≡ begin
-  decoded-opens op e = go (eqb op begin) (eqb op end) refl (sym (decoded-behind op) ∙ e)
+  decoded-opens : (op : ℕ) → shape (decode op d w) .behind ≡ some inside → op ≡ opBegin
+  decoded-opens op e = go (eqb op opBegin) (eqb op opEnd) refl (sym (decoded-behind op) ∙ e)
     where
-      go : (x y : Bool) → eqb op begin ≡ x → if_then_else_ x (some inside) (if_then_else_ y (some outside) none) ≡ some inside → op ≡ begin
-      go true y q f = eqb-true op begin q
+      go : (x y : Bool) → eqb op opBegin ≡ x → if_then_else_ x (some inside) (if_then_else_ y (some outside) none) ≡ some inside → op ≡ opBegin
+      go true y q f = eqb-true op opBegin q
       go false true q f = absurd (let z : _≡_ {A = ℕ} 0 1 = cc in omega arith)
       go false false q f = absurd (let z : _≡_ {A = ℕ} 0 1 = cc in omega arith)
 
-  pub decoded-begin : (op p : ℕ) → decode op d w ≡ BEGIN p → (op ≡ begin) × (w ≡ p)
+  pub decoded-begin : (op p : ℕ) → decode op d w ≡ BEGIN p → (op ≡ opBegin) × (w ≡ p)
   decoded-begin op p e =
       let o = decoded-opens op (ap (λ x. shape x .behind) e) in
       (o, same (sym (ap (λ n. decode n d w) o) ∙ e))
     where
-      same : decode begin d w ≡ BEGIN p → w ≡ p
+      same : decode opBegin d w ≡ BEGIN p → w ≡ p
       same f = unfold decode in let g : BEGIN w ≡ BEGIN p = f in cc
 
 some-through : (x : Instruction) (rest : Code) → 0 < throughEnd (x ∷ rest)
@@ -195,7 +195,7 @@ module _ (ops ws : List ℕ) where
         ∙ ap (sideBehind (sideFor (insideAt ops i))) (instruction-at i h)
         ∙ decoded-side (registerAt ops i) (wordAt ws i) (insideAt ops i) (operationAt ops i)
 
-    not-end : (j : ℕ) → j < length ops → eqb (operationAt ops j) end ≡ false → isEnd (instructionAt (codeOf ops ws) j) ≡ false
+    not-end : (j : ℕ) → j < length ops → eqb (operationAt ops j) opEnd ≡ false → isEnd (instructionAt (codeOf ops ws) j) ≡ false
     not-end j h e = ap isEnd (instruction-at j h) ∙ decoded-end (registerAt ops j) (wordAt ws j) (operationAt ops j) ∙ e
 
     no-end-through : (n j : ℕ) → j + n < length ops → ((k : ℕ) → j ≤ k → k < j + n → isNoEnd ops k ≡ true) →
@@ -205,7 +205,7 @@ module _ (ops ws : List ℕ) where
         rw (drop-cons (codeOf ops ws) j (RETURN 0) (in-code j (omega arith)))
         (some-through (instructionAt (codeOf ops ws) j) (drop (suc j) (codeOf ops ws)))
     no-end-through (suc n) j h f =
-        let q = not-true (eqb (operationAt ops j) end) (f j (omega arith) (omega arith)) in
+        let q = not-true (eqb (operationAt ops j) opEnd) (f j (omega arith) (omega arith)) in
         let r = no-end-through n (suc j) (omega arith) (λ k l m. f k (omega arith) (omega arith)) in
         rw (drop-cons (codeOf ops ws) j (RETURN 0) (in-code j (omega arith)))
         (rw (through-next (instructionAt (codeOf ops ws) j) (drop (suc j) (codeOf ops ws)) (not-end j (omega arith) q)) (omega arith))
@@ -271,9 +271,9 @@ module _ (w : ℕ) (ops ws : List ℕ) (e : codeNo w ops ws ≡ none) where
       (stands-right ops ws i (yes-6 w ops ws i (right-at i h)))
       (lands-right ops ws i (yes-6 w ops ws i (right-at i h))))
 
-  returns-at-last : operationAt ops (length ops - 1) ≡ return
+  returns-at-last : operationAt ops (length ops - 1) ≡ opReturn
   unfolding codeNo question8
-  returns-at-last = eqb-true (operationAt ops (length ops - 1)) return (ask-none _ (question8 ops) _ (orElse-none _ _ e .1) .0)
+  returns-at-last = eqb-true (operationAt ops (length ops - 1)) opReturn (ask-none _ (question8 ops) _ (orElse-none _ _ e .1) .0)
 
   pub checked-code : 0 < length ops → Checked (codeOf ops ws)
   unfolding decode
@@ -285,7 +285,7 @@ module _ (w : ℕ) (ops ws : List ℕ) (e : codeNo w ops ws ≡ none) where
             λ i l.
             let k = length-code ops ws in
             let q : i ≡ length ops - 1 = omega arith in
-            let o : operationAt ops i ≡ return = ap (operationAt ops) q ∙ returns-at-last in
+            let o : operationAt ops i ≡ opReturn = ap (operationAt ops) q ∙ returns-at-last in
             (registerAt ops i, instruction-at ops ws i (omega arith) ∙ ap (λ n. decode n (registerAt ops i) (wordAt ws i)) o);
       }
 

@@ -12,9 +12,9 @@ use Rattle.questions.proofs.Questions.{ask-none}
 use Rattle.questions.proofs.Tests.{no-yes, and-left, and-right}
 use Rattle.operation.specs.declared.Operand.{Operand}
 use Rattle.operation.specs.declared.Operand.the-variants.{Jump}
-use Rattle.operation.specs.declared.Row.{Row}
+use Rattle.operation.specs.declared.Entry.{Entry}
 use Rattle.operation.specs.Parts.{sourceOf, targetOf}
-use Rattle.operation.specs.Operations.{end, put, sideOf, operandOf, rowOf}
+use Rattle.operation.specs.Operations.{opEnd, opPut, sideOf, operandOf, entryOf}
 use Rattle.code.specs.Layout.{operationAt, registerAt, wordAt}
 use Rattle.code.specs.Questions.{inRange, registerRight, isNoEnd, stands, lands, counted, insideAt, putsBefore, question4}
 use Rattle.code.specs.Questions.{question5, question6, question7}
@@ -33,13 +33,13 @@ module _ (o : Operand) (size i w : ℕ) (e : o ≡ Jump) (h : inRange o size i w
   target-below = ltb-true (targetOf w) size (and-right (ltb (sourceOf w) 8 && ltb i (targetOf w)) _ in-jump)
 
 -- whether an instruction is END, the operation being known
-pub end-here : (ops : List ℕ) (i : ℕ) → operationAt ops i ≡ end → isNoEnd ops i ≡ false
+pub end-here : (ops : List ℕ) (i : ℕ) → operationAt ops i ≡ opEnd → isNoEnd ops i ≡ false
 unfolding isNoEnd
-end-here ops i e = rw (eq-eqb (operationAt ops i) end e)
+end-here ops i e = rw (eq-eqb (operationAt ops i) opEnd e)
 
-pub no-end-here : (ops : List ℕ) (i : ℕ) → (operationAt ops i ≡ end → ⊥) → isNoEnd ops i ≡ true
+pub no-end-here : (ops : List ℕ) (i : ℕ) → (operationAt ops i ≡ opEnd → ⊥) → isNoEnd ops i ≡ true
 unfolding isNoEnd
-no-end-here ops i n = rw (ne-eqb (operationAt ops i) end n)
+no-end-here ops i n = rw (ne-eqb (operationAt ops i) opEnd n)
 
 -- the answers in order
 pub judged : (w : ℕ) (ops ws : List ℕ) (i : ℕ) (a b c d : Bool) → question4 ops i ≡ a → question5 ops ws i ≡ b → question6 ops ws i ≡ c →
@@ -48,15 +48,15 @@ pub judged : (w : ℕ) (ops ws : List ℕ) (i : ℕ) (a b c d : Bool) → questi
 unfolding instructionNo
 judged w ops ws i a b c d p q r s = rw (p, q, r, s)
 
--- 5 and 6 by a row of the table
-module _ (ops ws : List ℕ) (i w : ℕ) (row : Row) (e : w ≡ wordAt ws i) (f : row ≡ rowOf (operationAt ops i)) where
-  pub asked-5 : (t : Bool) → t ≡ (inRange (row .operand) (length ops) i w && registerRight (row .fixed) (registerAt ops i)) →
+-- 5 and 6 by an entry of the table
+module _ (ops ws : List ℕ) (i w : ℕ) (entry : Entry) (e : w ≡ wordAt ws i) (f : entry ≡ entryOf (operationAt ops i)) where
+  pub asked-5 : (t : Bool) → t ≡ (inRange (entry .operand) (length ops) i w && registerRight (entry .fixed) (registerAt ops i)) →
       question5 ops ws i ≡ t
   unfolding question5
   asked-5 t g = sym (rw (f, e) at g)
 
   pub asked-6 : (inside t : Bool) → insideAt ops i ≡ inside →
-      t ≡ (stands (row .side) inside && lands (row .operand) inside ops i (targetOf w)) → question6 ops ws i ≡ t
+      t ≡ (stands (entry .side) inside && lands (entry .operand) inside ops i (targetOf w)) → question6 ops ws i ≡ t
   unfolding question6
   asked-6 inside t s g = rw s (sym (rw (f, e) at g))
 
@@ -109,10 +109,10 @@ module _ (ops ws : List ℕ) (i : ℕ) where
   -- outside a block no PUT stands, and 7 has nothing to ask
   pub outside-7 : insideAt ops i ≡ false → question6 ops ws i ≡ true → question7 ops i ≡ true
   unfolding question7 counted sideOf stands
-  outside-7 s h = go (eqb (operationAt ops i) put) refl
+  outside-7 s h = go (eqb (operationAt ops i) opPut) refl
     where
-      go : (t : Bool) → eqb (operationAt ops i) put ≡ t → counted (operationAt ops i) (putsBefore ops i) ≡ true
-      go true e = no-yes (stood put false (eqb-true (operationAt ops i) put e) s h)
+      go : (t : Bool) → eqb (operationAt ops i) opPut ≡ t → counted (operationAt ops i) (putsBefore ops i) ≡ true
+      go true e = no-yes (stood opPut false (eqb-true (operationAt ops i) opPut e) s h)
       go false e = rw e
 
 -- inside, 7 goes by the block's PUTs in hand
@@ -121,6 +121,6 @@ unfolding question7
 inside-7 ops i puts t e f = rw e (sym f)
 
 -- a PUT is behind fewer than 16
-pub counted-put : (ops : List ℕ) (i : ℕ) → operationAt ops i ≡ put → question7 ops i ≡ true → putsBefore ops i < 16
+pub counted-put : (ops : List ℕ) (i : ℕ) → operationAt ops i ≡ opPut → question7 ops i ≡ true → putsBefore ops i < 16
 unfolding question7 counted
-counted-put ops i e h = ltb-true (putsBefore ops i) 16 (rw (eq-eqb (operationAt ops i) put e) at h)
+counted-put ops i e h = ltb-true (putsBefore ops i) 16 (rw (eq-eqb (operationAt ops i) opPut e) at h)

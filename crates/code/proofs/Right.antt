@@ -12,7 +12,7 @@ use Rattle.questions.proofs.Tests.{no-yes}
 use Rattle.rules.proofs.Positions.{two-sides}
 use Rattle.operation.specs.declared.Side as Declared
 use Rattle.operation.specs.declared.Side.the-variants.{Anywhere, Inside, Outside}
-use Rattle.operation.specs.Operations.{begin, end, get, put, has, return, operandOf}
+use Rattle.operation.specs.Operations.{opBegin, opEnd, opGet, opPut, opHas, opReturn, operandOf}
 use Rattle.operation.specs.Operations as Operations
 use Rattle.code.specs.Layout.{operationAt, wordAt}
 use Rattle.code.specs.Questions.{insideAt, inRange, stands, question6}
@@ -49,13 +49,13 @@ module _ (ops ws : List ℕ) (right : Right ops ws) where
 
   -- inside a block
   module _ (i : ℕ) (h : i < length ops) (s : insideAt ops i ≡ true) where
-    pub no-begin : operationAt ops i ≡ begin → ⊥
+    pub no-begin : operationAt ops i ≡ opBegin → ⊥
     unfolding Operations.sideOf stands
-    no-begin e = no-yes (stood ops ws i begin true e s (yes-6-at i h))
+    no-begin e = no-yes (stood ops ws i opBegin true e s (yes-6-at i h))
 
-    pub no-return : operationAt ops i ≡ return → ⊥
+    pub no-return : operationAt ops i ≡ opReturn → ⊥
     unfolding Operations.sideOf stands
-    no-return e = no-yes (stood ops ws i return true e s (yes-6-at i h))
+    no-return e = no-yes (stood ops ws i opReturn true e s (yes-6-at i h))
 
     -- no instruction of the rules that stands outside
     pub not-outside : (d w : ℕ) → shape (decode (operationAt ops i) d w) .stands ≡ some outside → ⊥
@@ -75,13 +75,13 @@ module _ (ops ws : List ℕ) (right : Right ops ws) where
     not-there op n e = no-yes (sym n ∙ stood ops ws i op false e s (yes-6-at i h))
 
     -- what is neither RETURN nor BEGIN works on registers alone
-    pub on-registers : (operationAt ops i ≡ return → ⊥) → (operationAt ops i ≡ begin → ⊥) → operationAt ops i < 6
+    pub on-registers : (operationAt ops i ≡ opReturn → ⊥) → (operationAt ops i ≡ opBegin → ⊥) → operationAt ops i < 6
     unfolding Operations.sideOf stands
     on-registers r b =
         let k = known-at i h in
         let below-return : operationAt ops i < 11 = omega arith in
-        let below-has : operationAt ops i < 10 = omega (arith, not-there has refl) in
-        let below-put : operationAt ops i < 9 = omega (arith, not-there put refl) in
-        let below-get : operationAt ops i < 8 = omega (arith, not-there get refl) in
-        let below-end : operationAt ops i < 7 = omega (arith, not-there end refl) in
+        let below-has : operationAt ops i < 10 = omega (arith, not-there opHas refl) in
+        let below-put : operationAt ops i < 9 = omega (arith, not-there opPut refl) in
+        let below-get : operationAt ops i < 8 = omega (arith, not-there opGet refl) in
+        let below-end : operationAt ops i < 7 = omega (arith, not-there opEnd refl) in
         omega arith

@@ -1,4 +1,4 @@
--- Questions 4 to 8, each a test: true is yes. 4 to 7 are put to instruction i of a workflow that has operation bytes `ops` and operand
+-- Questions 4 to 8, each a test: true is yes. 4 to 7 are opPut to instruction i of a workflow that has operation bytes `ops` and operand
 -- bytes `ws`.
 use mathlib.Core.Bool.{Bool, true, false, not, _&&_}
 use mathlib.Core.List.{List}
@@ -11,7 +11,7 @@ use Rattle.operation.specs.declared.Side.the-variants.{Anywhere, Inside, Outsid
 use Rattle.operation.specs.declared.Operand.{Operand}
 use Rattle.operation.specs.declared.Operand.the-variants.{Any, Below8, Jump, Zero}
 use Rattle.operation.specs.Parts.{operationOf, bit3Of, targetOf, sourceOf}
-use Rattle.operation.specs.Operations.{begin, end, put, return, sideOf, operandOf, fixedOf}
+use Rattle.operation.specs.Operations.{opBegin, opEnd, opPut, opReturn, sideOf, operandOf, fixedOf}
 use Rattle.code.specs.Layout.{operationAt, registerAt, wordAt}
 
 -- the operation is 0 to B, and bit 3 is clear
@@ -43,7 +43,7 @@ question5 ops ws i =
 
 -- the side behind an operation: BEGIN opens a block, END closes it
 abbrev pub insideBehind : (operation : ℕ) (inside : Bool) → Bool
-insideBehind op inside = if eqb op begin then true else if eqb op end then false else inside
+insideBehind op inside = if eqb op opBegin then true else if eqb op opEnd then false else inside
 
 -- An instruction is inside a block if the last BEGIN or END before it is a BEGIN.
 unfoldable pub insideAt : (ops : List ℕ) (i : ℕ) → Bool
@@ -58,7 +58,7 @@ stands Outside inside = not inside
 
 -- is an instruction something else than END?
 unfoldable pub isNoEnd : (ops : List ℕ) (i : ℕ) → Bool
-isNoEnd ops i = not (eqb (operationAt ops i) end)
+isNoEnd ops i = not (eqb (operationAt ops i) opEnd)
 
 -- A jump from outside lands outside. A jump from inside passes no END before its target.
 unfoldable pub landsFrom : (inside : Bool) (ops : List ℕ) (i target : ℕ) → Bool
@@ -82,14 +82,14 @@ question6 ops ws i =
 unfoldable pub putsBefore : (ops : List ℕ) (i : ℕ) → ℕ
 putsBefore ops zero = 0
 putsBefore ops (suc i) =
-    if eqb (operationAt ops i) begin then 0
-    else if eqb (operationAt ops i) end then 0
-    else if eqb (operationAt ops i) put then suc (putsBefore ops i)
+    if eqb (operationAt ops i) opBegin then 0
+    else if eqb (operationAt ops i) opEnd then 0
+    else if eqb (operationAt ops i) opPut then suc (putsBefore ops i)
     else putsBefore ops i
 
 -- a PUT behind fewer than 16
 unfoldable pub counted : (operation puts : ℕ) → Bool
-counted op puts = if eqb op put then ltb puts 16 else true
+counted op puts = if eqb op opPut then ltb puts 16 else true
 
 -- 7. Is it at most the 16th PUT of its block?
 unfoldable pub question7 : (ops : List ℕ) (i : ℕ) → Bool
@@ -97,4 +97,4 @@ question7 ops i = counted (operationAt ops i) (putsBefore ops i)
 
 -- 8. Is the last instruction RETURN?
 unfoldable pub question8 : (ops : List ℕ) → Bool
-question8 ops = eqb (operationAt ops (length ops - 1)) return
+question8 ops = eqb (operationAt ops (length ops - 1)) opReturn

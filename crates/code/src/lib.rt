@@ -1,4 +1,4 @@
-// The code of one workflow: questions 4 to 8 put to its operation bytes and operand bytes, and the reading of an operand.
+// The code of one workflow: questions 4 to 8 opPut to its operation bytes and operand bytes, and the reading of an operand.
 ghost use mathlib.Core.Path.{_≡_};
 ghost use mathlib.Core.Bool.{true, false, _&&_};
 ghost use Prim.Native.Nat.{_+_, _-_, _*_, _≤_, _<_};
@@ -8,12 +8,12 @@ ghost use Rattle.questions.specs.Basics.{if_then_else_, eachFrom};
 ghost use Rattle.questions.specs.Questions.{firstNo};
 ghost use Rattle.questions.specs.Verdicts.{verdictOf};
 ghost use Rattle.operation.specs.Parts.{operationOf, registerOf, targetOf};
-ghost use Rattle.operation.specs.Operations.{put};
+ghost use Rattle.operation.specs.Operations.{opPut};
 ghost use Rattle.code.specs.Layout.{wordAt};
 ghost use Rattle.code.specs.Questions.{legal, inRange, registerRight, insideBehind, insideAt, stands, isNoEnd, lands, putsBefore, counted};
 ghost use Rattle.code.specs.Refusal.{instructionNo, codeNo};
 use operation::Operand;
-use operation::Row;
+use operation::Entry;
 use operation::Side;
 use questions::Verdict;
 
@@ -50,12 +50,12 @@ fn operand_in_range(operand: Operand, size: usize, at: usize, w: u32) -> bool
 }
 
 // Are the operand, and the register where it is fixed, in range?
-fn is_ranged(row: Row, b: u8, size: usize, at: usize, w: u32) -> bool
-    ensures { λ r. ⌜ r ≡ inRange (row .operand) size at w && registerRight (row .fixed) (registerOf b) ⌝ }
+fn is_ranged(entry: Entry, b: u8, size: usize, at: usize, w: u32) -> bool
+    ensures { λ r. ⌜ r ≡ inRange (entry .operand) size at w && registerRight (entry .fixed) (registerOf b) ⌝ }
 {
-    let operand = row.operand;
+    let operand = entry.operand;
     if operand_in_range(operand, size, at, w) {
-        if row.fixed {
+        if entry.fixed {
             return operation::register_of(b) == 0;
         }
         return true;
@@ -119,13 +119,13 @@ fn has_no_end(ops: &[u8], from: usize, to: usize) -> bool
 }
 
 // Does an instruction that is outside stand, and its jump land, on the right side?
-fn is_sided_outside(row: Row, ops: &[u8], at: usize, w: u32) -> bool
+fn is_sided_outside(entry: Entry, ops: &[u8], at: usize, w: u32) -> bool
     requires { ⌜ insideAt (now ops) at ≡ false ⌝ }
-    requires { ⌜ inRange (row .operand) (length (now ops)) at w ≡ true ⌝ }
-    ensures { λ r. ⌜ r ≡ stands (row .side) false && lands (row .operand) false (now (ops .entry)) at (targetOf w) ⌝ }
+    requires { ⌜ inRange (entry .operand) (length (now ops)) at w ≡ true ⌝ }
+    ensures { λ r. ⌜ r ≡ stands (entry .side) false && lands (entry .operand) false (now (ops .entry)) at (targetOf w) ⌝ }
 {
-    let side = row.side;
-    let operand = row.operand;
+    let side = entry.side;
+    let operand = entry.operand;
     if stands_on(side, false) {
         match operand {
             Operand::Any => true,
@@ -139,13 +139,13 @@ fn is_sided_outside(row: Row, ops: &[u8], at: usize, w: u32) -> bool
 }
 
 // The same of one that is inside.
-fn is_sided_inside(row: Row, ops: &[u8], at: usize, w: u32) -> bool
+fn is_sided_inside(entry: Entry, ops: &[u8], at: usize, w: u32) -> bool
     requires { ⌜ insideAt (now ops) at ≡ true ⌝ }
-    requires { ⌜ inRange (row .operand) (length (now ops)) at w ≡ true ⌝ }
-    ensures { λ r. ⌜ r ≡ stands (row .side) true && lands (row .operand) true (now (ops .entry)) at (targetOf w) ⌝ }
+    requires { ⌜ inRange (entry .operand) (length (now ops)) at w ≡ true ⌝ }
+    ensures { λ r. ⌜ r ≡ stands (entry .side) true && lands (entry .operand) true (now (ops .entry)) at (targetOf w) ⌝ }
 {
-    let side = row.side;
-    let operand = row.operand;
+    let side = entry.side;
+    let operand = entry.operand;
     if stands_on(side, true) {
         match operand {
             Operand::Any => true,
@@ -171,7 +171,7 @@ fn is_counted(b: u8, puts: usize) -> bool
 // The PUTs of a block behind an instruction inside it that is not END.
 fn puts_behind(op: u8, puts: usize) -> usize
     requires { ⌜ puts ≤ 16 ⌝ }
-    ensures { λ r. ⌜ r ≡ (if eqb op put then puts + 1 else puts) ⌝ }
+    ensures { λ r. ⌜ r ≡ (if eqb op opPut then puts + 1 else puts) ⌝ }
 {
     if op == operation::PUT {
         return puts + 1;
@@ -190,11 +190,11 @@ fn judge_outside(ops: &[u8], operands: &[u8], workflow: usize, at: usize) -> Ver
     if !is_legal(b) {
         return questions::refused(4, workflow, at);
     }
-    let row = operation::row_of(b);
-    if !is_ranged(row, b, ops.len(), at, w) {
+    let entry = operation::entry_of(b);
+    if !is_ranged(entry, b, ops.len(), at, w) {
         return questions::refused(5, workflow, at);
     }
-    if !is_sided_outside(row, ops, at, w) {
+    if !is_sided_outside(entry, ops, at, w) {
         return questions::refused(6, workflow, at);
     }
     Verdict::Accepted
@@ -211,11 +211,11 @@ fn judge_inside(ops: &[u8], operands: &[u8], workflow: usize, at: usize, puts: u
     if !is_legal(b) {
         return questions::refused(4, workflow, at);
     }
-    let row = operation::row_of(b);
-    if !is_ranged(row, b, ops.len(), at, w) {
+    let entry = operation::entry_of(b);
+    if !is_ranged(entry, b, ops.len(), at, w) {
         return questions::refused(5, workflow, at);
     }
-    if !is_sided_inside(row, ops, at, w) {
+    if !is_sided_inside(entry, ops, at, w) {
         return questions::refused(6, workflow, at);
     }
     if !is_counted(b, puts) {

@@ -8,7 +8,7 @@ use Rattle.rules.specs.Instructions as Instructions
 use Rattle.rules.specs.Blocks.{yields}
 use Rattle.rules.specs.Courses.{going, passed, goes, does, says, nextBy, nextOf}
 use Rattle.rules.specs.Courses as Courses
-use Rattle.operation.specs.Operations.{begin, return}
+use Rattle.operation.specs.Operations.{opBegin, opReturn}
 use Rattle.code.specs.Layout.{operationAt, registerAt, wordAt}
 use Rattle.code.specs.Meaning.{decode, codeOf}
 use Rattle.code.specs.Meaning as Meaning
@@ -32,20 +32,20 @@ module _ (ops ws : List ℕ) (from : Spot) (on : StandsOutside ops ws from) (op 
       (instruction-at ops ws (from .position) (on .in-code) ∙ λ i. decode (sym eo i) (sym ed i) (sym ew i))
       ∙ ap (nextBy (codeOf ops ws) (placeOf from)) e)
 
-  pub replies : op ≡ return → says (yields (getD (from .registers) d 0)) ≡ nextOf (codeOf ops ws) (going (placeOf from))
+  pub replies : op ≡ opReturn → says (yields (getD (from .registers) d 0)) ≡ nextOf (codeOf ops ws) (going (placeOf from))
   unfolding Courses.nextBy Meaning.decode Instructions.act
   replies e =
       asks (wordAt ws (from .position)) refl (returns (getD (from .registers) d 0))
       (ap (λ (n : ℕ). act (decode n d (wordAt ws (from .position))) (placeOf from)) e)
 
   module _ (w : ℕ) (ew : w ≡ wordAt ws (from .position)) where
-    pub opens-block : op ≡ begin →
+    pub opens-block : op ≡ opBegin →
         does (placeOf from) w (passed (codeOf ops ws) (placeOf from)) ≡ nextOf (codeOf ops ws) (going (placeOf from))
     unfolding Courses.nextBy Meaning.decode Instructions.act
     opens-block e = asks w ew (opens w) (ap (λ (n : ℕ). act (decode n d w) (placeOf from)) e)
 
     -- what is neither works on registers alone
-    pub may-move : (op ≡ return → ⊥) → (op ≡ begin → ⊥) → (op < 6) × Sourced op w
+    pub may-move : (op ≡ opReturn → ⊥) → (op ≡ opBegin → ⊥) → (op < 6) × Sourced op w
     may-move r b = (
       subst (λ (n : ℕ). n < 6) (sym eo)
           (on-registers ops ws (on .right) (from .position) (on .in-code) (on .outside) (λ e. r (eo ∙ e)) (λ e. b (eo ∙ e))),

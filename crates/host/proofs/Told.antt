@@ -18,7 +18,7 @@ use Rattle.store.specs.Questions.{createRefusal}
 use Rattle.store.specs.Created.{Created}
 use Rattle.answers.specs.Answers.{numberOf, valuesOf, withWords, judged}
 use Rattle.answers.specs.Answers as Answers
-use Rattle.host.specs.Told.{partsOf, openedWords, answerShort, Told, Made}
+use Rattle.host.specs.Told.{openedParts, openedWords, answerShort, Told, Made}
 
 -- numbers that may be missing
 pub same : {m n : ℕ} → some m ≡ some n → m ≡ n
@@ -61,14 +61,14 @@ seven-words answer (refused n) x y z u = refl
 
 -- the words of an opening, by what its questions came to
 opened-words : (answer pack : List ℕ) (w : ℕ) (a : Answer) (o : Option No) → openRefusal pack w ≡ o → a ≡ judged o
-    → withWords answer (valuesOf a ++ partsOf pack w o) ≡ withWords answer (openedWords pack w)
+    → withWords answer (valuesOf a ++ openedParts pack w o) ≡ withWords answer (openedWords pack w)
 unfolding openedWords
 opened-words answer pack w a o e q = rw (e, q) refl
 
 -- open, by what its questions came to: the answer b was written, and then the words of the parts
 pub told-open : (answer pack : List ℕ) (w : ℕ) (o : Option No) (b : Answer) (number : ℕ) (between ws answer′ : List ℕ) →
     28 ≤ length answer → openRefusal pack w ≡ o
-    → b ≡ judged (openRefusal pack w) → (number ≡ numberOf b) × (between ≡ withWords answer (valuesOf b)) → ws ≡ partsOf pack w o →
+    → b ≡ judged (openRefusal pack w) → (number ≡ numberOf b) × (between ≡ withWords answer (valuesOf b)) → ws ≡ openedParts pack w o →
     answer′ ≡ puts 4 between 12 ws 4
     → Told 28 answer (judged (openRefusal pack w)) (openedWords pack w) number answer′
 told-open answer pack w o b number between ws answer′ h q e t p r =
@@ -77,9 +77,9 @@ told-open answer pack w o b number between ws answer′ h q e t p r =
     ∙ four o ∙ opened-words answer pack w b o q (e ∙ ap judged q))
   where
     four : (o : Option No) →
-        puts 4 (withWords answer (valuesOf b)) 12 (partsOf pack w o) 4 ≡ withWords answer (valuesOf b ++ partsOf pack w o)
-    four none = unfold partsOf in seven-words answer b (operationsAt pack w) (sizeOf pack w) (operandsAt pack w) (4 * sizeOf pack w)
-    four (some n) = unfold partsOf in seven-words answer b 0 0 0 0
+        puts 4 (withWords answer (valuesOf b)) 12 (openedParts pack w o) 4 ≡ withWords answer (valuesOf b ++ openedParts pack w o)
+    four none = unfold openedParts in seven-words answer b (operationsAt pack w) (sizeOf pack w) (operandsAt pack w) (4 * sizeOf pack w)
+    four (some n) = unfold openedParts in seven-words answer b 0 0 0 0
 
 -- create, refused for its answer buffer
 pub made-short : (store answer : List ℕ) (P C : ℕ) → length answer < 12 → Made store answer P C 100 store answer

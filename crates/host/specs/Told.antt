@@ -16,13 +16,13 @@ use Rattle.store.specs.Created.{Created}
 use Rattle.answers.specs.Answers.{numberOf, valuesOf, withWords, judged}
 
 -- where the parts of an opened workflow start in the pack and how many bytes they are: operations, then operands
-unfoldable pub partsOf : (pack : List ℕ) (workflow : ℕ) → Option No → List ℕ
-partsOf pack w none = operationsAt pack w ∷ sizeOf pack w ∷ operandsAt pack w ∷ 4 * sizeOf pack w ∷ []
-partsOf pack w (some n) = 0 ∷ 0 ∷ 0 ∷ 0 ∷ []
+unfoldable pub openedParts : (pack : List ℕ) (workflow : ℕ) → Option No → List ℕ
+openedParts pack w none = operationsAt pack w ∷ sizeOf pack w ∷ operandsAt pack w ∷ 4 * sizeOf pack w ∷ []
+openedParts pack w (some n) = 0 ∷ 0 ∷ 0 ∷ 0 ∷ []
 
 -- the seven words of an opening
 unfoldable pub openedWords : (pack : List ℕ) (workflow : ℕ) → List ℕ
-openedWords pack w = valuesOf (judged (openRefusal pack w)) ++ partsOf pack w (openRefusal pack w)
+openedWords pack w = valuesOf (judged (openRefusal pack w)) ++ openedParts pack w (openRefusal pack w)
 
 -- 100: an answer buffer with fewer bytes than the call writes
 unfoldable pub answerShort : (need : ℕ) (answer : List ℕ) → Option ℕ

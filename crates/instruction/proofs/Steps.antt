@@ -18,7 +18,7 @@ use Rattle.keys.specs.Keys.{dataKey, tableOf}
 use Rattle.keys.proofs.Keys.{data-put}
 use Rattle.store.specs.Rows.{Row, putRow, countNew, keysIn}
 use Rattle.operation.specs.Parts.{operationOf, registerOf, sourceOf, targetOf}
-use Rattle.operation.specs.Operations.{get, put, has}
+use Rattle.operation.specs.Operations.{opGet, opPut, opHas}
 use Rattle.code.specs.Meaning.{decode, instructionOf}
 use Rattle.code.specs.Meaning as Meaning
 use Rattle.instruction.specs.Pending.{seen, rowsIn, Kept}
@@ -126,32 +126,32 @@ module _ (rs : List Row) (x : Running) (was : Kept (x .pending)) (d s : ℕ) (h 
   unfolding Instructions.act
   step-put q e = step-puts rs x was (register (placeOf (x .place)) d) (register (placeOf (x .place)) s) h q e
 
--- ---- by the operation that the byte has
+-- ---- by the operation that the byte opHas
 
 module _ (b w d s : ℕ) (p : d ≡ registerOf b) (q : s ≡ w % 8) (z : Sourced (operationOf b) w) (rs : List Row) (x y : Running) where
   source : (op : ℕ) → operationOf b ≡ op → (op ≡ 0 → ⊥) → sourceBy op w ≡ s
   source op e n = rw e at z n ∙ sym q
 
-  pub get-step : operationOf b ≡ get → Stepped (act (GET d s) (placeOf (x .place))) rs x y 0 →
+  pub get-step : operationOf b ≡ opGet → Stepped (act (GET d s) (placeOf (x .place))) rs x y 0 →
       Stepped (act (instructionOf b w) (placeOf (x .place))) rs x y (putsOf (operationOf b))
   unfolding Meaning.decode
-  get-step e t = let r : w ≡ s = source get e (λ i. omega arith) in rw (e, r, ← p) t
+  get-step e t = let r : w ≡ s = source opGet e (λ i. omega arith) in rw (e, r, ← p) t
 
-  pub has-step : operationOf b ≡ has → Stepped (act (HAS d s) (placeOf (x .place))) rs x y 0 →
+  pub has-step : operationOf b ≡ opHas → Stepped (act (HAS d s) (placeOf (x .place))) rs x y 0 →
       Stepped (act (instructionOf b w) (placeOf (x .place))) rs x y (putsOf (operationOf b))
   unfolding Meaning.decode
-  has-step e t = let r : w ≡ s = source has e (λ i. omega arith) in rw (e, r, ← p) t
+  has-step e t = let r : w ≡ s = source opHas e (λ i. omega arith) in rw (e, r, ← p) t
 
-  pub put-step : operationOf b ≡ put → Stepped (act (PUT d s) (placeOf (x .place))) rs x y 1 →
+  pub put-step : operationOf b ≡ opPut → Stepped (act (PUT d s) (placeOf (x .place))) rs x y 1 →
       Stepped (act (instructionOf b w) (placeOf (x .place))) rs x y (putsOf (operationOf b))
   unfolding Meaning.decode
-  put-step e t = let r : w ≡ s = source put e (λ i. omega arith) in rw (e, r, ← p) t
+  put-step e t = let r : w ≡ s = source opPut e (λ i. omega arith) in rw (e, r, ← p) t
 
-pub move-step : (b w d : ℕ) → d ≡ registerOf b → (rs : List Row) (x : Running) (y : Spot) → (operationOf b ≡ put → ⊥) → Kept (x .pending)
+pub move-step : (b w d : ℕ) → d ≡ registerOf b → (rs : List Row) (x : Running) (y : Spot) → (operationOf b ≡ opPut → ⊥) → Kept (x .pending)
     → moves (placeOf y) ≡ act (decode (operationOf b) d w) (placeOf (x .place)) →
     Stepped (act (instructionOf b w) (placeOf (x .place))) rs x (atPlace x y) (putsOf (operationOf b))
 move-step b w d p rs x y n k e =
-    rw (ne-eqb (operationOf b) put n) (step-moved rs x y k (act (instructionOf b w) (placeOf (x .place))) (rw p at e))
+    rw (ne-eqb (operationOf b) opPut n) (step-moved rs x y k (act (instructionOf b w) (placeOf (x .place))) (rw p at e))
 
 -- ---- the operations on registers alone
 

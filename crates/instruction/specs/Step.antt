@@ -9,7 +9,7 @@ use Rattle.rules.specs.Blocks.{Work, Block, within}
 use Rattle.keys.specs.Keys.{tableOf}
 use Rattle.store.specs.Rows.{Row}
 use Rattle.operation.specs.Parts.{operationOf, sourceOf}
-use Rattle.operation.specs.Operations.{set, jlt, jeq, begin, end, put, return}
+use Rattle.operation.specs.Operations.{opSet, opJlt, opJeq, opBegin, opEnd, opPut, opReturn}
 use Rattle.instruction.specs.declared.Spot.{Spot}
 use Rattle.instruction.specs.declared.Running.{Running}
 use Rattle.instruction.specs.Pending.{seen, rowsIn, newIn, Kept}
@@ -35,20 +35,20 @@ pub record Stepped (a : Act) (rs : List Row) (x y : Running) (more : ℕ) : Type
 
 -- the keys that an operation may add to the pending ones: PUT one, the rest none
 abbrev pub putsOf : (op : ℕ) → ℕ
-putsOf op = if eqb op put then 1 else 0
+putsOf op = if eqb op opPut then 1 else 0
 
 -- the number of the register s: of a jump w is 16 × target + s
 abbrev pub sourceBy : (op w : ℕ) → ℕ
-sourceBy op w = if eqb op jlt then sourceOf w else if eqb op jeq then sourceOf w else w
+sourceBy op w = if eqb op opJlt then sourceOf w else if eqb op opJeq then sourceOf w else w
 
 -- s is the low three bits of w, in every operation but SET, whose w is any
 abbrev pub Sourced : (op w : ℕ) → Type 0
-Sourced op w = (op ≡ set → ⊥) → sourceBy op w ≡ w % 8
+Sourced op w = (op ≡ opSet → ⊥) → sourceBy op w ≡ w % 8
 
 -- what the questions say of an instruction inside a block, other than END: operation and operand, and that PUT has room
 pub record Fits (b w : ℕ) (x : Running) : Type 0 where
-  pub known : operationOf b < return
-  pub no-begin : operationOf b ≡ begin → ⊥
-  pub no-end : operationOf b ≡ end → ⊥
+  pub known : operationOf b < opReturn
+  pub no-begin : operationOf b ≡ opBegin → ⊥
+  pub no-end : operationOf b ≡ opEnd → ⊥
   pub sourced : Sourced (operationOf b) w
-  pub room : operationOf b ≡ put → x .pending .count < 16
+  pub room : operationOf b ≡ opPut → x .pending .count < 16

@@ -31,7 +31,7 @@ pub struct Running {
 }
 
 // The register s that an operand names: its low three bits.
-fn source_of(w: u32) -> usize
+fn register_named(w: u32) -> usize
     ensures { λ r. ⌜ (r ≡ w % 8) × (r < 8) ⌝ }
 {
     (w & 7) as usize
@@ -50,7 +50,7 @@ fn advanced(x: Spot) -> Spot
 }
 
 // Register d becomes v, and on to the next instruction.
-fn set(x: Spot, d: usize, v: u32) -> Spot
+fn with_register(x: Spot, d: usize, v: u32) -> Spot
     requires { ⌜ (d < 8) × (x .position + 1 < 2 ^ 64) ⌝ }
     ensures { λ r. ⌜ placeOf r ≡ becomes (placeOf x) d v ⌝ }
 {
@@ -82,15 +82,15 @@ pub fn moved(x: Spot, op: u8, d: usize, w: u32) -> Spot
     requires { ⌜ (op < 6) × (d < 8) × (x .position + 1 < 2 ^ 64) × Sourced op w ⌝ }
     ensures { λ r. ⌜ moves (placeOf r) ≡ act (decode op d w) (placeOf x) ⌝ }
 {
-    let s = source_of(w);
+    let s = register_named(w);
     let a = x.registers[d];
     let b = x.registers[s];
     let target = operation::target_of(w);
     match op {
-        0 => set(x, d, w),
-        1 => set(x, d, b),
-        2 => set(x, d, operation::add32(a, b)),
-        3 => set(x, d, operation::sub32(a, b)),
+        0 => with_register(x, d, w),
+        1 => with_register(x, d, b),
+        2 => with_register(x, d, operation::add32(a, b)),
+        3 => with_register(x, d, operation::sub32(a, b)),
         4 => jumped(x, a < b, target),
         _ => jumped(x, a == b, target),
     }
@@ -115,8 +115,8 @@ fn got(store: &[u8], partition: usize, x: Running, d: usize, s: usize) -> Runnin
     let old = place.registers[d];
     let g = seen_value(store, partition, pending, key);
     match g {
-        Got::Value(v) => at_place(x, set(place, d, v)),
-        Got::Absent => at_place(x, set(place, d, old)),
+        Got::Value(v) => at_place(x, with_register(place, d, v)),
+        Got::Absent => at_place(x, with_register(place, d, old)),
     }
 }
 
@@ -130,13 +130,13 @@ fn tested(store: &[u8], partition: usize, x: Running, d: usize, s: usize) -> Run
     let key = keys::data_key(place.registers[s]);
     let g = seen_value(store, partition, pending, key);
     match g {
-        Got::Value(_) => at_place(x, set(place, d, 1)),
-        Got::Absent => at_place(x, set(place, d, 0)),
+        Got::Value(_) => at_place(x, with_register(place, d, 1)),
+        Got::Absent => at_place(x, with_register(place, d, 0)),
     }
 }
 
 // PUT.
-fn put(x: Running, d: usize, s: usize) -> Running
+fn put_value(x: Running, d: usize, s: usize) -> Running
     requires { ⌜ Kept (x .pending) × (x .pending .count < 16) × (d < 8) × (s < 8) × (x .place .position + 1 < 2 ^ 64) ⌝ }
     ensures { λ r. ⌜ ((rs : List Row) → Stepped (act (Instruction.PUT d s) (placeOf (x .place))) rs x r 1) ⌝ }
 {
@@ -161,12 +161,12 @@ pub fn step(store: &[u8], partition: usize, x: Running, b: u8, w: u32) -> Runnin
 {
     let op = operation::operation_of(b);
     let d = operation::register_of(b) as usize;
-    let s = source_of(w);
+    let s = register_named(w);
     if op == GET {
         return got(store, partition, x, d, s);
     }
     if op == operation::PUT {
-        return put(x, d, s);
+        return put_value(x, d, s);
     }
     if op == HAS {
         return tested(store, partition, x, d, s);

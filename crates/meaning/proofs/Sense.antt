@@ -76,7 +76,7 @@ module _ (pack : List ℕ) (e : packRefusal pack ≡ none) (w : ℕ) (h : w < co
 
   -- a record passes, and what it says in the rules
   pub sound-meant : (r : Agent) (q : Request) → q .workflow ≡ w → isSound pack r (some q) ≡ true →
-      (r .position < length (Rules.codeOf (packOf pack) q)) × (sideAt (Rules.codeOf (packOf pack) q) (r .position) ≡ outside)
+      (r .position < length (Rules.requestCode (packOf pack) q)) × (sideAt (Rules.requestCode (packOf pack) q) (r .position) ≡ outside)
       × (r .step ≤ r .position)
   unfolding isSound
   sound-meant r q x t =
@@ -93,8 +93,8 @@ module _ (pack : List ℕ) (e : packRefusal pack ≡ none) (w : ℕ) (h : w < co
         leb-true (r .step) (r .position) (and-right (not (insideAt (operationsOf pack w) (r .position))) _ t₁),
       )
 
-  pub sound-passes : (r : Agent) (q : Request) → q .workflow ≡ w → r .position < length (Rules.codeOf (packOf pack) q) →
-      sideAt (Rules.codeOf (packOf pack) q) (r .position) ≡ outside →
+  pub sound-passes : (r : Agent) (q : Request) → q .workflow ≡ w → r .position < length (Rules.requestCode (packOf pack) q) →
+      sideAt (Rules.requestCode (packOf pack) q) (r .position) ≡ outside →
       r .step ≤ r .position → isSound pack r (some q) ≡ true
   unfolding isSound
   sound-passes r q x l s t =

@@ -26,5 +26,5 @@ abbrev pub packed : Side → Operand → (fixed : Bool) → ℕ
 packed s o f = sideBits s + 4 * operandBits o + 16 * fixedBit f
 
 -- the packed byte of an operation
-unfoldable pub entryOf : (operation : ℕ) → ℕ
-entryOf op = packed (sideOf op) (operandOf op) (fixedOf op)
+unfoldable pub packedOf : (operation : ℕ) → ℕ
+packedOf op = packed (sideOf op) (operandOf op) (fixedOf op)

@@ -5,8 +5,8 @@ ghost use mathlib.Core.Bool.{Bool};
 ghost use Prim.Native.Nat.{_+_, _-_, _%_, _^_, _<_};
 ghost use lib.Dec.{eqb};
 ghost use Rattle.operation.specs.Parts.{operationOf, registerOf, bit3Of, targetOf, sourceOf};
-ghost use Rattle.operation.specs.Operations.{rowOf};
-ghost use Rattle.operation.specs.Packed.{packed, entryOf};
+ghost use Rattle.operation.specs.Operations.{entryOf};
+ghost use Rattle.operation.specs.Packed.{packed, packedOf};
 
 // The high four bits: the operation.
 pub fn operation_of(b: u8) -> u8
@@ -81,7 +81,7 @@ pub enum Operand {
 }
 
 // What the table says of an operation; `fixed`: its register d is 0.
-pub struct Row {
+pub struct Entry {
     pub side: Side,
     pub operand: Operand,
     pub fixed: bool,
@@ -107,10 +107,10 @@ const TABLE: [u8; 16] = [
     0x04, // none
 ];
 
-fn side_in(entry: u8) -> Side
-    ensures { λ r. ⌜ ((s : Side) (o : Operand) (f : Bool) → entry ≡ packed s o f → r ≡ s) ⌝ }
+fn side_in(byte: u8) -> Side
+    ensures { λ r. ⌜ ((s : Side) (o : Operand) (f : Bool) → byte ≡ packed s o f → r ≡ s) ⌝ }
 {
-    let bits = entry & 3;
+    let bits = byte & 3;
     if bits == 1 {
         return Side::Inside;
     }
@@ -120,10 +120,10 @@ fn side_in(entry: u8) -> Side
     Side::Anywhere
 }
 
-fn operand_in(entry: u8) -> Operand
-    ensures { λ r. ⌜ ((s : Side) (o : Operand) (f : Bool) → entry ≡ packed s o f → r ≡ o) ⌝ }
+fn operand_in(byte: u8) -> Operand
+    ensures { λ r. ⌜ ((s : Side) (o : Operand) (f : Bool) → byte ≡ packed s o f → r ≡ o) ⌝ }
 {
-    let bits = entry >> 2 & 3;
+    let bits = byte >> 2 & 3;
     if bits == 1 {
         return Operand::Below8;
     }
@@ -136,30 +136,30 @@ fn operand_in(entry: u8) -> Operand
     Operand::Any
 }
 
-fn fixed_in(entry: u8) -> bool
-    ensures { λ r. ⌜ ((s : Side) (o : Operand) (f : Bool) → entry ≡ packed s o f → r ≡ f) ⌝ }
+fn fixed_in(byte: u8) -> bool
+    ensures { λ r. ⌜ ((s : Side) (o : Operand) (f : Bool) → byte ≡ packed s o f → r ≡ f) ⌝ }
 {
-    entry >> 4 == 1
+    byte >> 4 == 1
 }
 
 // The packed byte of an operation.
-fn entry_of(op: usize) -> u8
+fn packed_of(op: usize) -> u8
     requires { ⌜ op < 16 ⌝ }
-    ensures { λ r. ⌜ r ≡ entryOf op ⌝ }
+    ensures { λ r. ⌜ r ≡ packedOf op ⌝ }
 {
     TABLE[op]
 }
 
 // What the table says of the operation of a byte. The table is looked up once.
-pub fn row_of(b: u8) -> Row
-    ensures { λ r. ⌜ r ≡ rowOf (operationOf b) ⌝ }
+pub fn entry_of(b: u8) -> Entry
+    ensures { λ r. ⌜ r ≡ entryOf (operationOf b) ⌝ }
 {
-    let entry = entry_of(operation_of(b) as usize);
-    let side = side_in(entry);
-    let operand = operand_in(entry);
-    Row {
+    let byte = packed_of(operation_of(b) as usize);
+    let side = side_in(byte);
+    let operand = operand_in(byte);
+    Entry {
         side,
         operand,
-        fixed: fixed_in(entry),
+        fixed: fixed_in(byte),
     }
 }

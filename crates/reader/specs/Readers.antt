@@ -10,7 +10,7 @@ use Rattle.questions.specs.Basics.{if_then_else_}
 use Rattle.rules.specs.Instructions.{instructionAt}
 use Rattle.questions.specs.Questions.{No}
 use Rattle.questions.specs.Verdicts.{verdictOf}
-use Rattle.operation.specs.Operations.{return}
+use Rattle.operation.specs.Operations.{opReturn}
 use Rattle.code.specs.Layout.{wordAt}
 use Rattle.code.specs.Meaning.{instructionOf, codeOf}
 use Rattle.pack.specs.Layout.{sizeOf, operationsAt, operandsAt, operationsOf, operandsOf}
@@ -76,7 +76,7 @@ Beside ops ws = 0 < length ops → 0 < length ws → length ws ≡ 4 * length op
 -- Operation byte and operand word of instruction i; past the end those of RETURN 0, as in the rules.
 unfoldable pub readAt : (ops ws : List ℕ) (i : ℕ) → Instruction
 readAt ops ws i =
-    if ltb i (length ops) then record { byte = getD ops i 0; word = wordAt ws i } else record { byte = 16 * return; word = 0 }
+    if ltb i (length ops) then record { byte = getD ops i 0; word = wordAt ws i } else record { byte = 16 * opReturn; word = 0 }
 
 -- What was read is instruction i of the workflow that has these bytes: by byte and word, and by the meaning that the rules give it.
 pub record Read (ops ws : List ℕ) (i : ℕ) (x : Instruction) : Type 0 where

@@ -11,7 +11,7 @@ use Rattle.rules.specs.Instructions.{Code, Pack, Place}
 use Rattle.rules.specs.Blocks.{Result, Block, runBlock}
 use Rattle.rules.specs.Courses.{Course, Next, goes, does, says, nextOf}
 use Rattle.rules.specs.Store.{Request, Store, sought, found, booked, written}
-use Rattle.rules.specs.Logged.{codeOf, start, Stage, at, finished, behind, byNext, follow, replyLogged}
+use Rattle.rules.specs.Logged.{requestCode, start, Stage, at, finished, behind, byNext, follow, replyLogged}
 use Rattle.rules.specs.Calls.{Agent, State, Outcome, Call, turn, withStore}
 use Rattle.rules.specs.Calls.{withSlot, started, arrive, again, throughBlock, turnOn, turnIn, refusal, rule}
 use Rattle.rules.specs.Plain.{Reply, withAnswer, Tally, Tallies, Feed, feeds, tallied}
@@ -22,13 +22,13 @@ use Rattle.rules.proofs.Logged.{Ends, ends-once, ends-stay, logged-ends
 use Rattle.rules.proofs.Invariant.{Remains}
 use Rattle.rules.proofs.ByFeed.{Idle, Kind, an-arrival, a-retry, a-turn, an-idle, kind}
 use Rattle.rules.proofs.Turn.{tallyOf}
-use Rattle.rules.proofs.Stands.{Stands, turn-is, turn-counted}
+use Rattle.rules.proofs.Stands.{StandsByLog, turn-is, turn-counted}
 
 -- a reply is the one to which the log leads its request
 pub record Given (pack : Pack) (s : Store) (r : Reply) : Type 0 where
   pub request : Request
   pub book-is : s .book (r .id) ≡ some request
-  pub ends : Ends (s .log) (r .id) (codeOf pack request) request (r .value)
+  pub ends : Ends (s .log) (r .id) (requestCode pack request) request (r .value)
 
 -- each booked request stays booked, and its log rows stay
 abbrev pub Stays : Store → Store → Type 0
@@ -36,7 +36,7 @@ Stays s s′ = (id : ℕ) → Remains (s .log) (s′ .log) (s .book) (s′ .book
 
 pub record ByLog (pack : Pack) (first : Store) (s : State) (t : Tallies) (rs : List Reply) : Type 0 where
   pub stays : Stays first (s .store)
-  pub slots : (slot : ℕ) (a : Agent) → s .slots slot ≡ some a → Stands pack (s .store) (t slot) a
+  pub slots : (slot : ℕ) (a : Agent) → s .slots slot ≡ some a → StandsByLog pack (s .store) (t slot) a
   pub replies : (r : Reply) → List·Memᴰ r rs → Given pack (s .store) r
 
 stays-on : (s s′ s″ : Store) → Stays s s′ → Stays s′ s″ → Stays s s″
@@ -67,7 +67,7 @@ module _ (pack : Pack) (first : Store) where
               counted = h .counted;
               book-is = k .0;
               there =
-                  follow-stays (s .store .log) (s′ .log) (a .id) (codeOf pack (h .request)) (h .request) (h .moves)
+                  follow-stays (s .store .log) (s′ .log) (a .id) (requestCode pack (h .request)) (h .request) (h .moves)
                   (at (a .course) (a .step)) (k .1) (h .there);
             };
         replies =
@@ -77,29 +77,29 @@ module _ (pack : Pack) (first : Store) where
             record {
               request = h .request;
               book-is = k .0;
-              ends = ends-stay (s .store .log) (s′ .log) (r .id) (codeOf pack (h .request)) (h .request) (r .value) (k .1) (h .ends);
+              ends = ends-stay (s .store .log) (s′ .log) (r .id) (requestCode pack (h .request)) (h .request) (r .value) (k .1) (h .ends);
             };
       }
 
   module _ (s : State) (t : Tallies) (rs : List Reply) (inv : ByLog pack first s t rs) (slot : ℕ) where
     -- something else in one slot, and another tally
-    into-slot : (tally : Option Tally) (o : Option Agent) → ((a : Agent) → o ≡ some a → Stands pack (s .store) tally a) →
+    into-slot : (tally : Option Tally) (o : Option Agent) → ((a : Agent) → o ≡ some a → StandsByLog pack (s .store) tally a) →
         ByLog pack first (withSlot s slot o) (update t slot tally) rs
     into-slot tally o new =
         record {
           stays = inv .stays;
           slots =
-              update-each (s .slots) slot o (λ j a. Stands pack (s .store) (update t slot tally j) a)
-              (λ a e. subst (λ w. Stands pack (s .store) w a) (sym (update-same t slot tally)) (new a e))
-              (λ j a n e. subst (λ w. Stands pack (s .store) w a) (sym (update-other t slot tally j n)) (inv .slots j a e));
+              update-each (s .slots) slot o (λ j a. StandsByLog pack (s .store) (update t slot tally j) a)
+              (λ a e. subst (λ w. StandsByLog pack (s .store) w a) (sym (update-same t slot tally)) (new a e))
+              (λ j a n e. subst (λ w. StandsByLog pack (s .store) w a) (sym (update-other t slot tally j n)) (inv .slots j a e));
           replies = inv .replies;
         }
 
     -- this agent in the slot
-    holds : (tally : Option Tally) (a : Agent) → Stands pack (s .store) tally a →
+    holds : (tally : Option Tally) (a : Agent) → StandsByLog pack (s .store) tally a →
         ByLog pack first (withSlot s slot (some a)) (update t slot tally) rs
     holds tally a h =
-        into-slot tally (some a) (λ b e. subst (λ (x : Agent). Stands pack (s .store) tally x) (Option·some-injective a b e) h)
+        into-slot tally (some a) (λ b e. subst (λ (x : Agent). StandsByLog pack (s .store) tally x) (Option·some-injective a b e) h)
 
     -- a booked request starts
     starts : (id : ℕ) (q : Request) → s .store .book id ≡ some q → ByLog pack first (started s slot id q) (update t slot (tallyOf id 0)) rs
@@ -125,9 +125,9 @@ module _ (pack : Pack) (first : Store) where
     retries id none e u = false-true refl u
     retries id (some known) e u = starts s t rs inv slot id known e
 
-    module _ (a : Agent) (h : Stands pack (s .store) (t slot) a) where
+    module _ (a : Agent) (h : StandsByLog pack (s .store) (t slot) a) where
       abbrev code : Code
-      code = codeOf pack (h .request)
+      code = requestCode pack (h .request)
 
       -- one turn more
       abbrev tally : Option Tally
@@ -215,7 +215,7 @@ module _ (pack : Pack) (first : Store) where
         (sym (turn-counted pack s t slot a h))
         (subst (λ (x : Outcome). ByLog pack first (x .state) (update t slot (tally a h)) (withAnswer (x .answer) rs))
         (sym (turn-is pack s t slot a h))
-        (turns-on a h (nextOf (codeOf pack (h .request)) (a .course)) refl))
+        (turns-on a h (nextOf (requestCode pack (h .request)) (a .course)) refl))
 
   -- a call that feeds nothing
   idle-by-log : (s : State) (t : Tallies) (rs : List Reply) → ByLog pack first s t rs → (c : Call) → Idle pack s c →
@@ -272,9 +272,9 @@ module _ (pack : Pack) (first : Store) where
             let g = inv .replies r m in
             let k = inv .stays (r .id) q b in
             let same : g .request ≡ q = Option·some-injective (g .request) q (sym (g .book-is) ∙ k .0) in
-            ends-once (s .store .log) (r .id) (codeOf pack q) q (r .value) v
-            (subst (λ (x : Request). Ends (s .store .log) (r .id) (codeOf pack x) x (r .value)) same (g .ends))
-            (ends-stay (first .log) (s .store .log) (r .id) (codeOf pack q) q v (k .1) (logged-ends pack (first .log) (r .id) q v f))
+            ends-once (s .store .log) (r .id) (requestCode pack q) q (r .value) v
+            (subst (λ (x : Request). Ends (s .store .log) (r .id) (requestCode pack x) x (r .value)) same (g .ends))
+            (ends-stay (first .log) (s .store .log) (r .id) (requestCode pack q) q v (k .1) (logged-ends pack (first .log) (r .id) q v f))
 
     pub given-equal : (r r′ : Reply) → List·Memᴰ r rs → List·Memᴰ r′ rs → r .id ≡ r′ .id → r .value ≡ r′ .value
     given-equal r r′ m m′ e =
@@ -282,7 +282,7 @@ module _ (pack : Pack) (first : Store) where
         let g′ = inv .replies r′ m′ in
         let same : g .request ≡ g′ .request =
         Option·some-injective (g .request) (g′ .request) (sym (g .book-is) ∙ ap (s .store .book) e ∙ g′ .book-is) in
-        ends-once (s .store .log) (r′ .id) (codeOf pack (g′ .request)) (g′ .request) (r .value) (r′ .value)
-        (subst (λ (x : Request). Ends (s .store .log) (r′ .id) (codeOf pack x) x (r .value)) same
-        (subst (λ i. Ends (s .store .log) i (codeOf pack (g .request)) (g .request) (r .value)) e (g .ends)))
+        ends-once (s .store .log) (r′ .id) (requestCode pack (g′ .request)) (g′ .request) (r .value) (r′ .value)
+        (subst (λ (x : Request). Ends (s .store .log) (r′ .id) (requestCode pack x) x (r .value)) same
+        (subst (λ i. Ends (s .store .log) i (requestCode pack (g .request)) (g .request) (r .value)) e (g .ends)))
         (g′ .ends)

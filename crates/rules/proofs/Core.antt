@@ -9,7 +9,7 @@ use Rattle.questions.specs.Basics.{update}
 use Rattle.rules.specs.Instructions.{Pack}
 use Rattle.rules.specs.Blocks.{Table}
 use Rattle.rules.specs.Store.{Request, Log, Store}
-use Rattle.rules.specs.Logged.{codeOf, Stage, at, finished}
+use Rattle.rules.specs.Logged.{requestCode, Stage, at, finished}
 use Rattle.rules.specs.Plain.{Reply, Run, Machine, firstReplies}
 use Rattle.questions.proofs.Updates.{none-some, le-cases, update-cases}
 use Rattle.rules.proofs.Follow.{Free, Same, same-free, same-grows, follow-stays, follow-below}
@@ -21,11 +21,11 @@ pub progress-stays : (pack : Pack) (log log′ : Log) (replies replies′ : List
     ((p t : ℕ) → Same log log′ p id t) → replyTo id replies′ ≡ replyTo id replies →
     Progress pack log replies id r → Progress pack log′ replies′ id r
 progress-stays pack log log′ replies replies′ id r same reply (underway t f none-from not-yet) =
-    underway t (follow-stays log log′ id (codeOf pack (r .request)) (r .request) (r .moveCount) (at (r .course) t)
+    underway t (follow-stays log log′ id (requestCode pack (r .request)) (r .request) (r .moveCount) (at (r .course) t)
     (same-grows log log′ id same) f)
     (λ p t′ h. same-free log log′ p id t′ (same p t′) (none-from p t′ h)) (reply ∙ not-yet)
 progress-stays pack log log′ replies replies′ id r same reply (over v f e) =
-    over v (follow-stays log log′ id (codeOf pack (r .request)) (r .request) (r .moveCount) (finished v) (same-grows log log′ id same) f)
+    over v (follow-stays log log′ id (requestCode pack (r .request)) (r .request) (r .moveCount) (finished v) (same-grows log log′ id same) f)
     (reply ∙ e)
 
 -- and what the machine has of it, if its run stays
@@ -57,7 +57,7 @@ come-to pack log replies id r p n l = go (le-cases n (r .moveCount) l) (come pac
         (st : Stage) × (followed pack log id (r .request) n ≡ some st)
     go (inl e) h = (h .0, ap (followed pack log id (r .request)) e ∙ h .1)
     go (inr u) h =
-        let b = follow-below log id (codeOf pack (r .request)) (r .request) (r .moveCount) (h .0) n u (h .1) in
+        let b = follow-below log id (requestCode pack (r .request)) (r .request) (r .moveCount) (h .0) n u (h .1) in
         (at (b .0) (b .1), b .2)
 
 -- A run r of the machine moves on to r₁. The store goes from s to s′ with the same book and with no new log row for another id.

@@ -9,7 +9,7 @@ use Rattle.questions.specs.Basics.{update}
 use Rattle.rules.specs.Instructions.{Pack}
 use Rattle.rules.specs.Blocks.{Result}
 use Rattle.rules.specs.Store.{Request, Log, Store}
-use Rattle.rules.specs.Logged.{codeOf, Stage, at, finished, follow}
+use Rattle.rules.specs.Logged.{requestCode, Stage, at, finished, follow}
 use Rattle.rules.specs.Calls.{Agent, State}
 use Rattle.rules.specs.Plain.{Reply, Run, Machine, Tally, Tallies, firstReplies}
 use Rattle.questions.proofs.Updates.{update-same, update-other, update-each}
@@ -18,7 +18,7 @@ use Rattle.rules.proofs.Replies.{replyTo}
 
 -- the follow of a request that is booked under this id
 abbrev pub followed : Pack → Log → (id : ℕ) → Request → (moves : ℕ) → Option Stage
-followed pack log id q n = follow log id (codeOf pack q) q n
+followed pack log id q n = follow log id (requestCode pack q) q n
 
 -- How far a booked request has come in all: the machine's run of it is followed by the log; and it is under way with no log row from its
 -- step on and no reply, or it has come to the reply that the machine has given.
@@ -99,7 +99,7 @@ module _ (pack : Pack) (log log′ : Log) (book book′ : Book) (runs runs′ : 
         behind = omega (arith, l .behind, h .further);
         there =
             subst (λ q. followed pack log′ (a .id) q (l .turns) ≡ some (at (a .course) (a .step))) (sym (h .request-is))
-            (follow-stays log log′ (a .id) (codeOf pack (l .run .request)) (l .run .request) (l .turns) (at (a .course) (a .step)) (k .1)
+            (follow-stays log log′ (a .id) (requestCode pack (l .run .request)) (l .run .request) (l .turns) (at (a .course) (a .step)) (k .1)
             (l .there));
       }
 

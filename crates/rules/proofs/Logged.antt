@@ -12,7 +12,7 @@ use Rattle.rules.specs.Blocks.{Result}
 use Rattle.rules.specs.Courses.{Course}
 use Rattle.rules.specs.Store.{Request, Log}
 use Rattle.rules.specs.Checked.{Checked}
-use Rattle.rules.specs.Logged.{codeOf, start, Stage, at, finished, onward, follow, replyOr, replyFrom, replyLogged}
+use Rattle.rules.specs.Logged.{requestCode, start, Stage, at, finished, onward, follow, replyOr, replyFrom, replyLogged}
 use Rattle.questions.proofs.Updates.{none-some}
 use Rattle.rules.proofs.Follow.{Grows, follow-stays, follow-before, follow-below}
 use Rattle.rules.proofs.Positions.{follow-position}
@@ -111,12 +111,12 @@ ends-stay log log′ id code q v g e = (e .0, follow-stays log log′ id code q 
 
 -- of a booked request
 pub logged-ends : (pack : Pack) (log : Log) (id : ℕ) (q : Request) (v : Result) → replyLogged pack log id (some q) ≡ some v →
-    Ends log id (codeOf pack q) q v
+    Ends log id (requestCode pack q) q v
 unfolding replyLogged
-logged-ends pack log id q v e = reply-ends log id (codeOf pack q) q v e
+logged-ends pack log id q v e = reply-ends log id (requestCode pack q) q v e
 
-pub ends-logged : (pack : Pack) (log : Log) (id : ℕ) (q : Request) (v : Result) → Checked (codeOf pack q) →
-    Ends log id (codeOf pack q) q v →
+pub ends-logged : (pack : Pack) (log : Log) (id : ℕ) (q : Request) (v : Result) → Checked (requestCode pack q) →
+    Ends log id (requestCode pack q) q v →
     replyLogged pack log id (some q) ≡ some v
 unfolding replyLogged
-ends-logged pack log id q v checked e = reply-within log id (codeOf pack q) q checked v e
+ends-logged pack log id q v checked e = reply-within log id (requestCode pack q) q checked v e

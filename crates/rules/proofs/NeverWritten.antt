@@ -11,7 +11,7 @@ use Rattle.questions.specs.Basics.{if_then_else_, update, isSome}
 use Rattle.rules.specs.Instructions.{Code, Instruction, SET, END, GET, RETURN, Place, register, next, becomes, act, actAt}
 use Rattle.rules.specs.Instructions.{instructionAt}
 use Rattle.rules.specs.Blocks.{Table, Work, Block, yields, within, runFrom, runBlock}
-use Rattle.rules.specs.NeverWritten.{movedTo, NeverWritten, OfTheCopy}
+use Rattle.rules.specs.NeverWritten.{workAt, NeverWritten, OfTheCopy}
 use Rattle.questions.proofs.Updates.{update-same}
 
 -- d becomes what it holds: no register changes
@@ -24,15 +24,15 @@ module _ (d s : ℕ) (w : Work) (onward : Work → Block) where
 
   -- by what the block sees at the key
   by : (o : Option ℕ) → w .table (register at s) ≡ o →
-      within (act (GET d s) at) w onward ≡ onward (movedTo w (becomes at d (Option·getD o (register at d))))
+      within (act (GET d s) at) w onward ≡ onward (workAt w (becomes at d (Option·getD o (register at d))))
   unfolding act within
-  by o e = ap (λ (found : Option ℕ). onward (movedTo w (becomes at d (Option·getD found (register at d))))) e
+  by o e = ap (λ (found : Option ℕ). onward (workAt w (becomes at d (Option·getD found (register at d))))) e
 
   pub never-written : NeverWritten d s w onward
   unfolding act within
   never-written =
       record {
-        absent = λ e. by none e ∙ ap (λ (to : Place). onward (movedTo w to)) (again at d);
+        absent = λ e. by none e ∙ ap (λ (to : Place). onward (workAt w to)) (again at d);
         present = λ v e. by (some v) e;
         behind-put =
             λ k v e.
@@ -42,7 +42,7 @@ module _ (d s : ℕ) (w : Work) (onward : Work → Block) where
             (λ (found : Option ℕ).
             onward (record { place = becomes (next at) d (Option·getD found (register at d)); table = put; newKeys = n }))
             (ap put e ∙ update-same (w .table) (register at k) (some (register at v)));
-        still-zero = λ e. ap (λ (old : ℕ). onward (movedTo w (becomes at d (Option·getD (w .table (register at s)) old)))) e;
+        still-zero = λ e. ap (λ (old : ℕ). onward (workAt w (becomes at d (Option·getD (w .table (register at s)) old)))) e;
         has = refl;
       }
 
@@ -69,8 +69,8 @@ of-the-copy code from table d s v h first second third e =
     let ahead : length code - suc (from .position) ≡ suc (suc (suc n)) =
     omega (arith, end-below code (suc (suc (suc (from .position)))) d third) in
     let w : Work = record { place = next from; table = table; newKeys = 0 } in
-    let w′ : Work = movedTo w (becomes (next from) d v) in
-    let w″ : Work = movedTo w (next (becomes (next from) d v)) in
+    let w′ : Work = workAt w (becomes (next from) d v) in
+    let w″ : Work = workAt w (next (becomes (next from) d v)) in
     ap (λ (k : ℕ). runFrom code k w .result) ahead
     ∙ ap (λ (b : Block). b .result) (one code (suc (suc n)) w (SET d v) first)
     ∙ ap (λ (b : Block). b .result) (one code (suc n) w′ (GET d s) second)

@@ -11,22 +11,22 @@ use Rattle.rules.specs.Blocks.{Result, yields}
 use Rattle.rules.specs.Courses.{nextBy, nextOf}
 use Rattle.rules.specs.Checked.{Checked}
 use Rattle.rules.specs.Store.{Request, Store}
-use Rattle.rules.specs.Logged.{codeOf, at, follow}
+use Rattle.rules.specs.Logged.{requestCode, at, follow}
 use Rattle.rules.specs.Calls.{codeBy, Agent, State, turn, reply, turnOn, turnIn}
 use Rattle.rules.specs.Plain.{Tally, Tallies, feeds, tallied, oneMore}
 use Rattle.rules.proofs.Positions.{follow-position}
 
 -- an agent of a booked request stands where the log leads that in as many moves as the agent has had turns
-pub record Stands (pack : Pack) (s : Store) (tally : Option Tally) (a : Agent) : Type 0 where
+pub record StandsByLog (pack : Pack) (s : Store) (tally : Option Tally) (a : Agent) : Type 0 where
   pub request : Request
   pub moves : ℕ
   pub counted : tally ≡ some (record { id = a .id; turns = moves })
   pub book-is : s .book (a .id) ≡ some request
-  pub there : follow (s .log) (a .id) (codeOf pack request) request moves ≡ some (at (a .course) (a .step))
+  pub there : follow (s .log) (a .id) (requestCode pack request) request moves ≡ some (at (a .course) (a .step))
 
-module _ (pack : Pack) (s : State) (t : Tallies) (slot : ℕ) (a : Agent) (h : Stands pack (s .store) (t slot) a) where
+module _ (pack : Pack) (s : State) (t : Tallies) (slot : ℕ) (a : Agent) (h : StandsByLog pack (s .store) (t slot) a) where
   abbrev code : Code
-  code = codeOf pack (h .request)
+  code = requestCode pack (h .request)
 
   -- its turn is by its booked workflow
   pub turn-is : turnIn pack s slot (some a) ≡ turnOn s slot a code (nextOf code (a .course))

@@ -9,7 +9,7 @@ use Rattle.questions.specs.Basics.{isSome}
 use Rattle.questions.specs.Questions.{No}
 use Rattle.rules.specs.Instructions.{Pack}
 use Rattle.rules.specs.Store.{Request}
-use Rattle.rules.specs.Logged.{codeOf, replyLogged}
+use Rattle.rules.specs.Logged.{requestCode, replyLogged}
 use Rattle.rules.specs.Calls.{State, Agent, Outcome, refusal, rule, unless, turnIn, turn, call, History, stateAfter}
 use Rattle.rules.specs.Plain.{Reply, Run, Machine, Tallies, accepted, Feed, tallied, talliesOf, machineOf, repliesOf, firstReplies}
 use Rattle.rules.specs.Plain.{eventsAfter, talliesAfter, machineAfter, repliesAfter}
@@ -142,11 +142,11 @@ replied-logged pack checked room calls r h q e =
     let inv = invariant pack room calls in
     let g = inv .core .counterpart (r .id) q e in
     subst (λ x. replyLogged pack (stateAfter pack room calls .store .log) (r .id) (some x) ≡ some (r .value)) (g .request-is)
-    (go (g .run) (subst (λ (x : Request). Checked (codeOf pack x)) (sym (g .request-is))
+    (go (g .run) (subst (λ (x : Request). Checked (requestCode pack x)) (sym (g .request-is))
     (checked (q .workflow) (inv .core .valid (r .id) q e))) (g .progress)
     (inv .core .settled r h))
   where
-    go : (run : Run) → Checked (codeOf pack (run .request)) →
+    go : (run : Run) → Checked (requestCode pack (run .request)) →
         Progress pack (stateAfter pack room calls .store .log) (machineAfter pack room calls .replies) (r .id) run →
         replyTo (r .id) (machineAfter pack room calls .replies) ≡ some (r .value) →
         replyLogged pack (stateAfter pack room calls .store .log) (r .id) (some (run .request)) ≡ some (r .value)
@@ -167,7 +167,7 @@ sound-agents pack checked room calls slot a e =
     let live = inv .slots slot a e in
     let book = live .book-is in
     let p =
-    follow-position (codeOf pack (live .run .request))
+    follow-position (requestCode pack (live .run .request))
     (checked (live .run .request .workflow) (inv .core .valid (a .id) (live .run .request) book))
     (stateAfter pack room calls .store .log) (a .id) (live .run .request) (live .turns) (a .course) (a .step) (live .there) in
     record { request = live .run .request; booked = book; below = p .1; side = p .2; steps = p .3 }

@@ -12,9 +12,9 @@ use Rattle.rules.specs.Instructions.{Code, Pack, Place}
 use Rattle.rules.specs.Blocks.{Table, Result, Block, runBlock}
 use Rattle.rules.specs.Courses.{Course, Next, goes, does, says, nextOf}
 use Rattle.rules.specs.Store.{Log, Store, found, withRow, written}
-use Rattle.rules.specs.Logged.{codeOf, Stage, at, finished, behind}
+use Rattle.rules.specs.Logged.{requestCode, Stage, at, finished, behind}
 use Rattle.rules.specs.Calls.{Agent, State, Outcome, withSlot, throughBlock, turnOn, turnIn, turn, withStore}
-use Rattle.rules.specs.Plain.{Reply, Run, Machine, Tally, Tallies, answered, firstReplies, withAnswer, ahead, moveOn}
+use Rattle.rules.specs.Plain.{Reply, Run, Machine, Tally, Tallies, answered, firstReplies, withAnswer, runsWith, moveOn}
 use Rattle.rules.specs.Plain.{move, feeds, fed, fedTurn, fedRun, tallied}
 use Rattle.questions.proofs.Updates.{none-some, false-true, le-cases, T-true, eqb-cases, update-same}
 use Rattle.rules.proofs.Follow.{Free, Same, same-here, Grows, same-grows, free-none, row-grows, row-elsewhere, row-later, row-here}
@@ -22,7 +22,7 @@ use Rattle.rules.proofs.Follow.{follow-stays, follow-below, follow-next
 use Rattle.rules.proofs.Replies.{replyTo, reply-more, reply-other, reply-new, answered-by, answered-first}
 use Rattle.rules.proofs.Invariant.{followed, Progress, underway, over, Live, Inv, Remains, slots-stay, slots-set}
 use Rattle.rules.proofs.Core.{come, come-to, run-ahead, core-moved}
-use Rattle.rules.proofs.Stands.{Stands, turn-is, turn-counted}
+use Rattle.rules.proofs.Stands.{StandsByLog, turn-is, turn-counted}
 
 -- the invariant after what a call did, with the machine and the tallies behind what it feeds; rs are the replies before it
 pub record Keeps (pack : Pack) (m : Machine) (t : Tallies) (rs : List Reply) (o : Outcome) : Type 0 where
@@ -50,7 +50,7 @@ module _
     (book-is : s .store .book id ≡ some (r .request))
   where
     abbrev code : Code
-    code = codeOf pack (r .request)
+    code = requestCode pack (r .request)
 
     -- the agent's slot and the machine's run change together
     front : (s′ : Store) (rs′ : List Reply) (r₁ : Run) (o : Option Agent) (tables : ℕ → Table) (replies : List Reply) →
@@ -113,7 +113,7 @@ module _
     front-moves : (to : Course) → nextOf code (r .course) ≡ goes to →
         followed pack (s .store .log) id (r .request) (suc (r .moveCount)) ≡ some (at to step) →
         Inv pack (withSlot s slot (some (record { id = id; course = to; step = step })))
-        (record { tables = m .tables; runs = ahead m id r to; replies = m .replies })
+        (record { tables = m .tables; runs = runsWith m id r to; replies = m .replies })
         (update t slot (tallyOf id (suc (r .moveCount)))) rs
     front-moves to e f =
         front (s .store) rs (record { request = r .request; course = to; moveCount = suc (r .moveCount) })
@@ -138,7 +138,7 @@ module _
         Inv pack (withSlot s slot none)
         (record {
           tables = m .tables;
-          runs = ahead m id r (r .course);
+          runs = runsWith m id r (r .course);
           replies = m .replies ++ record { id = id; value = v } ∷ [];
         })
         (update t slot (tallyOf id (suc (r .moveCount)))) (record { id = id; value = v } ∷ rs)
@@ -168,7 +168,7 @@ module _
         Inv pack
         (withSlot (withStore s (written (s .store) p id step b)) slot
         (some (record { id = id; course = onto (b .result); step = suc step })))
-        (record { tables = update (s .store .rows) p (b .table); runs = ahead m id r (onto (b .result)); replies = m .replies })
+        (record { tables = update (s .store .rows) p (b .table); runs = runsWith m id r (onto (b .result)); replies = m .replies })
         (update t slot (tallyOf id (suc (r .moveCount)))) rs
     unfolding behind
     front-block from p onto b e =
@@ -208,7 +208,7 @@ module _
     blockDone from p onto T =
         record {
           tables = update T p (runBlock code from (T p) .table);
-          runs = ahead m id r (onto (runBlock code from (T p) .result));
+          runs = runsWith m id r (onto (runBlock code from (T p) .result));
           replies = m .replies;
         }
 
@@ -295,7 +295,7 @@ module _
             absurd (let z : _≡_ {A = ℕ} 0 1 = cc in omega arith)
         go (inr l) _ =
             let b =
-            follow-below (s .store .log) (a .id) (codeOf pack (r .request)) (r .request) (r .moveCount) (in-all .0) (suc k) l (in-all .1) in
+            follow-below (s .store .log) (a .id) (requestCode pack (r .request)) (r .request) (r .moveCount) (in-all .0) (suc k) l (in-all .1) in
             let b₂ = b .2 in
             absurd (let z : _≡_ {A = ℕ} 0 1 = cc in omega arith)
 
@@ -328,9 +328,9 @@ module _
         go w (inl e) = subst (λ (x : Reply). replyTo (x .id) (m .replies) ≡ some (x .value)) (sym e) (ended v f)
         go w (inr h) = inv .core .settled w h
 
-    back-does : (from : Place) (p : ℕ) (onto : Result → Course) → nextOf (codeOf pack (r .request)) (a .course) ≡ does from p onto →
+    back-does : (from : Place) (p : ℕ) (onto : Result → Course) → nextOf (requestCode pack (r .request)) (a .course) ≡ does from p onto →
         (o : Option Result) → found (s .store .log) p (a .id) (a .step) ≡ o →
-        Keeps pack m (update t slot (tallyOf (a .id) (suc k))) rs (throughBlock s slot a (codeOf pack (r .request)) from p onto o)
+        Keeps pack m (update t slot (tallyOf (a .id) (suc k))) rs (throughBlock s slot a (requestCode pack (r .request)) from p onto o)
     unfolding throughBlock behind
     back-does from p onto e none h =
         let n : followed pack (s .store .log) (a .id) (r .request) (suc k) ≡ none =
@@ -339,8 +339,8 @@ module _
     back-does from p onto e (some v) h =
         record { kept = back-moves (onto v) (suc (a .step)) (follow-next _ _ _ _ _ _ _ _ _ there e (ap (behind onto (a .step)) h)) }
 
-    pub back-keeps : (x : Next) → nextOf (codeOf pack (r .request)) (a .course) ≡ x →
-        Keeps pack m (update t slot (tallyOf (a .id) (suc k))) rs (turnOn s slot a (codeOf pack (r .request)) x)
+    pub back-keeps : (x : Next) → nextOf (requestCode pack (r .request)) (a .course) ≡ x →
+        Keeps pack m (update t slot (tallyOf (a .id) (suc k))) rs (turnOn s slot a (requestCode pack (r .request)) x)
     unfolding turnOn
     back-keeps (goes to) e = record { kept = back-moves to (a .step) (follow-next _ _ _ _ _ _ _ _ _ there e refl) }
     back-keeps (says v) e = record { kept = back-returns v (follow-next _ _ _ _ _ _ _ _ _ there e refl) }
@@ -389,11 +389,11 @@ module _
         (Option·some-injective (g .run) r (sym (g .run-is) ∙ live .run-is)) (g .progress)
 
     -- it stands where the log leads its request
-    abbrev pub live-stands : Stands pack (s .store) (t slot) a
+    abbrev pub live-stands : StandsByLog pack (s .store) (t slot) a
     live-stands = record { request = r .request; moves = k; counted = live .tally-is; book-is = live .book-is; there = live .there }
 
     outcome-is : turnIn pack s slot (some a)
-        ≡ turnOn s slot a (codeOf pack (r .request)) (nextOf (codeOf pack (r .request)) (a .course))
+        ≡ turnOn s slot a (requestCode pack (r .request)) (nextOf (requestCode pack (r .request)) (a .course))
     outcome-is = turn-is pack s t slot a live-stands
 
     fed-is : fed pack m t (feeds (turn slot)) ≡ if_then_else_ (ltb (r .moveCount) (suc k)) (move pack m (a .id) r) m
@@ -414,12 +414,12 @@ module _
     front-turn e (underway step f none-from no-reply) =
         keeps-by pack (fed pack m t (feeds (turn slot))) (move pack m (a .id) r) (tallied t (feeds (turn slot)))
         (update t slot (tallyOf (a .id) (suc (r .moveCount)))) rs
-        (turnIn pack s slot (some a)) (turnOn s slot stands (codeOf pack (r .request)) (nextOf (codeOf pack (r .request)) (r .course)))
+        (turnIn pack s slot (some a)) (turnOn s slot stands (requestCode pack (r .request)) (nextOf (requestCode pack (r .request)) (r .course)))
         (fed-is ∙ ap (λ b. if_then_else_ b (move pack m (a .id) r) m) (ltb-yes (r .moveCount) (suc k) (omega arith)))
         (tallied-is ∙ ap (λ n. update t slot (tallyOf (a .id) (suc n))) e)
-        (outcome-is ∙ ap (λ (x : Agent). turnOn s slot x (codeOf pack (r .request)) (nextOf (codeOf pack (r .request)) (x .course))) same)
+        (outcome-is ∙ ap (λ (x : Agent). turnOn s slot x (requestCode pack (r .request)) (nextOf (requestCode pack (r .request)) (x .course))) same)
         (front-keeps pack s m t rs inv slot (a .id) r step (live .run-is) f none-from no-reply (live .book-is)
-        (nextOf (codeOf pack (r .request)) (r .course)) refl)
+        (nextOf (requestCode pack (r .request)) (r .course)) refl)
       where
         there : followed pack (s .store .log) (a .id) (r .request) (r .moveCount) ≡ some (at (a .course) (a .step))
         there = ap (followed pack (s .store .log) (a .id) (r .request)) (sym e) ∙ live .there
@@ -441,11 +441,11 @@ module _
         Keeps pack (fed pack m t (feeds (turn slot))) (tallied t (feeds (turn slot))) rs (turnIn pack s slot (some a))
     back-turn l =
         keeps-by pack (fed pack m t (feeds (turn slot))) m (tallied t (feeds (turn slot))) (update t slot (tallyOf (a .id) (suc k))) rs
-        (turnIn pack s slot (some a)) (turnOn s slot a (codeOf pack (r .request)) (nextOf (codeOf pack (r .request)) (a .course)))
+        (turnIn pack s slot (some a)) (turnOn s slot a (requestCode pack (r .request)) (nextOf (requestCode pack (r .request)) (a .course)))
         (fed-is ∙ ap (λ b. if_then_else_ b (move pack m (a .id) r) m) (ltb-no (r .moveCount) (suc k) l))
         tallied-is outcome-is
         (back-keeps pack s m t rs inv slot a r k (live .run-is) (live .book-is) progress l (live .there)
-        (nextOf (codeOf pack (r .request)) (a .course)) refl)
+        (nextOf (requestCode pack (r .request)) (a .course)) refl)
 
     pub live-turn : Keeps pack (fed pack m t (feeds (turn slot))) (tallied t (feeds (turn slot))) rs (turnIn pack s slot (some a))
     live-turn = go (le-cases k (r .moveCount) (live .behind))

@@ -11,7 +11,7 @@ use Rattle.rules.specs.Instructions.{Code, Pack, Place}
 use Rattle.rules.specs.Blocks.{Result, runBlock, rowsNeeded}
 use Rattle.rules.specs.Courses.{Course, Next, goes, does, says, nextOf}
 use Rattle.rules.specs.Store.{Request, sameRequest, Store, freshStore, rowsPerRequest, booked, found, written}
-pub use Rattle.rules.specs.Logged.{codeOf, start}
+pub use Rattle.rules.specs.Logged.{requestCode, start}
 
 -- an agent in a slot: id, where it stands, step number
 pub record Agent : Type 0 where
@@ -48,7 +48,7 @@ pub data Answer : Type 0 where
 -- the code of an agent's workflow, by what the book has of its id: it is there, by question 14
 abbrev pub codeBy : Pack → Option Request → Code
 codeBy pack none = []
-codeBy pack (some q) = codeOf pack q
+codeBy pack (some q) = requestCode pack q
 
 -- If the id is known, are workflow and arguments those booked?
 abbrev pub asBooked : Request → Option Request → Bool

@@ -8,7 +8,7 @@ use lib.ListN.{length}
 use Rattle.rules.specs.Instructions.{Pack}
 use Rattle.rules.specs.Blocks.{Result}
 use Rattle.rules.specs.Store.{Request}
-use Rattle.rules.specs.Calls.{Call, codeOf, Agent, State, History, turn, reply, stateAfter, answerTo}
+use Rattle.rules.specs.Calls.{Call, requestCode, Agent, State, History, turn, reply, stateAfter, answerTo}
 use Rattle.rules.specs.Plain.{Reply, accepted, machineAfter, talliesAfter, repliesAfter, firstReplies}
 use Rattle.rules.specs.Shapes.{outside}
 use Rattle.rules.specs.Checked.{sideAt, CheckedPack}
@@ -22,8 +22,8 @@ pub record InTime (pack : Pack) (room : ℕ) (calls : History) (slot : ℕ) : Ty
   pub in-slot : stateAfter pack room calls .slots slot ≡ some agent
   pub counted : talliesAfter pack room (turn slot ∷ calls) slot ≡ some (record { id = agent .id; turns = turns })
   pub booked : stateAfter pack room calls .store .book (agent .id) ≡ some request
-  pub at-most : turns ≤ length (codeOf pack request)
-  pub last : turns ≡ length (codeOf pack request) → (value : Result) × (answerTo pack room calls (turn slot) ≡ reply (agent .id) value)
+  pub at-most : turns ≤ length (requestCode pack request)
+  pub last : turns ≡ length (requestCode pack request) → (value : Result) × (answerTo pack room calls (turn slot) ≡ reply (agent .id) value)
 
 -- What holds after the calls.
 pub record PlainRun (pack : Pack) (room : ℕ) (calls : History) : Type 0 where
@@ -47,6 +47,6 @@ Demand3 = (pack : Pack) → CheckedPack pack → (room : ℕ) (calls : List Call
 pub record SoundAgent (pack : Pack) (s : State) (a : Agent) : Type 0 where
   pub request : Request
   pub booked : s .store .book (a .id) ≡ some request
-  pub below : a .course .place .position < length (codeOf pack request)
-  pub side : sideAt (codeOf pack request) (a .course .place .position) ≡ outside
+  pub below : a .course .place .position < length (requestCode pack request)
+  pub side : sideAt (requestCode pack request) (a .course .place .position) ≡ outside
   pub steps : a .step ≤ a .course .place .position

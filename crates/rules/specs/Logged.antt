@@ -11,8 +11,8 @@ use Rattle.rules.specs.Courses.{Course, going, Next, goes, does, says, n
 use Rattle.rules.specs.Store.{Request, Log, found}
 
 -- the code of a booked request's workflow
-abbrev pub codeOf : Pack → Request → Code
-codeOf pack q = getD pack (q .workflow) []
+abbrev pub requestCode : Pack → Request → Code
+requestCode pack q = getD pack (q .workflow) []
 
 -- A started agent has position 0, step 0, the arguments in registers 0 to 3, zero in 4 to 7.
 abbrev pub start : Request → Course
@@ -61,7 +61,7 @@ replyFrom log id code (suc ahead) stage = replyOr stage (replyFrom log id code a
 -- (`reply-within`). What isn't booked has none.
 unfoldable pub replyLogged : Pack → Log → (id : ℕ) → Option Request → Option Result
 replyLogged pack log id none = none
-replyLogged pack log id (some q) = replyFrom log id (codeOf pack q) (length (codeOf pack q)) (some (at (start q) 0))
+replyLogged pack log id (some q) = replyFrom log id (requestCode pack q) (length (requestCode pack q)) (some (at (start q) 0))
 
 -- Logged through: the log leads through to the reply.
 abbrev pub loggedThrough : Pack → Log → (id : ℕ) → Option Request → Bool

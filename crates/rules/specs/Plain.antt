@@ -9,7 +9,7 @@ use Rattle.rules.specs.Instructions.{Code, Pack}
 use Rattle.rules.specs.Blocks.{Table, Result, runBlock}
 use Rattle.rules.specs.Courses.{Course, Next, goes, does, says, nextOf}
 use Rattle.rules.specs.Store.{Request}
-use Rattle.rules.specs.Logged.{codeOf, start}
+use Rattle.rules.specs.Logged.{requestCode, start}
 use Rattle.rules.specs.Calls.{Call, arrival, retry, turn, crash, restart, order, stopped, History, answerTo}
 use Rattle.rules.specs.Calls.{Answer, done, moved, reply, refused}
 
@@ -46,8 +46,8 @@ booking m id q =
     }
 
 -- the run of this id stands elsewhere, and the number of its moves rises by 1
-abbrev pub ahead : Machine → (id : ℕ) → Run → Course → (id : ℕ) → Option Run
-ahead m id r to = update (m .runs) id (some (record { request = r .request; course = to; moveCount = suc (r .moveCount) }))
+abbrev pub runsWith : Machine → (id : ℕ) → Run → Course → (id : ℕ) → Option Run
+runsWith m id r to = update (m .runs) id (some (record { request = r .request; course = to; moveCount = suc (r .moveCount) }))
 
 -- A move of a run, by what its agent does next: what a turn does, but a block runs on the machine's table as one whose log row isn't
 -- found, writes no log row and always has room; a reply goes to the end of the replies.
@@ -55,21 +55,21 @@ unfoldable pub moveOn : Machine → (id : ℕ) → Run → Code → Next → Mac
 moveOn m id r code (says v) =
     record {
       tables = m .tables;
-      runs = ahead m id r (r .course);
+      runs = runsWith m id r (r .course);
       replies = m .replies ++ record { id = id; value = v } ∷ [];
     }
 moveOn m id r code (does from p onto) =
     let b = runBlock code from (m .tables p) in
     record {
       tables = update (m .tables) p (b .table);
-      runs = ahead m id r (onto (b .result));
+      runs = runsWith m id r (onto (b .result));
       replies = m .replies;
     }
-moveOn m id r code (goes to) = record { tables = m .tables; runs = ahead m id r to; replies = m .replies }
+moveOn m id r code (goes to) = record { tables = m .tables; runs = runsWith m id r to; replies = m .replies }
 
 -- Move (id), of the run that the machine has of it.
 unfoldable pub move : Pack → Machine → (id : ℕ) → Run → Machine
-move pack m id r = moveOn m id r (codeOf pack (r .request)) (nextOf (codeOf pack (r .request)) (r .course))
+move pack m id r = moveOn m id r (requestCode pack (r .request)) (nextOf (requestCode pack (r .request)) (r .course))
 
 -- ── What it is fed ──
 

@@ -17,7 +17,7 @@ use Rattle.questions.specs.declared.Verdict.{Verdict}
 use Rattle.questions.specs.declared.Verdict.the-variants.{Accepted, Refused}
 use Rattle.questions.proofs.Questions.{ask-none, orElse-none}
 use Rattle.questions.proofs.Tests.{and-right}
-use Rattle.store.specs.Layout.{partsOf, capOf, sizeOf}
+use Rattle.store.specs.Layout.{partsOf, capOf, storeLength}
 use Rattle.store.specs.Questions.{numbersRight, question9, createRefusal}
 use Rattle.store.specs.Created.{Created}
 use Rattle.store.specs.Sound.{Sound}
@@ -36,7 +36,7 @@ use Rattle.chain.proofs.Theorem.{sized}
 use Rattle.schedule_check.specs.Layout.{eventCount}
 use Rattle.schedule_check.specs.Questions.{bytesRefusal, Allowed, scheduleRefusal}
 use Rattle.schedule.specs.Events.{callAt, callsOf}
-use Rattle.schedule.specs.Run.{madeIn, answerLines, Run, Printed}
+use Rattle.schedule.specs.Run.{madeIn, answerLines, WholeRun, Printed}
 use Rattle.schedule.specs.Going.{Going, Went}
 use Rattle.schedule_check.proofs.Steps.{laid}
 
@@ -57,7 +57,7 @@ verdict-none (some n) e = let z : _≡_ {A = ℕ} 0 1 = cc in absurd (omega arit
 
 -- a create on a store of that length is accepted, and begins a list of calls
 pub fresh-chain : (pack s xs ys : List ℕ) (P C : ℕ) (v : Verdict) → P ≡ partsOf s → C ≡ capOf s → Allowed s →
-    length xs ≡ sizeOf (partsOf s) (capOf s) → Created xs ys P C v
+    length xs ≡ storeLength (partsOf s) (capOf s) → Created xs ys P C v
     → Chain pack (partsOf s) (capOf s) [] (record { store = ys; records = replicate 8 noAgent })
 unfolding createRefusal ask
 fresh-chain pack s xs ys P C v p q h l c =
@@ -65,21 +65,21 @@ fresh-chain pack s xs ys P C v p q h l c =
     (subst (λ (k : ℕ). Created xs ys (partsOf s) k v) q (subst (λ (k : ℕ). Created xs ys k C v) p c)))
   where
     accepts : verdictOf (createRefusal (partsOf s) (capOf s) (length xs)) ≡ Accepted
-    accepts = rw (h .numbers, eq-eqb (length xs) (sizeOf (partsOf s) (capOf s)) l) refl
+    accepts = rw (h .numbers, eq-eqb (length xs) (storeLength (partsOf s) (capOf s)) l) refl
 
     accepted : (P C : ℕ) → Created xs ys (partsOf s) (capOf s) v → Created xs ys (partsOf s) (capOf s) Accepted
     accepted P C c = subst (λ (x : Verdict). Created xs ys (partsOf s) (capOf s) x) (c .answer ∙ accepts) c
 
 -- the longest store
-pub size-fits : (P C : ℕ) → numbersRight P C ≡ true → (P ≤ 8) × (C ≤ 256) × (sizeOf P C ≤ 27669)
+pub size-fits : (P C : ℕ) → numbersRight P C ≡ true → (P ≤ 8) × (C ≤ 256) × (storeLength P C ≤ 27669)
 size-fits P C h =
     let n = numbers-mean P C h in
     let p : P + 1 ≤ 9 = omega (arith, n .1) in
     let m : (P + 1) * C ≤ 9 * 256 = mul-le-mul p (n .3) in
     (n .1, n .3, omega arith)
 
-pub size-as : (P C P′ C′ r : ℕ) → r ≡ sizeOf P′ C′ → P′ ≡ P → C′ ≡ C → r ≡ sizeOf P C
-size-as P C P′ C′ r e p q = e ∙ ap (λ x. sizeOf x C′) p ∙ ap (sizeOf P) q
+pub size-as : (P C P′ C′ r : ℕ) → r ≡ storeLength P′ C′ → P′ ≡ P → C′ ≡ C → r ≡ storeLength P C
+size-as P C P′ C′ r e p q = e ∙ ap (λ x. storeLength x C′) p ∙ ap (storeLength P) q
 
 -- ---- calls in a row
 
@@ -145,7 +145,7 @@ chain-sound {pack} {P} {C} {events} {store} {records} h =
 
 pub prints : {pack s out : List ℕ} {e a b r : ℕ} {store out1 out2 out3 : List ℕ} → e ≡ eventCount s →
     Appended out 0 (eventsLine e) out1 a → Went pack s out1 a store out2 b
-    → Appended out2 b (storeText store) out3 r → Run pack s (take r out3)
+    → Appended out2 b (storeText store) out3 r → WholeRun pack s (take r out3)
 prints {r = r} {store = store} {out3 = out3} q x w z =
     let g = w .going in
     record {
@@ -161,7 +161,7 @@ module _ (p s : List ℕ) (v : Verdict) (said : v ≡ verdictOf (scheduleRefusal
   pub none-said : v ≡ Accepted → scheduleRefusal p s ≡ none
   none-said e = verdict-none _ (sym e ∙ said)
 
-  pub printed-run : (text : List ℕ) → v ≡ Accepted → Run p s text → Printed p s text
+  pub printed-run : (text : List ℕ) → v ≡ Accepted → WholeRun p s text → Printed p s text
   printed-run text e r =
       record {
         refused = λ n q. let f = none-said e in let z : _≡_ {A = ℕ} 0 1 = cc in absurd (omega arith);

@@ -13,7 +13,7 @@ use Rattle.questions.proofs.Each.{each-at}
 use Rattle.agents.specs.declared.Agent.{Agent}
 use Rattle.agents.specs.declared.Answer.{Answer}
 use Rattle.meaning.specs.Carried.{Carried}
-use Rattle.schedule_check.specs.Layout.{requestCount, eventCount, idOf, workflowOf, argumentsOf, kindAt, slotAt}
+use Rattle.schedule_check.specs.Layout.{requestCount, eventCount, requestId, requestWorkflow, requestArguments, kindAt, slotAt}
 use Rattle.schedule_check.specs.Questions.{eventRight, rightAt, question23}
 use Rattle.schedule.specs.Events.{callOf, callAt}
 
@@ -28,13 +28,13 @@ same-call {pack} {store} {records} {answer} {records′} {store′} c c′ e h =
 
 -- the words of a request
 module _ (s : List ℕ) (slot r : ℕ) where
-  pub retries : (id : ℕ) → id ≡ le 4 s (6 + 24 * r) → retry slot (idOf s r) ≡ retry slot id
+  pub retries : (id : ℕ) → id ≡ le 4 s (6 + 24 * r) → retry slot (requestId s r) ≡ retry slot id
   retries id e = rw (add-zero (6 + 24 * r), ← e) refl
 
   pub arrives : (id w a0 a1 a2 a3 : ℕ) → id ≡ le 4 s (6 + 24 * r) → w ≡ le 4 s (6 + 24 * r + 4) → a0 ≡ le 4 s (6 + 24 * r + 8) →
       a1 ≡ le 4 s (6 + 24 * r + 12)
       → a2 ≡ le 4 s (6 + 24 * r + 16) → a3 ≡ le 4 s (6 + 24 * r + 20)
-      → arrival slot (idOf s r) (workflowOf s r) (argumentsOf s r) ≡ arrival slot id w (a0 ∷ a1 ∷ a2 ∷ a3 ∷ [])
+      → arrival slot (requestId s r) (requestWorkflow s r) (requestArguments s r) ≡ arrival slot id w (a0 ∷ a1 ∷ a2 ∷ a3 ∷ [])
   arrives id w a0 a1 a2 a3 e0 e1 e2 e3 e4 e5 = rw (add-zero (6 + 24 * r), ← e0, ← e1, ← e2, ← e3, ← e4, ← e5) refl
 
 -- an arrival and a retry name a request that is there
@@ -48,7 +48,7 @@ names-3 g kind r e h = ltb-true r g (subst (λ (k : ℕ). eventRight g k r ≡ t
 
 -- the call, by its kind
 module _ (s : List ℕ) (kind slot r : ℕ) where
-  pub kind-0 : kind ≡ 0 → callOf s kind slot r ≡ arrival slot (idOf s r) (workflowOf s r) (argumentsOf s r)
+  pub kind-0 : kind ≡ 0 → callOf s kind slot r ≡ arrival slot (requestId s r) (requestWorkflow s r) (requestArguments s r)
   unfolding callOf
   kind-0 e = rw e refl
 
@@ -60,7 +60,7 @@ module _ (s : List ℕ) (kind slot r : ℕ) where
   unfolding callOf
   kind-2 e = rw e refl
 
-  pub kind-3 : kind ≡ 3 → callOf s kind slot r ≡ retry slot (idOf s r)
+  pub kind-3 : kind ≡ 3 → callOf s kind slot r ≡ retry slot (requestId s r)
   unfolding callOf
   kind-3 e = rw e refl
 

@@ -33,7 +33,7 @@ pub record Ran (pack schedule : List ℕ) (n : ℕ) (events : List Event) (store
   pub calls : madeIn events ≡ callsOf schedule n
 
 -- A whole run prints the event total, the answers, and the store that is left.
-pub record Run (pack schedule : List ℕ) (text : List ℕ) : Type 0 where
+pub record WholeRun (pack schedule : List ℕ) (text : List ℕ) : Type 0 where
   pub events : List Event
   pub store : List ℕ
   pub records : List Agent
@@ -43,4 +43,4 @@ pub record Run (pack schedule : List ℕ) (text : List ℕ) : Type 0 where
 -- What the program prints of any pack and schedule: only the first no, or else the run.
 pub record Printed (pack schedule : List ℕ) (text : List ℕ) : Type 0 where
   pub refused : (n : No) → scheduleRefusal pack schedule ≡ some n → text ≡ refusedLine (n .question)
-  pub run : scheduleRefusal pack schedule ≡ none → Run pack schedule text
+  pub run : scheduleRefusal pack schedule ≡ none → WholeRun pack schedule text

@@ -7,8 +7,8 @@ ghost use mathlib.Core.Path.{_≡_};
 ghost use Prim.Native.Nat.{_<_};
 ghost use Rattle.rules.specs.Calls.{Call};
 ghost use Rattle.meaning.specs.Carried.{Carried};
-ghost use Rattle.schedule_check.specs.Layout.{requestCount, eventCount, idOf, workflowOf, argumentsOf};
-ghost use Rattle.schedule_check.specs.Questions.{Laid, Allowed, eventRight};
+ghost use Rattle.schedule_check.specs.Layout.{requestCount, eventCount, requestId, requestWorkflow, requestArguments};
+ghost use Rattle.schedule_check.specs.Questions.{ScheduleLaid, Allowed, eventRight};
 ghost use Rattle.schedule.specs.Events.{callOf, callAt};
 
 // The arrival of request `r`.
@@ -20,8 +20,8 @@ fn arrival_of(
     slot: usize,
     r: usize,
 ) -> Outcome
-    requires { ⌜ Laid (now s) × (r < requestCount (now s)) ⌝ }
-    ensures { λ o. ⌜ Carried (now (pack .entry)) (record { store = now (store .entry); records = agents }) (Call.arrival slot (idOf (now (s .entry)) r) (workflowOf (now (s .entry)) r) (argumentsOf (now (s .entry)) r)) (o .answer) (record { store = now (store .exit); records = o .agents }) ⌝ }
+    requires { ⌜ ScheduleLaid (now s) × (r < requestCount (now s)) ⌝ }
+    ensures { λ o. ⌜ Carried (now (pack .entry)) (record { store = now (store .entry); records = agents }) (Call.arrival slot (requestId (now (s .entry)) r) (requestWorkflow (now (s .entry)) r) (requestArguments (now (s .entry)) r)) (o .answer) (record { store = now (store .exit); records = o .agents }) ⌝ }
 {
     let at = 6 + 24 * r;
     let id = words::read32(s, at);
@@ -44,8 +44,8 @@ fn retry_of(
     slot: usize,
     r: usize,
 ) -> Outcome
-    requires { ⌜ Laid (now s) × (r < requestCount (now s)) ⌝ }
-    ensures { λ o. ⌜ Carried (now (pack .entry)) (record { store = now (store .entry); records = agents }) (Call.retry slot (idOf (now (s .entry)) r)) (o .answer) (record { store = now (store .entry); records = o .agents }) ⌝ }
+    requires { ⌜ ScheduleLaid (now s) × (r < requestCount (now s)) ⌝ }
+    ensures { λ o. ⌜ Carried (now (pack .entry)) (record { store = now (store .entry); records = agents }) (Call.retry slot (requestId (now (s .entry)) r)) (o .answer) (record { store = now (store .entry); records = o .agents }) ⌝ }
 {
     let id = words::read32(s, 6 + 24 * r);
     runtime::retry(pack, store, agents, slot, id)
@@ -61,7 +61,7 @@ fn call_of(
     slot: usize,
     r: u8,
 ) -> Outcome
-    requires { ⌜ Laid (now s) × (eventRight (requestCount (now s)) kind r ≡ true) ⌝ }
+    requires { ⌜ ScheduleLaid (now s) × (eventRight (requestCount (now s)) kind r ≡ true) ⌝ }
     ensures { λ o. ⌜ Carried (now (pack .entry)) (record { store = now (store .entry); records = agents }) (callOf (now (s .entry)) kind slot r) (o .answer) (record { store = now (store .exit); records = o .agents }) ⌝ }
 {
     if kind == 0 {

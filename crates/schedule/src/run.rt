@@ -6,11 +6,11 @@ ghost use mathlib.Core.List.{[]};
 ghost use mathlib.Core.Path.{_≡_};
 ghost use Prim.Native.Nat.{_+_, _≤_};
 ghost use lib.ListN.{length, take, replicate};
-ghost use Rattle.store.specs.Layout.{partsOf, capOf, sizeOf};
+ghost use Rattle.store.specs.Layout.{partsOf, capOf, storeLength};
 ghost use Rattle.agents.specs.Slots.{noAgent};
 ghost use Rattle.chain.specs.Chain.{Chain};
 ghost use Rattle.schedule_check.specs.Questions.{Allowed};
-ghost use Rattle.schedule.specs.Run.{Run, Printed};
+ghost use Rattle.schedule.specs.Run.{WholeRun, Printed};
 ghost use Rattle.schedule.specs.Going.{Went};
 
 // Makes the calls of all events, and prints their answers.
@@ -34,8 +34,8 @@ fn run_events(pack: &[u8], s: &[u8], store: &mut [u8], out: &mut [u8], n: usize)
 
 // The run on a store that fits the schedule's P and C.
 fn run_on(pack: &[u8], s: &[u8], store: &mut [u8], out: &mut [u8]) -> usize
-    requires { ⌜ Allowed (now s) × (length (now store) ≡ sizeOf (partsOf (now s)) (capOf (now s))) × (524288 ≤ length (now out)) ⌝ }
-    ensures { λ r. ⌜ Run (now (pack .entry)) (now (s .entry)) (take r (now (out .exit))) × (r ≤ length (now (out .exit))) ⌝ }
+    requires { ⌜ Allowed (now s) × (length (now store) ≡ storeLength (partsOf (now s)) (capOf (now s))) × (524288 ≤ length (now out)) ⌝ }
+    ensures { λ r. ⌜ WholeRun (now (pack .entry)) (now (s .entry)) (take r (now (out .exit))) × (r ≤ length (now (out .exit))) ⌝ }
 {
     let e = words::read16(s, 4) as u64;
     let parts = store::head::partition_count(s);
@@ -49,7 +49,7 @@ fn run_on(pack: &[u8], s: &[u8], store: &mut [u8], out: &mut [u8]) -> usize
 // The run on the first bytes of a buffer.
 fn run_in(pack: &[u8], s: &[u8], store: &mut [u8], out: &mut [u8]) -> usize
     requires { ⌜ Allowed (now s) × (27669 ≤ length (now store)) × (524288 ≤ length (now out)) ⌝ }
-    ensures { λ r. ⌜ Run (now (pack .entry)) (now (s .entry)) (take r (now (out .exit))) × (r ≤ length (now (out .exit))) ⌝ }
+    ensures { λ r. ⌜ WholeRun (now (pack .entry)) (now (s .entry)) (take r (now (out .exit))) × (r ≤ length (now (out .exit))) ⌝ }
 {
     let size = store::head::store_size(store::head::partition_count(s), store::head::capacity(s));
     run_on(pack, s, &mut store[..size], out)

@@ -16,7 +16,7 @@ use Rattle.questions.proofs.Tests.{and-left, and-right}
 use Rattle.store.specs.Layout.{partsOf, capOf}
 use Rattle.store.specs.Questions.{numbersRight, question9}
 use Rattle.schedule_check.specs.Layout.{requestCount, eventCount, lengthFor}
-use Rattle.schedule_check.specs.Questions.{Laid, question22, eventRight, rightAt, question23, bytesRefusal}
+use Rattle.schedule_check.specs.Questions.{ScheduleLaid, question22, eventRight, rightAt, question23, bytesRefusal}
 
 -- the test that the code makes of event i, g and e read before
 module _ (s : List ℕ) (g e i : ℕ) (r : Bool) (is-g : g ≡ requestCount s) (is-e : e ≡ eventCount s)
@@ -32,7 +32,7 @@ module _ (s : List ℕ) (g e i : ℕ) (r : Bool) (is-g : g ≡ requestCount s) (
   event-wrong h = right-as ∙ not-true r h
 
 -- a yes to 22
-pub laid : (s : List ℕ) → question22 s ≡ true → Laid s
+pub laid : (s : List ℕ) → question22 s ≡ true → ScheduleLaid s
 unfolding question22
 laid s h =
     let g = leb (requestCount s) 64 in
@@ -45,7 +45,7 @@ laid s h =
     }
 
 -- a no to 22, and the last of its tests
-pub not-laid : (s : List ℕ) → (Laid s → ⊥) → false ≡ question22 s
+pub not-laid : (s : List ℕ) → (ScheduleLaid s → ⊥) → false ≡ question22 s
 not-laid s f = go (question22 s) refl where
   go : (b : Bool) → question22 s ≡ b → false ≡ question22 s
   go true h = absurd (f (laid s h))

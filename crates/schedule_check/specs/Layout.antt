@@ -18,17 +18,17 @@ abbrev pub lengthFor : (g e : ℕ) → ℕ
 lengthFor g e = 6 + 24 * g + 2 * e
 
 -- a request's six words: id, workflow, arguments
-abbrev pub wordOf : (schedule : List ℕ) → (request j : ℕ) → ℕ
-wordOf s r j = le 4 s (6 + 24 * r + 4 * j)
+abbrev pub requestWord : (schedule : List ℕ) → (request j : ℕ) → ℕ
+requestWord s r j = le 4 s (6 + 24 * r + 4 * j)
 
-abbrev pub idOf : (schedule : List ℕ) → (request : ℕ) → ℕ
-idOf s r = wordOf s r 0
+abbrev pub requestId : (schedule : List ℕ) → (request : ℕ) → ℕ
+requestId s r = requestWord s r 0
 
-abbrev pub workflowOf : (schedule : List ℕ) → (request : ℕ) → ℕ
-workflowOf s r = wordOf s r 1
+abbrev pub requestWorkflow : (schedule : List ℕ) → (request : ℕ) → ℕ
+requestWorkflow s r = requestWord s r 1
 
-abbrev pub argumentsOf : (schedule : List ℕ) → (request : ℕ) → List ℕ
-argumentsOf s r = wordOf s r 2 ∷ wordOf s r 3 ∷ wordOf s r 4 ∷ wordOf s r 5 ∷ []
+abbrev pub requestArguments : (schedule : List ℕ) → (request : ℕ) → List ℕ
+requestArguments s r = requestWord s r 2 ∷ requestWord s r 3 ∷ requestWord s r 4 ∷ requestWord s r 5 ∷ []
 
 -- event byte i: its high four bits are the kind, its low four the slot
 abbrev pub eventByte : (schedule : List ℕ) → (i : ℕ) → ℕ

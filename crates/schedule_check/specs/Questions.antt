@@ -21,7 +21,7 @@ question22 s =
     && eqb (length s) (lengthFor (requestCount s) (eventCount s)))
 
 -- what a yes to 22 says
-pub record Laid (schedule : List ℕ) : Type 0 where
+pub record ScheduleLaid (schedule : List ℕ) : Type 0 where
   pub few-requests : requestCount schedule ≤ 64
   pub few-events : eventCount schedule ≤ 1024
   pub whole : length schedule ≡ lengthFor (requestCount schedule) (eventCount schedule)
@@ -51,7 +51,7 @@ bytesRefusal s =
 
 -- what a yes to all three says
 pub record Allowed (schedule : List ℕ) : Type 0 where
-  pub laid : Laid schedule
+  pub laid : ScheduleLaid schedule
   pub events : question23 schedule ≡ true
   pub numbers : numbersRight (partsOf schedule) (capOf schedule) ≡ true
 

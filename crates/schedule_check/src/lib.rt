@@ -2,7 +2,7 @@
 use questions::Verdict;
 ghost use mathlib.Core.Path.{_≡_};
 ghost use Rattle.questions.specs.Verdicts.{verdictOf};
-ghost use Rattle.schedule_check.specs.Questions.{eventRight, Laid, question22, question23, bytesRefusal, scheduleRefusal};
+ghost use Rattle.schedule_check.specs.Questions.{eventRight, ScheduleLaid, question22, question23, bytesRefusal, scheduleRefusal};
 
 // Is an event's kind at most 4, and its index right for it? There are `g` requests.
 fn event_right(g: u8, kind: u8, index: u8) -> bool
@@ -40,7 +40,7 @@ fn length_right(s: &[u8]) -> bool
 
 // Question 23.
 fn events_right(s: &[u8]) -> bool
-    requires { ⌜ Laid (now s) ⌝ }
+    requires { ⌜ ScheduleLaid (now s) ⌝ }
     ensures { λ r. ⌜ r ≡ question23 (now (s .entry)) ⌝ }
 {
     let g = s[3];

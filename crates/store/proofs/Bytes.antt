@@ -10,7 +10,7 @@ use Rattle.words.specs.Words.{le, fields}
 use Rattle.words.proofs.Laws.{length-fields, fields-part, getD-fields}
 use Rattle.store.specs.Layout.{partsOf, capOf, usedAt, keyAt, valueAt, usedOf}
 use Rattle.store.specs.Rows.{Row, pairs, keysIn, rowsOf}
-use Rattle.store.specs.Sound.{Shape, Formed}
+use Rattle.store.specs.Sound.{Dimensions, Formed}
 use Rattle.store.proofs.Lists.{before, within, length-pairs, keys-pairs, getD-pairs, keys-drop}
 
 -- ---- used counts are the numbers of rows
@@ -81,7 +81,7 @@ module _ (xs : List ℕ) (p : ℕ) where
 
 -- ---- places
 
-module _ (xs : List ℕ) (s : Shape xs) (p : ℕ) (l : p ≤ partsOf xs) where
+module _ (xs : List ℕ) (s : Dimensions xs) (p : ℕ) (l : p ≤ partsOf xs) where
   pub key-within : (i : ℕ) → i < capOf xs → keyAt xs p i + 8 ≤ length xs
   key-within i h = omega (arith, s .size, within (capOf xs) (partsOf xs) p i l h)
 

@@ -14,7 +14,7 @@ use lib.Seq.{ext-getD}
 use Rattle.words.specs.Words.{le, fields}
 use Rattle.words.proofs.Laws.{le-bytes, fields-bytes, length-fields, getD-fields}
 use Rattle.questions.proofs.Tests.{and-right}
-use Rattle.store.specs.Layout.{AllBytes, partsOf, capOf, keysFrom, valuesFrom, sizeOf, usedAt, keyAt, valueAt, usedOf}
+use Rattle.store.specs.Layout.{AllBytes, partsOf, capOf, keysFrom, valuesFrom, storeLength, usedAt, keyAt, valueAt, usedOf}
 use Rattle.store.specs.Rows.{Row, Store, keysIn, lookup, rowsOf, storeOf}
 use Rattle.store.specs.Questions.{ahead, rising}
 use Rattle.store.specs.Sound.{Formed}
@@ -153,7 +153,7 @@ module _ (xs ys : List ℕ) (f : Formed xs) (g : Formed ys) (bx : AllBytes xs) (
   -- stores that hold the same have the same bytes
   pub same-bytes : xs ≡ ys
   same-bytes =
-      ext-getD 0 xs ys (f .shape .size ∙ ap₂ sizeOf parts-same cap-same ∙ sym (g .shape .size))
+      ext-getD 0 xs ys (f .shape .size ∙ ap₂ storeLength parts-same cap-same ∙ sym (g .shape .size))
       (λ j h. go j h (decLt j 1) (decLt j 3) (decLt j (keysFrom (partsOf xs))) (decLt j (valuesFrom (partsOf xs) (capOf xs))))
     where
       go : (j : ℕ) → j < length xs → Dec (j < 1) → Dec (j < 3) → Dec (j < keysFrom (partsOf xs)) →

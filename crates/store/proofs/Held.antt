@@ -16,10 +16,10 @@ use Rattle.words.specs.Words as Words
 use Rattle.words.specs.Words.{le, fields}
 use Rattle.words.proofs.Laws.{le-same}
 use Rattle.questions.specs.Basics.{eachFrom}
-use Rattle.store.specs.Layout.{partsOf, capOf, sizeOf, keysFrom, valuesFrom, usedAt, keyAt, valueAt, usedOf}
+use Rattle.store.specs.Layout.{partsOf, capOf, storeLength, keysFrom, valuesFrom, usedAt, keyAt, valueAt, usedOf}
 use Rattle.store.specs.Rows.{Row, pairs, rowsOf, storeOf, alter}
 use Rattle.store.specs.Questions.{blankRow, partOkAt, partOkBy}
-use Rattle.store.specs.Sound.{Shape, Filled, Formed, Changed}
+use Rattle.store.specs.Sound.{Dimensions, Filled, Formed, Changed}
 use Rattle.store.proofs.Bytes.{used-here, used-past, past-rows}
 use Rattle.store.proofs.Lists.{altered}
 use Rattle.store.specs.Parts.{keysAt, valuesAt, piece, partSize, bytesIn, withPart, usedHeld, firstRows, rowsHeld, Holds}
@@ -97,7 +97,7 @@ module _ (xs ys : List ℕ) (C k v k′ v′ : ℕ) (hk : (i : ℕ) → i < 8 * 
 
 -- ---- a partition's bytes, byte by byte
 
-module _ (P C p : ℕ) (xs : List ℕ) (l : p ≤ P) (s : length xs ≡ sizeOf P C) where
+module _ (P C p : ℕ) (xs : List ℕ) (l : p ≤ P) (s : length xs ≡ storeLength P C) where
   abbrev a₁ : List ℕ
   a₁ = piece 2 (usedAt p) xs
 
@@ -162,7 +162,7 @@ module _ (P C p : ℕ) (xs : List ℕ) (l : p ≤ P) (s : length xs ≡ sizeOf P
       ∙ ap (λ (m : ℕ). getD xs m 0) (sym (sum (valuesAt P C p) (4 * i) j)))
 
 -- The rows of a partition are those that its bytes hold.
-pub rows-by : (xs : List ℕ) (p : ℕ) → Shape xs → p ≤ partsOf xs → usedOf xs p ≤ capOf xs →
+pub rows-by : (xs : List ℕ) (p : ℕ) → Dimensions xs → p ≤ partsOf xs → usedOf xs p ≤ capOf xs →
     rowsOf xs p ≡ rowsHeld (capOf xs) (bytesIn (partsOf xs) (capOf xs) p xs)
 unfolding rowsOf firstRows
 rows-by xs p s l fit =
@@ -174,7 +174,7 @@ rows-by xs p s l fit =
     (values-by (partsOf xs) (capOf xs) p xs l (s .size) _ n)))
 
 -- Question 11 of a partition is that of its bytes by themselves.
-pub part-by : (keys : Bool → List ℕ → Bool) (xs : List ℕ) (p : ℕ) → Shape xs → p ≤ partsOf xs
+pub part-by : (keys : Bool → List ℕ → Bool) (xs : List ℕ) (p : ℕ) → Dimensions xs → p ≤ partsOf xs
     → partOkBy keys xs p ≡ partOkHeld keys (eqb p (partsOf xs)) (capOf xs) (bytesIn (partsOf xs) (capOf xs) p xs)
 unfolding partOkBy
 part-by keys xs p s l =
@@ -192,7 +192,7 @@ part-by keys xs p s l =
 same-numbers : (xs ys : List ℕ) → ((j : ℕ) → j < 3 → getD ys j 0 ≡ getD xs j 0) → (partsOf ys ≡ partsOf xs) × (capOf ys ≡ capOf xs)
 same-numbers xs ys h = (le-same 1 ys xs 0 (λ j a b. h j (omega arith)), le-same 2 ys xs 1 (λ j a b. h j (omega arith)))
 
-same-shape : (xs ys : List ℕ) → ((j : ℕ) → j < 3 → getD ys j 0 ≡ getD xs j 0) → length ys ≡ length xs → Shape xs → Shape ys
+same-shape : (xs ys : List ℕ) → ((j : ℕ) → j < 3 → getD ys j 0 ≡ getD xs j 0) → length ys ≡ length xs → Dimensions xs → Dimensions ys
 same-shape xs ys h l s =
     let e = same-numbers xs ys h in
     record {
@@ -200,10 +200,10 @@ same-shape xs ys h l s =
       parts-high = omega (arith, e .0, s .parts-high);
       cap-low = omega (arith, e .1, s .cap-low);
       cap-high = omega (arith, e .1, s .cap-high);
-      size = l ∙ s .size ∙ sym (ap₂ sizeOf (e .0) (e .1));
+      size = l ∙ s .size ∙ sym (ap₂ storeLength (e .0) (e .1));
     }
 
-module _ (xs : List ℕ) (p : ℕ) (bs : List ℕ) (s : Shape xs) (l : p ≤ partsOf xs) (long : length bs ≡ partSize (capOf xs)) where
+module _ (xs : List ℕ) (p : ℕ) (bs : List ℕ) (s : Dimensions xs) (l : p ≤ partsOf xs) (long : length bs ≡ partSize (capOf xs)) where
   abbrev P : ℕ
   P = partsOf xs
 
@@ -216,10 +216,10 @@ module _ (xs : List ℕ) (p : ℕ) (bs : List ℕ) (s : Shape xs) (l : p ≤ par
   numbers : (partsOf ys ≡ P) × (capOf ys ≡ C)
   numbers = same-numbers xs ys (with-head P C p bs xs l long (s .size))
 
-  size-ys : length ys ≡ sizeOf P C
+  size-ys : length ys ≡ storeLength P C
   size-ys = length-with P C p bs xs l long (s .size) ∙ s .size
 
-  pub with-shape : Shape ys
+  pub with-shape : Dimensions ys
   with-shape = same-shape xs ys (with-head P C p bs xs l long (s .size)) (length-with P C p bs xs l long (s .size)) s
 
   -- p's used count and rows are those of bs

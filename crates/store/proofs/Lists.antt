@@ -15,7 +15,7 @@ use Rattle.words.specs.Words.{le, fields}
 use Rattle.questions.specs.Basics.{if_then_else_}
 use Rattle.questions.proofs.Tests.{and-left, and-right, and-both}
 use Rattle.store.specs.Questions.{keysApart, ahead, rising, keysOk}
-use Rattle.store.specs.Rows.{Row, keysIn, pairs, lookup, placeOf, indexOf, rankOf, rankIn, setValue, insertAt, putRow, newRows}
+use Rattle.store.specs.Rows.{Row, keysIn, pairs, lookup, rowPlace, indexOf, rankOf, rankIn, setValue, insertAt, putRow, newRows}
 use Rattle.store.specs.Rows.{Store, alter}
 
 -- ---- row numbers: row i of partition p of C rows each is p * C + i
@@ -116,8 +116,8 @@ rising-drop (suc j) [] u = u
 rising-drop (suc j) (k ∷ ks) u = rising-drop j ks (and-right (ahead k ks) _ u)
 
 -- the place of a key's row is its place among the keys
-pub place-pairs : (k : ℕ) (ks vs : List ℕ) → length ks ≡ length vs → placeOf k (pairs ks vs) ≡ indexOf k ks
-unfolding pairs placeOf indexOf
+pub place-pairs : (k : ℕ) (ks vs : List ℕ) → length ks ≡ length vs → rowPlace k (pairs ks vs) ≡ indexOf k ks
+unfolding pairs rowPlace indexOf
 place-pairs k [] vs e = refl
 place-pairs k (x ∷ ks) [] e = absurd (omega arith)
 place-pairs k (x ∷ ks) (v ∷ vs) e = ap (λ (n : ℕ). if_then_else_ (eqb x k) 0 (suc n)) (place-pairs k ks vs (omega arith))
@@ -130,59 +130,59 @@ getD-pairs (k ∷ ks) (v ∷ vs) zero e h = refl
 getD-pairs (k ∷ ks) (v ∷ vs) (suc i) e h = getD-pairs ks vs i (omega arith) (omega arith)
 
 -- what a search that found k's row tells, and one that found none
-pub found-lookup : (k : ℕ) (rs : List Row) → placeOf k rs < length rs → lookup k rs ≡ some (getD rs (placeOf k rs) (0, 0) .1)
-unfolding placeOf lookup
+pub found-lookup : (k : ℕ) (rs : List Row) → rowPlace k rs < length rs → lookup k rs ≡ some (getD rs (rowPlace k rs) (0, 0) .1)
+unfolding rowPlace lookup
 found-lookup k [] h = absurd (omega arith)
 found-lookup k (r ∷ rs) h = go (found-lookup k rs) (eqb (r .0) k) refl
   where
-    go : (placeOf k rs < length rs → lookup k rs ≡ some (getD rs (placeOf k rs) (0, 0) .1)) → (b : Bool) → eqb (r .0) k ≡ b
-        → lookup k (r ∷ rs) ≡ some (getD (r ∷ rs) (placeOf k (r ∷ rs)) (0, 0) .1)
+    go : (rowPlace k rs < length rs → lookup k rs ≡ some (getD rs (rowPlace k rs) (0, 0) .1)) → (b : Bool) → eqb (r .0) k ≡ b
+        → lookup k (r ∷ rs) ≡ some (getD (r ∷ rs) (rowPlace k (r ∷ rs)) (0, 0) .1)
     go ih true e = rw e refl
     go ih false e = rw e (ih (le-of-suc-le-suc (rw e at h)))
 
-pub missed-lookup : (k : ℕ) (rs : List Row) → length rs ≤ placeOf k rs → lookup k rs ≡ none
-unfolding placeOf lookup
+pub missed-lookup : (k : ℕ) (rs : List Row) → length rs ≤ rowPlace k rs → lookup k rs ≡ none
+unfolding rowPlace lookup
 missed-lookup k [] h = refl
 missed-lookup k (r ∷ rs) h = go (missed-lookup k rs) (eqb (r .0) k) refl
   where
-    go : (length rs ≤ placeOf k rs → lookup k rs ≡ none) → (b : Bool) → eqb (r .0) k ≡ b → lookup k (r ∷ rs) ≡ none
+    go : (length rs ≤ rowPlace k rs → lookup k rs ≡ none) → (b : Bool) → eqb (r .0) k ≡ b → lookup k (r ∷ rs) ≡ none
     go ih true e = absurd (not-suc-le-zero (rw e at h))
     go ih false e = rw e (ih (le-of-suc-le-suc (rw e at h)))
 
 -- the keys behind a key are greater
-pub rises-below : (k x : ℕ) (rs : List Row) → rising (x ∷ keysIn rs) ≡ true → placeOf k rs < length rs → x < k
-unfolding rising ahead keysIn placeOf
+pub rises-below : (k x : ℕ) (rs : List Row) → rising (x ∷ keysIn rs) ≡ true → rowPlace k rs < length rs → x < k
+unfolding rising ahead keysIn rowPlace
 rises-below k x [] u h = absurd (omega arith)
 rises-below k x (r ∷ rs) u h = go (rises-below k (r .0) rs (and-right (ltb x (r .0)) _ u)) (eqb (r .0) k) refl
   where
     low : x < r .0
     low = ltb-true x (r .0) (and-left (ltb x (r .0)) _ u)
 
-    go : (placeOf k rs < length rs → r .0 < k) → (b : Bool) → eqb (r .0) k ≡ b → x < k
+    go : (rowPlace k rs < length rs → r .0 < k) → (b : Bool) → eqb (r .0) k ≡ b → x < k
     go ih true e = omega (arith, low, eqb-true (r .0) k e)
     go ih false e = omega (arith, low, ih (le-of-suc-le-suc (rw e at h)))
 
 -- a value put at a key: in its row, or in one more where it belongs
-pub put-found : (k v : ℕ) (rs : List Row) → rising (keysIn rs) ≡ true → placeOf k rs < length rs →
-    putRow k v rs ≡ setValue rs (placeOf k rs) v
-unfolding placeOf putRow setValue keysIn rising
+pub put-found : (k v : ℕ) (rs : List Row) → rising (keysIn rs) ≡ true → rowPlace k rs < length rs →
+    putRow k v rs ≡ setValue rs (rowPlace k rs) v
+unfolding rowPlace putRow setValue keysIn rising
 put-found k v [] u h = absurd (omega arith)
 put-found k v (r ∷ rs) u h = go (put-found k v rs (and-right (ahead (r .0) (keysIn rs)) _ u)) (eqb (r .0) k) refl
   where
-    go : (placeOf k rs < length rs → putRow k v rs ≡ setValue rs (placeOf k rs) v) → (b : Bool) → eqb (r .0) k ≡ b
-        → putRow k v (r ∷ rs) ≡ setValue (r ∷ rs) (placeOf k (r ∷ rs)) v
+    go : (rowPlace k rs < length rs → putRow k v rs ≡ setValue rs (rowPlace k rs) v) → (b : Bool) → eqb (r .0) k ≡ b
+        → putRow k v (r ∷ rs) ≡ setValue (r ∷ rs) (rowPlace k (r ∷ rs)) v
     go ih true e = rw e refl
     go ih false e =
-        let l : placeOf k rs < length rs = le-of-suc-le-suc (rw e at h) in
+        let l : rowPlace k rs < length rs = le-of-suc-le-suc (rw e at h) in
         let b : r .0 < k = rises-below k (r .0) rs u l in
         rw (e, le-ltb k (r .0) (omega arith)) (ap (_∷_ r) (ih l))
 
-pub put-missed : (k v : ℕ) (rs : List Row) → length rs ≤ placeOf k rs → putRow k v rs ≡ insertAt rs (rankOf k rs) (k, v)
-unfolding placeOf putRow insertAt rankOf
+pub put-missed : (k v : ℕ) (rs : List Row) → length rs ≤ rowPlace k rs → putRow k v rs ≡ insertAt rs (rankOf k rs) (k, v)
+unfolding rowPlace putRow insertAt rankOf
 put-missed k v [] h = refl
 put-missed k v (r ∷ rs) h = go (put-missed k v rs) (eqb (r .0) k) refl (ltb k (r .0)) refl
   where
-    go : (length rs ≤ placeOf k rs → putRow k v rs ≡ insertAt rs (rankOf k rs) (k, v)) → (b : Bool) → eqb (r .0) k ≡ b → (c : Bool) →
+    go : (length rs ≤ rowPlace k rs → putRow k v rs ≡ insertAt rs (rankOf k rs) (k, v)) → (b : Bool) → eqb (r .0) k ≡ b → (c : Bool) →
         ltb k (r .0) ≡ c
         → putRow k v (r ∷ rs) ≡ insertAt (r ∷ rs) (rankOf k (r ∷ rs)) (k, v)
     go ih true e c f = absurd (not-suc-le-zero (rw e at h))

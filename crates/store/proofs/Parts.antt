@@ -11,7 +11,7 @@ use lib.ListN.{length, getD, take, drop, set, length-take, length-drop, length-s
 use lib.Seq.{sets, length-sets, take-at, drop-at, length-take-le, take-all, take-suc, drop-drop}
 use lib.Seq.{getD-set-same, getD-set-other, getD-take, getD-drop, ext-getD}
 use Rattle.words.specs.Words.{Apart}
-use Rattle.store.specs.Layout.{keysFrom, valuesFrom, sizeOf, usedAt}
+use Rattle.store.specs.Layout.{keysFrom, valuesFrom, storeLength, usedAt}
 use Rattle.store.proofs.Lists.{before}
 use Rattle.store.specs.Parts.{keysAt, valuesAt, piece, bytesIn, withPart}
 
@@ -60,7 +60,7 @@ module _ (P C p : ℕ) (l : p ≤ P) where
   pub keys-fit : keysAt P C p + 8 * C ≤ valuesFrom P C
   keys-fit = omega (arith, before C {p = p} {q = P + 1} (omega arith))
 
-  pub values-fit : valuesAt P C p + 4 * C ≤ sizeOf P C
+  pub values-fit : valuesAt P C p + 4 * C ≤ storeLength P C
   values-fit = omega (arith, before C {p = p} {q = P + 1} (omega arith))
 
 -- three runs of stores
@@ -107,7 +107,7 @@ either-side C p q w n = go (decLt q p)
     go (yes h) = inl (omega (arith, mul-add w (q * C) C, mul-le-mul-left w (before C {p = q} {q = p} h)))
     go (no h) = inr (omega (arith, mul-add w (p * C) C, mul-le-mul-left w (before C {p = p} {q = q} (omega arith))))
 
-module _ (P C p : ℕ) (bs xs : List ℕ) (l : p ≤ P) (long : length bs ≡ 2 + 12 * C) (size : length xs ≡ sizeOf P C) where
+module _ (P C p : ℕ) (bs xs : List ℕ) (l : p ≤ P) (long : length bs ≡ 2 + 12 * C) (size : length xs ≡ storeLength P C) where
   abbrev b₁ : List ℕ
   b₁ = take 2 bs
 
@@ -196,7 +196,7 @@ in-part P n j h =
     let z = some (P + 1) n j h in
     record { part = j / n; off = j % n; low = omega (arith, div-lt-iff-lt-mul z .1 h); inside = mod-lt j z; is = sym (div-add-mod' j n) }
 
-module _ (P C : ℕ) (xs ys : List ℕ) (sx : length xs ≡ sizeOf P C) (sy : length ys ≡ sizeOf P C) where
+module _ (P C : ℕ) (xs ys : List ℕ) (sx : length xs ≡ storeLength P C) (sy : length ys ≡ storeLength P C) where
   -- equal bytes of a partition are an equal used count, equal keys and equal values
   module _ (p : ℕ) (l : p ≤ P) (e : bytesIn P C p xs ≡ bytesIn P C p ys) where
     abbrev keys-of : List ℕ → List ℕ
@@ -205,10 +205,10 @@ module _ (P C : ℕ) (xs ys : List ℕ) (sx : length xs ≡ sizeOf P C) (sy : le
     abbrev values-of : List ℕ → List ℕ
     values-of zs = piece (4 * C) (valuesAt P C p) zs
 
-    used-long : (zs : List ℕ) → length zs ≡ sizeOf P C → length (piece 2 (usedAt p) zs) ≡ 2
+    used-long : (zs : List ℕ) → length zs ≡ storeLength P C → length (piece 2 (usedAt p) zs) ≡ 2
     used-long zs h = piece-length 2 (usedAt p) zs (omega arith)
 
-    keys-long : (zs : List ℕ) → length zs ≡ sizeOf P C → length (keys-of zs) ≡ 8 * C
+    keys-long : (zs : List ℕ) → length zs ≡ storeLength P C → length (keys-of zs) ≡ 8 * C
     keys-long zs h = piece-length (8 * C) (keysAt P C p) zs (omega (arith, keys-fit P C p l))
 
     same-used : piece 2 (usedAt p) xs ≡ piece 2 (usedAt p) ys

@@ -17,12 +17,12 @@ use Rattle.questions.proofs.Each.{each-at, each-all}
 use Rattle.keys.proofs.Keys.{log-is, log-no-data, book-is}
 use Rattle.questions.proofs.Tests.{yes-no, and-left, and-right, and-both}
 use Rattle.questions.proofs.Questions.{ask-none, ask-yes}
-use Rattle.store.specs.Layout.{partsOf, capOf, sizeOf, keyAt, valueAt, usedOf}
+use Rattle.store.specs.Layout.{partsOf, capOf, storeLength, keyAt, valueAt, usedOf}
 use Rattle.store.specs.Rows.{Row, Store, pairs, keysIn, lookup, rowsOf, storeOf, putRow, putAll, newRows, countNew, alter}
 use Rattle.store.specs.Questions.{member, unlike, keysApart, ahead, rising, keysOk, blankRow, partOkAt, partOkBy, partOk}
 use Rattle.store.specs.Questions.{allIn, five, bookOk, numbersRight, question9, question10, question11, question12}
 use Rattle.store.specs.Questions.{storeRefusal}
-use Rattle.store.specs.Sound.{Shape, Filled, KeysGood, Sound, Changed, Stored}
+use Rattle.store.specs.Sound.{Dimensions, Filled, KeysGood, Sound, Changed, Stored}
 use Rattle.store.proofs.Bytes.{rows-keys}
 use Rattle.store.proofs.Lists.{length-put, lookup-put-other, alter-here, alter-there}
 
@@ -53,25 +53,25 @@ module _ (xs : List ℕ) where
   unfolding question9
   nine-numbers b h e = rw (le-leb 3 (length xs) h, e) refl
 
-  pub ten-no : (length xs ≡ sizeOf (partsOf xs) (capOf xs) → ⊥) → question10 xs ≡ false
+  pub ten-no : (length xs ≡ storeLength (partsOf xs) (capOf xs) → ⊥) → question10 xs ≡ false
   unfolding question10
-  ten-no n = ne-eqb (length xs) (sizeOf (partsOf xs) (capOf xs)) n
+  ten-no n = ne-eqb (length xs) (storeLength (partsOf xs) (capOf xs)) n
 
-pub shape-of : (xs : List ℕ) → numbersRight (partsOf xs) (capOf xs) ≡ true → length xs ≡ sizeOf (partsOf xs) (capOf xs) → Shape xs
+pub shape-of : (xs : List ℕ) → numbersRight (partsOf xs) (capOf xs) ≡ true → length xs ≡ storeLength (partsOf xs) (capOf xs) → Dimensions xs
 shape-of xs e z =
     let n = numbers-mean (partsOf xs) (capOf xs) e in
     record { parts-low = n .0; parts-high = n .1; cap-low = n .2; cap-high = n .3; size = z }
 
-pub shape-ok : (xs : List ℕ) → question9 xs ≡ true → question10 xs ≡ true → Shape xs
+pub shape-ok : (xs : List ℕ) → question9 xs ≡ true → question10 xs ≡ true → Dimensions xs
 unfolding question9 question10
-shape-ok xs a b = shape-of xs (and-right (leb 3 (length xs)) _ a) (eqb-true (length xs) (sizeOf (partsOf xs) (capOf xs)) b)
+shape-ok xs a b = shape-of xs (and-right (leb 3 (length xs)) _ a) (eqb-true (length xs) (storeLength (partsOf xs) (capOf xs)) b)
 
-pub shape-passes : (xs : List ℕ) → Shape xs → (question9 xs ≡ true) × (question10 xs ≡ true)
+pub shape-passes : (xs : List ℕ) → Dimensions xs → (question9 xs ≡ true) × (question10 xs ≡ true)
 unfolding question9 question10
 shape-passes xs s = (
   nine-numbers xs true (omega (arith, s .size))
       (numbers-pass (partsOf xs) (capOf xs) (s .parts-low) (s .parts-high) (s .cap-low) (s .cap-high)),
-  eq-eqb (length xs) (sizeOf (partsOf xs) (capOf xs)) (s .size),
+  eq-eqb (length xs) (storeLength (partsOf xs) (capOf xs)) (s .size),
 )
 
 -- ---- question 11
@@ -147,7 +147,7 @@ part-passes keys xs p f g =
     (λ i a b. (ap (le 8 xs) (key-there xs p i) ∙ f .blank-keys i a b, ap (le 4 xs) (value-there xs p i) ∙ f .blank-values i a b))
 
 -- bytes of the right shape that pass question 11 are sound, and back
-pub sound-of : (xs : List ℕ) → Shape xs → question11 xs ≡ true → Sound xs
+pub sound-of : (xs : List ℕ) → Dimensions xs → question11 xs ≡ true → Sound xs
 unfolding question11 KeysGood
 sound-of xs s e =
     let one : (p : ℕ) → p ≤ partsOf xs → partOk xs p ≡ true =

@@ -27,8 +27,8 @@ abbrev pub valuesFrom : (P C : ℕ) → ℕ
 valuesFrom P C = 3 + 2 * (P + 1) + 8 * ((P + 1) * C)
 
 -- the length: 3 + 2(P + 1) + 12C(P + 1)
-abbrev pub sizeOf : (P C : ℕ) → ℕ
-sizeOf P C = 3 + 2 * (P + 1) + 12 * ((P + 1) * C)
+abbrev pub storeLength : (P C : ℕ) → ℕ
+storeLength P C = 3 + 2 * (P + 1) + 12 * ((P + 1) * C)
 
 -- where the used count of partition p is
 abbrev pub usedAt : (p : ℕ) → ℕ

@@ -9,7 +9,7 @@ use Rattle.words.specs.Words.{le, fields}
 use Rattle.questions.specs.Basics.{eachFrom, each}
 use Rattle.questions.specs.Questions.{No, number, ask}
 use Rattle.keys.specs.Keys.{bookKey, bookedId, isForm}
-use Rattle.store.specs.Layout.{partsOf, capOf, sizeOf, keyAt, valueAt, usedOf}
+use Rattle.store.specs.Layout.{partsOf, capOf, storeLength, keyAt, valueAt, usedOf}
 use Rattle.store.specs.Rows.{keysIn, rowsOf}
 
 -- P is 1 to 8, C is 5 to 256
@@ -22,7 +22,7 @@ question9 xs = leb 3 (length xs) && numbersRight (partsOf xs) (capOf xs)
 
 -- 10. Is the store's length right?
 unfoldable pub question10 : (xs : List ℕ) → Bool
-question10 xs = eqb (length xs) (sizeOf (partsOf xs) (capOf xs))
+question10 xs = eqb (length xs) (storeLength (partsOf xs) (capOf xs))
 
 -- k is one of ks
 unfoldable pub member : (k : ℕ) → List ℕ → Bool
@@ -121,5 +121,5 @@ orderRefusal xs =
 unfoldable pub createRefusal : (P C length : ℕ) → Option No
 createRefusal P C n =
     ask (number 9) (numbersRight P C)
-    (ask (number 10) (eqb n (sizeOf P C))
+    (ask (number 10) (eqb n (storeLength P C))
     none)

@@ -69,9 +69,9 @@ countNew [] rs = 0
 countNew (k ∷ ks) rs = newRows (lookup k rs) + countNew ks rs
 
 -- the place of k's row, or the number of rows where it has none
-unfoldable pub placeOf : (k : ℕ) → List Row → ℕ
-placeOf k [] = 0
-placeOf k (r ∷ rs) = if eqb (r .0) k then 0 else suc (placeOf k rs)
+unfoldable pub rowPlace : (k : ℕ) → List Row → ℕ
+rowPlace k [] = 0
+rowPlace k (r ∷ rs) = if eqb (r .0) k then 0 else suc (rowPlace k rs)
 
 -- the place of k among keys, or their number where it is not there
 unfoldable pub indexOf : (k : ℕ) → List ℕ → ℕ

@@ -6,17 +6,17 @@ use Prim.Native.Nat.{ℕ, _≤_, _<_}
 use lib.Dec.{eqb}
 use lib.ListN.{length}
 use Rattle.words.specs.Words.{le}
-use Rattle.store.specs.Layout.{partsOf, capOf, sizeOf, keyAt, valueAt, usedOf}
+use Rattle.store.specs.Layout.{partsOf, capOf, storeLength, keyAt, valueAt, usedOf}
 use Rattle.store.specs.Rows.{Row, Store, keysIn, rowsOf, storeOf, alter}
 use Rattle.store.specs.Questions.{keysOk}
 
 -- questions 9 and 10
-pub record Shape (xs : List ℕ) : Type 0 where
+pub record Dimensions (xs : List ℕ) : Type 0 where
   pub parts-low : 1 ≤ partsOf xs
   pub parts-high : partsOf xs ≤ 8
   pub cap-low : 5 ≤ capOf xs
   pub cap-high : capOf xs ≤ 256
-  pub size : length xs ≡ sizeOf (partsOf xs) (capOf xs)
+  pub size : length xs ≡ storeLength (partsOf xs) (capOf xs)
 
 -- of question 11: the used rows of partition p fit, and its unused rows are zero
 pub record Filled (xs : List ℕ) (p : ℕ) : Type 0 where
@@ -26,7 +26,7 @@ pub record Filled (xs : List ℕ) (p : ℕ) : Type 0 where
 
 -- bytes that hold a store
 pub record Formed (xs : List ℕ) : Type 0 where
-  pub shape : Shape xs
+  pub shape : Dimensions xs
   pub filled : (p : ℕ) → p ≤ partsOf xs → Filled xs p
 
 -- of question 11: the keys of every partition are of a form and unlike, and they rise

@@ -2,10 +2,10 @@
 ghost use mathlib.Core.Path.{_≡_};
 ghost use Prim.Native.Nat.{_+_, _*_, _≤_};
 ghost use lib.ListN.{length};
-ghost use Rattle.store.specs.Layout.{partsOf, capOf, sizeOf, keyAt, valueAt};
+ghost use Rattle.store.specs.Layout.{partsOf, capOf, storeLength, keyAt, valueAt};
 ghost use Rattle.store.specs.Rows.{rowsOf};
 ghost use Rattle.store.specs.Questions.{numbersRight};
-ghost use Rattle.store.specs.Sound.{Shape};
+ghost use Rattle.store.specs.Sound.{Dimensions};
 
 // Is P 1 to 8, and C 5 to 256?
 pub fn numbers_right(parts: usize, cap: usize) -> bool
@@ -41,7 +41,7 @@ pub fn capacity(s: &[u8]) -> usize
 
 // How many rows partition `p` has.
 pub fn used_count(s: &[u8], p: usize) -> usize
-    requires { ⌜ Shape (now s) × (p ≤ partsOf (now s)) ⌝ }
+    requires { ⌜ Dimensions (now s) × (p ≤ partsOf (now s)) ⌝ }
     ensures { λ r. ⌜ r ≡ length (rowsOf (now (s .entry)) p) ⌝ }
 {
     words::read16(s, 3 + 2 * p) as usize
@@ -58,14 +58,14 @@ fn times(a: usize, b: usize) -> usize
 // The length of a store.
 pub fn store_size(parts: usize, cap: usize) -> usize
     requires { ⌜ (parts ≤ 8) × (cap ≤ 256) ⌝ }
-    ensures { λ r. ⌜ r ≡ sizeOf parts cap ⌝ }
+    ensures { λ r. ⌜ r ≡ storeLength parts cap ⌝ }
 {
     3 + 2 * (parts + 1) + 12 * times(parts + 1, cap)
 }
 
 // Where the key of row `i` of partition `p` begins.
 pub fn key_place(s: &[u8], p: usize, i: usize) -> usize
-    requires { ⌜ Shape (now s) × (p ≤ partsOf (now s)) × (i ≤ capOf (now s)) ⌝ }
+    requires { ⌜ Dimensions (now s) × (p ≤ partsOf (now s)) × (i ≤ capOf (now s)) ⌝ }
     ensures { λ r. ⌜ r ≡ keyAt (now (s .entry)) p i ⌝ }
 {
     let parts = partition_count(s);
@@ -75,7 +75,7 @@ pub fn key_place(s: &[u8], p: usize, i: usize) -> usize
 
 // Where the value of row `i` of partition `p` begins.
 pub fn value_place(s: &[u8], p: usize, i: usize) -> usize
-    requires { ⌜ Shape (now s) × (p ≤ partsOf (now s)) × (i ≤ capOf (now s)) ⌝ }
+    requires { ⌜ Dimensions (now s) × (p ≤ partsOf (now s)) × (i ≤ capOf (now s)) ⌝ }
     ensures { λ r. ⌜ r ≡ valueAt (now (s .entry)) p i ⌝ }
 {
     let parts = partition_count(s);

@@ -11,7 +11,7 @@ use Rattle.questions.specs.declared.Verdict.the-variants.{Accepted, Refused}
 use Rattle.questions.proofs.Chains.{accepted, or-yes, refused-first}
 use Rattle.questions.proofs.Questions.{ask-none, ask-yes, ask-no}
 use Rattle.store.specs.Questions.{question9, question10, question12}
-use Rattle.store.specs.Sound.{Shape}
+use Rattle.store.specs.Sound.{Dimensions}
 use Rattle.store.proofs.Sound.{shape-ok, shape-passes}
 
 -- the first no of 9 and 10
@@ -34,7 +34,7 @@ module _ (xs : List ℕ) where
   pub no-10 : question9 xs ≡ true → question10 xs ≡ false → shapeNo xs ≡ some (number 10)
   no-10 a e = ask-yes (number 9) (question9 xs) _ a ∙ ask-no (number 10) (question10 xs) none e
 
-  pub shape-yes : Shape xs → shapeNo xs ≡ none
+  pub shape-yes : Dimensions xs → shapeNo xs ≡ none
   shape-yes s = let q = shape-passes xs s in ask-yes (number 9) (question9 xs) _ (q .0) ∙ ask-yes (number 10) (question10 xs) none (q .1)
 
 -- v is the verdict on 9 and 10, and `rows` the answer to 11
@@ -67,7 +67,7 @@ module _ (xs : List ℕ) (rows : Bool) (v : Verdict) (e : v ≡ verdictOf (shape
     pub all-yes : rows ≡ true → question12 xs ≡ true → storeNo xs rows ≡ none
     all-yes t u = passed ∙ ask-yes (number 11) rows _ t ∙ ask-yes (number 12) (question12 xs) none u
 
-pub shape-accepted : (xs : List ℕ) (v : Verdict) → v ≡ verdictOf (shapeNo xs) → v ≡ Accepted → Shape xs
+pub shape-accepted : (xs : List ℕ) (v : Verdict) → v ≡ verdictOf (shapeNo xs) → v ≡ Accepted → Dimensions xs
 shape-accepted xs v e a =
     let n = ask-none (number 9) (question9 xs) _ (accepted v (shapeNo xs) e a) in
     shape-ok xs (n .0) (ask-none (number 10) (question10 xs) none (n .1) .0)

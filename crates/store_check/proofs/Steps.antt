@@ -16,7 +16,7 @@ use Rattle.questions.proofs.Tests.{and-left, and-false}
 use Rattle.store.specs.Layout.{partsOf, capOf, keyAt, valueAt, usedOf}
 use Rattle.store.specs.Rows.{indexOf, keysIn, rowsOf}
 use Rattle.store.specs.Questions.{member, keysApart, keysOk, blankRow, partOkAt, partOkBy, question11InAnyOrder, allIn, bookOk, question12}
-use Rattle.store.specs.Sound.{Shape, Formed, KeysGood, Sound}
+use Rattle.store.specs.Sound.{Dimensions, Formed, KeysGood, Sound}
 use Rattle.store.proofs.Bytes.{count-is, rows-keys, keys-within, values-within}
 use Rattle.store.proofs.Sound.{part-filled}
 
@@ -131,7 +131,7 @@ module _ (xs : List ℕ) (C n k v : ℕ) where
 -- the places of partition p, as they were worked out
 module _ (xs : List ℕ) (p cap n k v : ℕ) (ec : cap ≡ capOf xs) (en : n ≡ length (rowsOf xs p)) (ek : k ≡ keyAt xs p 0)
     (ev : v ≡ valueAt xs p 0) where
-  pub places-within : Shape xs → p ≤ partsOf xs → (k + 8 * cap ≤ length xs) × (v + 4 * cap ≤ length xs)
+  pub places-within : Dimensions xs → p ≤ partsOf xs → (k + 8 * cap ≤ length xs) × (v + 4 * cap ≤ length xs)
   places-within s l =
       let kw = keys-within xs s p l (capOf xs) (omega arith) in
       let vw = values-within xs s p l (capOf xs) (omega arith) in
@@ -157,7 +157,7 @@ module _ (xs : List ℕ) (p n from : ℕ) (ep : p ≡ partsOf xs) (en : n ≡ le
   book-keys s = ap₂ keysOk (sym (eq-eqb (partsOf xs) (partsOf xs) refl)) book-rows ∙ s .keys (partsOf xs) (omega arith)
 
 -- the rows of question 11, whatever their order
-pub formed-of : (xs : List ℕ) → Shape xs → question11InAnyOrder xs ≡ true → Formed xs
+pub formed-of : (xs : List ℕ) → Dimensions xs → question11InAnyOrder xs ≡ true → Formed xs
 unfolding question11InAnyOrder
 formed-of xs s e =
     record {

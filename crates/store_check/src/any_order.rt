@@ -17,7 +17,7 @@ ghost use Rattle.questions.specs.Verdicts.{verdictOf};
 ghost use Rattle.keys.specs.Keys.{bookedId};
 ghost use Rattle.store.specs.Rows.{indexOf};
 ghost use Rattle.store.specs.Questions.{member, keysApart, partOkAt, allIn, five, bookOk, question11InAnyOrder, question12, orderRefusal};
-ghost use Rattle.store.specs.Sound.{Shape, Formed};
+ghost use Rattle.store.specs.Sound.{Dimensions, Formed};
 
 // The place of `key` among the `n` keys from byte `from` on, in whatever order they stand, or `n`. All may have to be read.
 fn index_of(s: &[u8], from: usize, n: usize, key: u64) -> usize
@@ -97,7 +97,7 @@ fn partition_apart(
 
 // The same of each partition. One table of marks serves them all: the mark of partition p is p + 1.
 fn check_each(s: &[u8], marks: &mut [u8]) -> bool
-    requires { ⌜ Shape (now s) × (8179 ≤ length (now marks)) ⌝ }
+    requires { ⌜ Dimensions (now s) × (8179 ≤ length (now marks)) ⌝ }
     ensures { λ r. ⌜ r ≡ question11InAnyOrder (now (s .entry)) ⌝ }
 {
     let parts = partition_count(s);
@@ -117,7 +117,7 @@ fn check_each(s: &[u8], marks: &mut [u8]) -> bool
 
 // Question 11, but not whether the keys rise.
 fn check_partitions(s: &[u8]) -> bool
-    requires { ⌜ Shape (now s) ⌝ }
+    requires { ⌜ Dimensions (now s) ⌝ }
     ensures { λ r. ⌜ r ≡ question11InAnyOrder (now (s .entry)) ⌝ }
 {
     let mut marks = [0u8; 8179];

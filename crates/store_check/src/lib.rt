@@ -22,7 +22,7 @@ ghost use Rattle.questions.specs.Questions.{number, ask};
 ghost use Rattle.questions.specs.Verdicts.{verdictOf};
 ghost use Rattle.store.specs.Questions.{keysOk, blankRow, partOkAt, bookOk};
 ghost use Rattle.store.specs.Questions.{question9, question10, question11, question12, storeRefusal};
-ghost use Rattle.store.specs.Sound.{Shape, Sound};
+ghost use Rattle.store.specs.Sound.{Dimensions, Sound};
 
 // Questions 9 and 10: the first no among them.
 fn check_shape(s: &[u8]) -> Verdict
@@ -113,7 +113,7 @@ pub fn partition_ok(s: &[u8], cap: usize, n: usize, k: usize, v: usize, book: bo
 
 // Question 11. The places of each partition are worked out once.
 fn check_partitions(s: &[u8]) -> bool
-    requires { ⌜ Shape (now s) ⌝ }
+    requires { ⌜ Dimensions (now s) ⌝ }
     ensures { λ r. ⌜ r ≡ question11 (now (s .entry)) ⌝ }
 {
     let parts = partition_count(s);

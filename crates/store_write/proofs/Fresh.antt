@@ -12,7 +12,7 @@ use lib.ListN.{length, getD, set, replicate, length-replicate, getD-replicate, L
 use Rattle.words.specs.Words as Words
 use Rattle.words.specs.Words.{le, put, fields}
 use Rattle.words.proofs.Laws.{le-zero}
-use Rattle.store.specs.Layout.{partsOf, capOf, sizeOf, keyAt, valueAt, usedOf}
+use Rattle.store.specs.Layout.{partsOf, capOf, storeLength, keyAt, valueAt, usedOf}
 use Rattle.store.specs.Rows.{pairs, keysIn, rowsOf, storeOf, emptyStore}
 use Rattle.store.specs.Questions.{numbersRight, keysApart, rising, keysOk, createRefusal}
 use Rattle.store.specs.Sound.{KeysGood, Sound}
@@ -37,7 +37,7 @@ zeros n j = go (decLt j n)
     go (no h) = List·getD-eq-default {A = ℕ} (zeroBytes n) 0 {n = j} (omega (arith, length-replicate {A = ℕ} n 0))
 
 -- what the code writes: zeros, then P, then C
-pub fresh-written : (P C n : ℕ) → n ≡ sizeOf P C → C ≤ 256 → put 2 (set (replicate n 0) 0 P) 1 C ≡ freshBytes P C
+pub fresh-written : (P C n : ℕ) → n ≡ storeLength P C → C ≤ 256 → put 2 (set (replicate n 0) 0 P) 1 C ≡ freshBytes P C
 unfolding Words.put freshBytes
 fresh-written P C n e h =
     let z : n ≡ suc (suc (suc (2 * (P + 1) + 12 * ((P + 1) * C)))) = omega arith in
@@ -45,7 +45,7 @@ fresh-written P C n e h =
     rw (z, high) refl
 
 module _ (P C : ℕ) where
-  long : length (freshBytes P C) ≡ sizeOf P C
+  long : length (freshBytes P C) ≡ storeLength P C
   unfolding freshBytes
   long = let r = length-replicate {A = ℕ} (2 * (P + 1) + 12 * ((P + 1) * C)) 0 in omega arith
 
@@ -98,7 +98,7 @@ module _ (P C : ℕ) where
                     parts-high = omega (arith, fresh-parts);
                     cap-low = omega (arith, fresh-cap);
                     cap-high = omega (arith, fresh-cap);
-                    size = long ∙ sym (ap₂ sizeOf fresh-parts fresh-cap);
+                    size = long ∙ sym (ap₂ storeLength fresh-parts fresh-cap);
                   };
               filled = λ p l.
                   record {
@@ -122,20 +122,20 @@ module _ (xs : List ℕ) (P C : ℕ) (r : Verdict) where
   unfolding createRefusal
   created-9 e a = refused (number 9) (ask-no (number 9) (numbersRight P C) _ e) a
 
-  pub created-10 : numbersRight P C ≡ true → (length xs ≡ sizeOf P C → ⊥) → r ≡ verdictOf (some (number 10)) → Created xs xs P C r
+  pub created-10 : numbersRight P C ≡ true → (length xs ≡ storeLength P C → ⊥) → r ≡ verdictOf (some (number 10)) → Created xs xs P C r
   unfolding createRefusal
   created-10 e n a =
       refused (number 10) (ask-yes (number 9) (numbersRight P C) _ e
-      ∙ ask-no (number 10) (eqb (length xs) (sizeOf P C)) none (ne-eqb (length xs) (sizeOf P C) n)) a
+      ∙ ask-no (number 10) (eqb (length xs) (storeLength P C)) none (ne-eqb (length xs) (storeLength P C) n)) a
 
-  pub created-fresh : (ys : List ℕ) → numbersRight P C ≡ true → length xs ≡ sizeOf P C → ys ≡ freshBytes P C → r ≡ verdictOf none →
+  pub created-fresh : (ys : List ℕ) → numbersRight P C ≡ true → length xs ≡ storeLength P C → ys ≡ freshBytes P C → r ≡ verdictOf none →
       Created xs ys P C r
   unfolding createRefusal
   created-fresh ys e l b a =
       record {
         answer = a ∙ ap verdictOf
             (sym (ask-yes (number 9) (numbersRight P C) _ e
-            ∙ ask-yes (number 10) (eqb (length xs) (sizeOf P C)) none (eq-eqb (length xs) (sizeOf P C) l)));
+            ∙ ask-yes (number 10) (eqb (length xs) (storeLength P C)) none (eq-eqb (length xs) (storeLength P C) l)));
         bytes = λ q. b;
         made = λ q. rw b (fresh-sound P C e, fresh-store P C);
         kept = λ q. absurd (q a);

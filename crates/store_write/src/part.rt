@@ -11,7 +11,7 @@ ghost use lib.ListN.{length, take, drop};
 ghost use Rattle.store.specs.Layout.{partsOf, capOf};
 ghost use Rattle.store.specs.Parts.{partSize, withPart, Holds};
 ghost use Rattle.store.specs.Rows.{Row, rowsOf};
-ghost use Rattle.store.specs.Sound.{Shape, Formed};
+ghost use Rattle.store.specs.Sound.{Dimensions, Formed};
 
 // Copies `m` rows of partition `p` of a store, from row `i` on, behind the first `n` rows of the buffer.
 pub(crate) fn copy_rows(part: &mut [u8], n: usize, s: &[u8], p: usize, i: usize, m: usize)
@@ -36,7 +36,7 @@ pub fn add_row(part: &mut [u8], cap: usize, n: usize, key: u64, value: u32)
 
 // Writes the buffer to partition `p` of the store: its used count, all its keys, all its values. Every change of a row is written here.
 pub fn copy_back(s: &mut [u8], p: usize, part: &[u8])
-    requires { ⌜ Shape (now s) × (p ≤ partsOf (now s)) × (length (now part) ≡ partSize (capOf (now s))) ⌝ }
+    requires { ⌜ Dimensions (now s) × (p ≤ partsOf (now s)) × (length (now part) ≡ partSize (capOf (now s))) ⌝ }
     ensures { λ _. ⌜ now (s .exit) ≡ withPart (partsOf (now (s .entry))) (capOf (now (s .entry))) p (now (part .entry)) (now (s .entry)) ⌝ }
 {
     let cap = capacity(s);

@@ -103,8 +103,8 @@ module _ (pack store : List ℕ) (a : Agent) (h : a .id < 2 ^ 32) (t : Turnable 
   pub below : w < count pack
   below = workflow-below pack store (a .id) w h (booked-of-13 pack store (t .right)) booked-row
 
-  meant : (a .position < length (Calls.codeOf (packOf pack) request))
-      × (sideAt (Calls.codeOf (packOf pack) request) (a .position) ≡ outside) × (a .step ≤ a .position)
+  meant : (a .position < length (Calls.requestCode (packOf pack) request))
+      × (sideAt (Calls.requestCode (packOf pack) request) (a .position) ≡ outside) × (a .step ≤ a .position)
   meant = sound-meant pack (t .accepted) w below a request refl (subst (λ (o : Option Request). isSound pack a o ≡ true) booked (t .sound))
 
   pub in-size : a .position < sizeOf pack w

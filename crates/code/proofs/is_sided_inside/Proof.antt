@@ -9,7 +9,7 @@ use Rattle.code.proofs.is_sided_inside.Statement.{statement}
 use Rattle.code.proofs.is_sided_inside.Tie as tie
 
 -- where the instruction stands right, its landing is the answer
-stood : (c : tie.Then1) → stands (c .before .before .before .args .row .side) true ≡ true
+stood : (c : tie.Then1) → stands (c .before .before .before .args .entry .side) true ≡ true
 stood c = sym (c .before .stands-on .ensures) ∙ c .if1 .taken
 
 pub is-sided-inside-spec : {M : Type 1} → statement M

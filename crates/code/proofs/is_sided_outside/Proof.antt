@@ -9,7 +9,7 @@ use Rattle.code.proofs.is_sided_outside.Statement.{statement}
 use Rattle.code.proofs.is_sided_outside.Tie as tie
 
 -- where the instruction stands right, its landing is the answer
-stood : (c : tie.Then1) → stands (c .before .before .before .args .row .side) false ≡ true
+stood : (c : tie.Then1) → stands (c .before .before .before .args .entry .side) false ≡ true
 stood c = sym (c .before .stands-on .ensures) ∙ c .if1 .taken
 
 pub is-sided-outside-spec : {M : Type 1} → statement M

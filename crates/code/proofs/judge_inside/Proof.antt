@@ -5,22 +5,22 @@ use mathlib.Core.Path.{_≡_, refl, sym, _∙_, ap}
 use mathlib.Core.Bool.{true, false}
 use Rattle.questions.specs.Questions.{ask}
 use Rattle.questions.specs.Verdicts.{verdictOf}
-use Rattle.operation.specs.Operations.{rowOf}
+use Rattle.operation.specs.Operations.{entryOf}
 use Rattle.code.specs.Layout.{operationAt, wordAt}
 use Rattle.code.specs.Questions.{question4, question5, question6, question7}
 use Rattle.code.proofs.Judged.{judged, asked-5, asked-6, ranged-operand, inside-7}
 use Rattle.code.proofs.judge_inside.Statement.{statement}
 use Rattle.code.proofs.judge_inside.Tie as tie
 
-module _ (c : tie.After-row-of) where
-  -- at the table: the row is the operation's, the word is the instruction's
+module _ (c : tie.After-entry-of) where
+  -- at the table: the entry is the operation's, the word is the instruction's
   word-known : let a = c .before .before .before .before .before .before .before .args in
       c .before .before .before .read32 .result ≡ wordAt (a .operands .now) (a .at)
   word-known = c .before .before .before .read32 .ensures
 
-  row-known : let a = c .before .before .before .before .before .before .before .args in
-      c .row-of .result ≡ rowOf (operationAt (a .ops .now) (a .at))
-  row-known = c .row-of .ensures
+  entry-known : let a = c .before .before .before .before .before .before .before .args in
+      c .entry-of .result ≡ entryOf (operationAt (a .ops .now) (a .at))
+  entry-known = c .entry-of .ensures
 
 q4 : (c : tie.After-is-legal) → let a = c .before .before .before .before .before .args in
     question4 (a .ops .now) (a .at) ≡ c .is-legal .result
@@ -29,13 +29,13 @@ q4 c = sym (c .is-legal .ensures)
 
 q5 : (c : tie.After-is-ranged) → let a = c .before .before .before .before .before .before .before .before .args in
     question5 (a .ops .now) (a .operands .now) (a .at) ≡ c .is-ranged .result
-q5 c = asked-5 _ _ _ _ _ (word-known (c .before)) (row-known (c .before)) _ (c .is-ranged .ensures)
+q5 c = asked-5 _ _ _ _ _ (word-known (c .before)) (entry-known (c .before)) _ (c .is-ranged .ensures)
 
 q6 : (c : tie.After-is-sided-inside) → let a = c .before .before .before .before .before .before .before .before .before .before .args in
     question6 (a .ops .now) (a .operands .now) (a .at) ≡ c .is-sided-inside .result
 q6 c =
     let r = c .before .before .before in
-    asked-6 _ _ _ _ _ (word-known r) (row-known r) true _ (r .before .before .before .before .before .before .before .pre .1 .0)
+    asked-6 _ _ _ _ _ (word-known r) (entry-known r) true _ (r .before .before .before .before .before .before .before .pre .1 .0)
     (c .is-sided-inside .ensures)
 
 yes4 : (c : tie.Else1) → let a = c .before .before .before .before .before .before .args in question4 (a .ops .now) (a .at) ≡ true

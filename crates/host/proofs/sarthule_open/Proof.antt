@@ -6,7 +6,7 @@ use native.Mathlib.Omega.{arith}
 use Rattle.pack.specs.Refusal.{openRefusal}
 use Rattle.pack.proofs.Workflows.{open-laid, open-below}
 use Rattle.agents.proofs.Answers.{accepted-none, refused-some}
-use Rattle.host.specs.Told.{partsOf}
+use Rattle.host.specs.Told.{openedParts}
 use Rattle.host.proofs.Told.{told-short, told-open}
 use Rattle.host.proofs.sarthule_open.Statement.{statement}
 use Rattle.host.proofs.sarthule_open.Tie as tie
@@ -18,7 +18,7 @@ opens : (c : tie.After-enum-told) → let a =
 opens c = accepted-none _ _ (c .before .before .before .before .before .before .before .open .ensures) (c .enum-told .given .1)
 
 pub sarthule-open-spec : {M : Type 1} → statement M
-unfolding partsOf
+unfolding openedParts
 sarthule-open-spec =
     tie.close
     (tie.spec

@@ -33,8 +33,8 @@ got-spec =
     let k = dk .data-key .ensures in
     let v = m .g .given .0 .0 in
     rw (c .at-place .ensures)
-    (step-get (rowsOf (a .store .now) (a .partition)) (a .x) (st .set .result) (s .pre .2) (a .d) (a .s) (k .1) (some v)
-    (got-some _ _ (rw (k .0) at (sv .seen-value .ensures)) v (m .g .given .1)) (st .set .ensures)))
+    (step-get (rowsOf (a .store .now) (a .partition)) (a .x) (st .with-register .result) (s .pre .2) (a .d) (a .s) (k .1) (some v)
+    (got-some _ _ (rw (k .0) at (sv .seen-value .ensures)) v (m .g .given .1)) (st .with-register .ensures)))
     (λ c.
     let st = c .before in
     let m = st .before in
@@ -44,5 +44,5 @@ got-spec =
     let a = s .args in
     let k = dk .data-key .ensures in
     rw (c .at-place2 .ensures)
-    (step-get (rowsOf (a .store .now) (a .partition)) (a .x) (st .set2 .result) (s .pre .2) (a .d) (a .s) (k .1) none
-    (got-none _ _ (rw (k .0) at (sv .seen-value .ensures)) (m .enum-told .given .1)) (st .set2 .ensures))))
+    (step-get (rowsOf (a .store .now) (a .partition)) (a .x) (st .with-register2 .result) (s .pre .2) (a .d) (a .s) (k .1) none
+    (got-none _ _ (rw (k .0) at (sv .seen-value .ensures)) (m .enum-told .given .1)) (st .with-register2 .ensures))))

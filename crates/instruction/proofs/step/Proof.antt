@@ -21,7 +21,7 @@ step-spec =
     let ro = so .before in
     let oo = ro .before in
     let st = oo .before .before in
-    get-step _ _ _ _ (ro .register-of .ensures) (so .source-of .ensures .0) (st .pre .1 .sourced) _ _ _
+    get-step _ _ _ _ (ro .register-of .ensures) (so .register-named .ensures .0) (st .pre .1 .sourced) _ _ _
     (sym (oo .operation-of .ensures) ∙ c .before .if1 .taken) (c .got .ensures))
     (λ c κs.
     let so = c .before .before in
@@ -33,15 +33,15 @@ step-spec =
     let ro = so .before in
     let oo = ro .before in
     let st = oo .before .before in
-    put-step _ _ _ _ (ro .register-of .ensures) (so .source-of .ensures .0) (st .pre .1 .sourced) _ _ _
-    (sym (oo .operation-of .ensures) ∙ c .before .if2 .taken) (c .put .ensures (rowsOf (st .args .store .now) (st .args .partition))))
+    put-step _ _ _ _ (ro .register-of .ensures) (so .register-named .ensures .0) (st .pre .1 .sourced) _ _ _
+    (sym (oo .operation-of .ensures) ∙ c .before .if2 .taken) (c .put-value .ensures (rowsOf (st .args .store .now) (st .args .partition))))
     (λ c κs. search needs)
     (λ c.
     let so = c .before .before .before .before in
     let ro = so .before in
     let oo = ro .before in
     let st = oo .before .before in
-    has-step _ _ _ _ (ro .register-of .ensures) (so .source-of .ensures .0) (st .pre .1 .sourced) _ _ _
+    has-step _ _ _ _ (ro .register-of .ensures) (so .register-named .ensures .0) (st .pre .1 .sourced) _ _ _
     (sym (oo .operation-of .ensures) ∙ c .before .if3 .taken) (c .tested .ensures))
     (λ c κs.
     let e3 = c .before in

@@ -5,7 +5,7 @@ use mathlib.Core.Path.{_≡_, sym, ap, ap₂, _∙_}
 use native.Mathlib.Omega.{arith}
 use borrow.Author.Tests.{not-true, not-false}
 use Rattle.questions.specs.Verdicts.{verdictOf}
-use Rattle.store.specs.Layout.{partsOf, capOf, sizeOf}
+use Rattle.store.specs.Layout.{partsOf, capOf, storeLength}
 use Rattle.store.specs.Questions.{numbersRight}
 use Rattle.store.proofs.Sound.{numbers-mean, nine-short, nine-numbers, ten-no, shape-of}
 use Rattle.store_check.proofs.Asked.{no-9, no-10, shape-yes}
@@ -28,10 +28,10 @@ right c = numbers (c .before) ∙ not-false _ (c .if2 .left)
 -- the length that was worked out
 size : (z : tie.After-store-size) →
     let xs = z .before .before .before .before .before .before .before .args .s .now in
-    z .store-size .result ≡ sizeOf (partsOf xs) (capOf xs)
+    z .store-size .result ≡ storeLength (partsOf xs) (capOf xs)
 size z =
     let n = z .before .before in
-    z .store-size .ensures ∙ ap₂ sizeOf (n .before .before .partition-count .ensures) (n .before .capacity .ensures)
+    z .store-size .ensures ∙ ap₂ storeLength (n .before .before .partition-count .ensures) (n .before .capacity .ensures)
 
 pub check-shape-spec : {M : Type 1} → statement M
 check-shape-spec =

@@ -8,7 +8,7 @@ use lib.ListN.{length, getD}
 use Rattle.rules.specs.Instructions.{act}
 use Rattle.store.specs.Rows.{rowsOf}
 use Rattle.code.specs.Meaning.{instructionOf}
-use Rattle.operation.specs.Operations.{end}
+use Rattle.operation.specs.Operations.{opEnd}
 use Rattle.code.specs.Layout.{operationAt, wordAt}
 use Rattle.instruction.specs.Step.{placeOf, putsOf, Stepped}
 use Rattle.block.specs.Run.{Inside, runOf}
@@ -89,7 +89,7 @@ run-on-spec =
     let lp = il .before .before in
     let st = lp .before .before .before .before in
     let a = st .args in
-    let n : operationAt (a .ops .now) (lp .loop .x .place .position) ≡ end → ⊥ = λ q. el .if2 .left (oo .operation-of .ensures ∙ q) in (
+    let n : operationAt (a .ops .now) (lp .loop .x .place .position) ≡ opEnd → ⊥ = λ q. el .if2 .left (oo .operation-of .ensures ∙ q) in (
       goes-further (a .ops .now) (a .operands .now) (st .pre .0) (rowsOf (a .store .now) (a .partition)) (lp .loop .x) (c .step .result)
           (il .if1 .taken) (lp .loop .inv .0) n (stepped c) .inside,
       sym (runs-on (a .ops .now) (a .operands .now) (st .pre .0) (rowsOf (a .store .now) (a .partition)) (lp .loop .x) (c .step .result)

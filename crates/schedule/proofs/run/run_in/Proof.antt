@@ -5,7 +5,7 @@ use native.Mathlib.Omega.{arith}
 use lib.ListN.{length}
 use lib.Seq.{length-take-le}
 use denote.Ref.{now}
-use Rattle.store.specs.Layout.{partsOf, capOf, sizeOf}
+use Rattle.store.specs.Layout.{partsOf, capOf, storeLength}
 use borrow.Author.Needs.{needs}
 use Rattle.schedule.proofs.Goes.{size-fits, size-as}
 use Rattle.schedule.proofs.run.run_in.Statement.{statement}
@@ -13,7 +13,7 @@ use Rattle.schedule.proofs.run.run_in.Tie as tie
 
 -- the length of the store, and that it fits
 sized : (c : tie.After-store-size) →
-    c .store-size .result ≡ sizeOf (partsOf (now (c .before .before .before .before .before .before .before .args .s)))
+    c .store-size .result ≡ storeLength (partsOf (now (c .before .before .before .before .before .before .before .args .s)))
     (capOf (now (c .before .before .before .before .before .before .before .args .s)))
 sized c = size-as _ _ _ _ _ (c .store-size .ensures) (c .before .before .partition-count .ensures) (c .before .capacity .ensures)
 

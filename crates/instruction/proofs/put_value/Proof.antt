@@ -1,12 +1,12 @@
--- `instruction::put` meets its contract.
+-- `instruction::put_value` meets its contract.
 use borrow.Author.Needs.{needs}
 use Rattle.keys.proofs.Keys.{data-is}
 use Rattle.instruction.proofs.Steps.{step-put}
-use Rattle.instruction.proofs.put.Statement.{statement}
-use Rattle.instruction.proofs.put.Tie as tie
+use Rattle.instruction.proofs.put_value.Statement.{statement}
+use Rattle.instruction.proofs.put_value.Tie as tie
 
-pub put-spec : {M : Type 1} → statement M
-put-spec =
+pub put-value-spec : {M : Type 1} → statement M
+put-value-spec =
     tie.close
     (tie.spec
     (λ c. search needs)

@@ -1,11 +1,11 @@
--- `instruction::set` meets its contract.
+-- `instruction::with_register` meets its contract.
 use borrow.Author.Needs.{needs}
 use Rattle.instruction.proofs.Steps.{becomes-at}
-use Rattle.instruction.proofs.set.Statement.{statement}
-use Rattle.instruction.proofs.set.Tie as tie
+use Rattle.instruction.proofs.with_register.Statement.{statement}
+use Rattle.instruction.proofs.with_register.Tie as tie
 
-pub set-spec : {M : Type 1} → statement M
-set-spec =
+pub with-register-spec : {M : Type 1} → statement M
+with-register-spec =
     tie.close
     (tie.spec
     (λ c. search needs)
