@@ -2,8 +2,11 @@
 use mathlib.Core.List.{List, [], _∷_}
 use mathlib.Core.Option.{Option, none, some}
 use Prim.Native.Nat.{ℕ}
+use lib.Dec.{eqb}
 use lib.ListN.{length}
-use Rattle.questions.specs.Questions.{No}
+use Rattle.words.specs.Words.{le}
+use Rattle.questions.specs.Basics.{if_then_else_}
+use Rattle.questions.specs.Questions.{No, no, Placed}
 use Rattle.rules.specs.Blocks.{yields}
 use Rattle.rules.specs.Calls.{Answer, done, moved, reply, refused}
 use Rattle.agents.specs.declared.Agent.{Agent}
@@ -26,6 +29,23 @@ valuesOf (refused n) = n .question ∷ n .workflow ∷ n .instruction ∷ []
 -- the answer buffer with words of 4 bytes each from its start on
 abbrev pub withWords : (answer words : List ℕ) → List ℕ
 withWords answer words = puts 4 answer 0 words (length words)
+
+-- The answer that a host reads, from the number returned and the words in the answer buffer: back from number and words. (100 and 101,
+-- of a wrong buffer, are no answer of a call.)
+unfoldable pub heard : (number : ℕ) (answer : List ℕ) → Option Answer
+heard number answer =
+    if eqb number 0 then some done
+    else if eqb number 1 then some moved
+    else if eqb number 2 then some (reply (le 4 answer 0) (yields (le 4 answer 4)))
+    else if eqb number 3 then some (refused (no (le 4 answer 0) (le 4 answer 4) (le 4 answer 8)))
+    else none
+
+-- a refusal names a place of a pack, which fits into its words
+abbrev pub PlaceFits : Answer → Type 0
+PlaceFits done = Unit {0}
+PlaceFits moved = Unit {0}
+PlaceFits (reply id value) = Unit {0}
+PlaceFits (refused n) = Placed n
 
 -- what questions come to where nothing else is done
 unfoldable pub judged : Option No → Answer

@@ -2,15 +2,17 @@
 ghost use mathlib.Core.Bool.{true};
 ghost use mathlib.Core.Path.{_≡_};
 ghost use mathlib.Core.List.{[], _∷_};
-ghost use mathlib.Core.Option.{Option};
+ghost use mathlib.Core.Option.{Option, some};
 ghost use Prim.Native.Nat.{_%_, _^_, _≤_};
 ghost use lib.ListN.{length};
 ghost use Rattle.questions.specs.Questions.{No};
 ghost use Rattle.questions.specs.Verdicts.{verdictOf};
+ghost use Rattle.rules.specs.Calls as Rules;
 ghost use Rattle.rules.specs.Plain.{accepted};
 ghost use Rattle.agents.specs.Answers.{answerOf};
 ghost use Rattle.slots.specs.Records.{puts, slotsIn};
-ghost use Rattle.answers.specs.Answers.{numberOf, valuesOf, withWords, judged, slotsAfter};
+ghost use Rattle.answers.specs.Answers.{numberOf, valuesOf, withWords, heard, PlaceFits, judged};
+ghost use Rattle.answers.specs.Answers.{slotsAfter};
 use agents::Agent;
 use agents::Answer;
 use agents::Outcome;
@@ -36,7 +38,9 @@ fn write_words(answer: &mut [u8], x: u32, y: u32, z: u32)
 // Writes an answer's three words, and gives its number.
 pub fn write_answer(answer: &mut [u8], a: Answer) -> u32
     requires { ⌜ 12 ≤ length (now answer) ⌝ }
-    ensures { λ r. ⌜ (r ≡ numberOf (answerOf a)) × (now (answer .exit) ≡ withWords (now (answer .entry)) (valuesOf (answerOf a))) ⌝ }
+    ensures { λ r. ⌜ (r ≡ numberOf (answerOf a))
+        × (now (answer .exit) ≡ withWords (now (answer .entry)) (valuesOf (answerOf a))) ⌝ }
+    ensures { λ r. ⌜ (PlaceFits (answerOf a) → heard r (now (answer .exit)) ≡ some (answerOf a)) ⌝ }
 {
     match a {
         Answer::Done => {
@@ -59,6 +63,32 @@ pub fn write_answer(answer: &mut [u8], a: Answer) -> u32
             write_words(answer, question as u32, low(workflow), low(instruction));
             3
         }
+    }
+}
+
+// The answer that a number and the words in the answer buffer say.
+pub fn read_answer(number: u32, answer: &[u8]) -> Answer
+    requires { ⌜ 12 ≤ length (now answer) ⌝ }
+    ensures { λ r. ⌜ ((a : Rules.Answer) → heard number (now (answer .entry)) ≡ some a → PlaceFits a → answerOf r ≡ a) ⌝ }
+{
+    if number == 0 {
+        return Answer::Done;
+    }
+    if number == 1 {
+        return Answer::Moved;
+    }
+    let first = words::read32(answer, 0);
+    let second = words::read32(answer, 4);
+    if number == 2 {
+        return Answer::Reply {
+            id: first,
+            value: second,
+        };
+    }
+    Answer::Refused {
+        question: (first % 256) as u8,
+        workflow: second as usize,
+        instruction: words::read32(answer, 8) as usize,
     }
 }
 
@@ -112,7 +142,9 @@ pub fn write_back(slots: &mut [u8], a: Answer, agents: [Agent; 8])
 // What a call left goes to the slots' bytes, and what it answered to the answer buffer.
 pub fn finish(slots: &mut [u8], answer: &mut [u8], o: Outcome) -> u32
     requires { ⌜ (length (now slots) ≡ 384) × (12 ≤ length (now answer)) ⌝ }
-    ensures { λ r. ⌜ (r ≡ numberOf (answerOf (o .answer))) × (now (answer .exit) ≡ withWords (now (answer .entry)) (valuesOf (answerOf (o .answer)))) ⌝ }
+    ensures { λ r. ⌜ (r ≡ numberOf (answerOf (o .answer)))
+        × (now (answer .exit) ≡ withWords (now (answer .entry)) (valuesOf (answerOf (o .answer)))) ⌝ }
+    ensures { λ r. ⌜ (PlaceFits (answerOf (o .answer)) → heard r (now (answer .exit)) ≡ some (answerOf (o .answer))) ⌝ }
     ensures { λ _. ⌜ now (slots .exit) ≡ slotsAfter (answerOf (o .answer)) (now (slots .entry)) (o .agents) ⌝ }
     ensures { λ _. ⌜ (accepted (answerOf (o .answer)) ≡ true → slotsIn (now (slots .exit)) ≡ o .agents) ⌝ }
 {

@@ -1,61 +1,75 @@
-// The call of a case, made on a copy of its store and of its records.
-use agents::Agent;
+// The call of a case, made by the exported functions, as a host makes it, on a copy of its store and of its records.
 use agents::Answer;
-use agents::Outcome;
-use agents::Request;
 ghost use mathlib.Core.Path.{_≡_};
+ghost use Prim.Native.Nat.{_≤_};
 ghost use lib.ListN.{length};
+ghost use Rattle.host.specs.Exports.{Exported};
+ghost use Rattle.cases.specs.Made.{callBy, CaseMade};
 
-// A call of the runtime that gets records: 3 arrival, 4 retry, 5 turn, 6 crash, otherwise restart.
-fn runtime_call(
+// A call that gets records: 3 arrival, 4 retry, 5 turn, 6 crash, otherwise restart.
+fn export_call(
     pack: &[u8],
     store: &mut [u8],
-    agents: [Agent; 8],
+    records: &mut [u8],
     call: u8,
     w: [u32; 7],
-) -> Outcome {
+    answer: &mut [u8],
+) -> u32
+    requires { ⌜ (call ≡ 9 → ⊥) ⌝ }
+    ensures { λ r. ⌜ Exported (now (pack .entry)) (now (store .entry)) (now (records .entry)) (now (answer .entry))
+        (callBy call w) r (now (store .exit)) (now (records .exit)) (now (answer .exit)) ⌝ }
+{
     let slot = w[0] as usize;
     if call == 3 {
-        let q = Request {
-            workflow: w[2],
-            a0: w[3],
-            a1: w[4],
-            a2: w[5],
-            a3: w[6],
-        };
-        return runtime::arrival(pack, store, agents, slot, w[1], q);
+        return host::sarthule_arrival(
+            pack,
+            store,
+            records,
+            slot,
+            w[1],
+            w[2],
+            w[3],
+            w[4],
+            w[5],
+            w[6],
+            answer,
+        );
     }
     if call == 4 {
-        return runtime::retry(pack, store, agents, slot, w[1]);
+        return host::sarthule_retry(pack, store, records, slot, w[1], answer);
     }
     if call == 5 {
-        return runtime::turn(pack, store, agents, slot);
+        return host::sarthule_turn(pack, store, records, slot, answer);
     }
     if call == 6 {
-        return runtime::crash(pack, store, agents, slot);
+        return host::sarthule_crash(pack, store, records, slot, answer);
     }
-    runtime::restart()
+    host::sarthule_restart(records, answer)
 }
 
-// The call by its byte: 0 check, 1 open, 2 create, 9 order, and those of the runtime that get records.
+// The call by its byte: 0 check, 1 open, 2 create, 9 order, and those that get records. Its answer is what the number and the words say.
 pub fn make_call(pack: &[u8], store: &mut [u8], records: &mut [u8], call: u8, w: [u32; 7]) -> Answer
     requires { ⌜ length (now records) ≡ 384 ⌝ }
+    ensures { λ r. ⌜ CaseMade call w (now (pack .entry)) (now (store .entry)) (now (records .entry)) r
+        (now (store .exit)) (now (records .exit)) ⌝ }
 {
+    let mut answer = [0u8; 28];
     if call == 0 {
-        return answers::judge(pack::check(pack));
+        let number = host::sarthule_check(pack, &mut answer);
+        return answers::read_answer(number, &answer);
     }
     if call == 1 {
-        return answers::judge(pack::open(pack, w[0]));
+        let number = host::sarthule_open(pack, w[0], &mut answer);
+        return answers::read_answer(number, &answer);
     }
     if call == 2 {
-        return answers::judge(store_write::create::create(store, w[0] as usize, w[1] as usize));
+        let number = host::sarthule_create(store, w[0] as usize, w[1] as usize, &mut answer);
+        return answers::read_answer(number, &answer);
     }
     if call == 9 {
-        return runtime::order(store);
+        let number = host::sarthule_order(store, &mut answer);
+        return answers::read_answer(number, &answer);
     }
-    let o = runtime_call(pack, store, slots::read_slots(records), call, w);
-    let agents = o.agents;
-    let answer = o.answer;
-    answers::write_back(records, answer, agents);
-    answer
+    let number = export_call(pack, store, records, call, w, &mut answer);
+    answers::read_answer(number, &answer)
 }

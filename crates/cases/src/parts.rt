@@ -36,20 +36,6 @@ pub fn has_parts(c: &[u8]) -> bool
     true
 }
 
-// Is every record in use or not, 1 or 0?
-fn records_right(records: &[u8]) -> bool
-    requires { ⌜ length (now records) ≡ 384 ⌝ }
-{
-    let mut i = 0;
-    while i < 8 {
-        if 1 < words::read32(records, 48 * i) {
-            return false;
-        }
-        i += 1;
-    }
-    true
-}
-
 // Is a byte that of a call, 0 to 7 or 9?
 fn is_call(b: u8) -> bool {
     if b < 8 {
@@ -58,7 +44,7 @@ fn is_call(b: u8) -> bool {
     b == 9
 }
 
-// Is the rest of a call there and in range?
+// Is the rest of a call there, and its call byte in range? The records' words may be any: some make no record, which 14 is asked about.
 pub fn has_call(c: &[u8]) -> bool
     requires { ⌜ HasParts (now c) ⌝ }
     ensures { λ r. ⌜ (r ≡ true → HasCall (now (c .entry))) ⌝ }
@@ -67,10 +53,7 @@ pub fn has_call(c: &[u8]) -> bool
     if c.len() - at < 413 {
         return false;
     }
-    if !is_call(c[at + 384]) {
-        return false;
-    }
-    records_right(&c[at..at + 384])
+    is_call(c[at + 384])
 }
 
 // Where a call ends.
@@ -113,7 +96,8 @@ fn calls_right(calls: &[u8]) -> bool {
     true
 }
 
-// How many bytes the records and calls of a list have that stand behind its store; 0 if they are not there or out of range.
+// How many bytes the records and calls of a list have that stand behind its store; 0 if they are not there or a call byte is out of
+// range.
 pub fn list_bytes(rest: &[u8]) -> usize
     ensures { λ r. ⌜ r ≤ length (now (rest .entry)) ⌝ }
 {
@@ -124,10 +108,8 @@ pub fn list_bytes(rest: &[u8]) -> usize
     if rest.len() < n {
         return 0;
     }
-    if records_right(&rest[0..384]) {
-        if calls_right(&rest[385..n]) {
-            return n;
-        }
+    if calls_right(&rest[385..n]) {
+        return n;
     }
     0
 }

@@ -3,3 +3,4 @@ pub mod Steps
 pub mod Walked
 pub mod Decoded
 pub mod Right
+pub mod Placed

@@ -1,6 +1,6 @@
 -- The promise of the exports for calls, from what the code has in hand.
 use mathlib.Core.Bool.{Bool, true, false}
-use mathlib.Core.List.{List}
+use mathlib.Core.List.{List, []}
 use mathlib.Core.Option.{Option, none, some}
 use mathlib.Core.Path.{_≡_, refl, sym, _∙_, ap, subst}
 use Prim.Native.Nat.{ℕ, _≤_, _<_}
@@ -11,7 +11,7 @@ use Rattle.rules.specs.Calls.{Call, order}
 use Rattle.rules.specs.Calls as Rules
 use Rattle.rules.specs.Plain.{accepted}
 use Rattle.rules.proofs.Calls.{rule-accepted}
-use Rattle.questions.proofs.Tests.{yes-no}
+use Rattle.questions.proofs.Tests.{yes-no, no-yes}
 use Rattle.pack.specs.Meaning.{packOf}
 use Rattle.agents.specs.declared.Agent.{Agent}
 use Rattle.agents.specs.declared.Outcome.{Outcome}
@@ -19,14 +19,32 @@ use Rattle.agents.specs.Answers.{answerOf}
 use Rattle.meaning.specs.State.{stateOf, Lent}
 use Rattle.meaning.specs.Questions.{refusalFor}
 use Rattle.meaning.specs.Carried.{Carried}
+use Rattle.meaning.proofs.Placed.{FromHost, refusal-placed}
 use Rattle.slots.specs.Records.{slotsIn}
-use Rattle.answers.specs.Answers.{numberOf, valuesOf, withWords, slotsAfter}
+use Rattle.answers.specs.Answers.{numberOf, valuesOf, withWords, heard, PlaceFits, slotsAfter}
 use Rattle.answers.specs.Answers as Answers
 use Rattle.agents.specs.declared.Answer.{Answer}
 use Rattle.store.specs.Ordered.{InOrder}
 use Rattle.host.specs.Told.{answerShort}
 use Rattle.host.specs.Exports.{buffersWrong, Exported, PutInOrder}
 use Rattle.host.proofs.Told.{same, missing}
+
+-- every no that a call can be refused with names a place, so that its words have it whole
+pub answer-placed : (pack : List ℕ) (before : Lent) (c : Call) (a : Answer) (after : Lent) → FromHost c → Carried pack before c a after →
+    PlaceFits (answerOf a)
+answer-placed pack before c a after m p = go (refusalFor pack before c) refl
+  where
+    by-rule : (x : Rules.Answer) → accepted x ≡ true → PlaceFits x
+    by-rule Rules.done e = tt
+    by-rule Rules.moved e = tt
+    by-rule (Rules.reply id value) e = tt
+    by-rule (Rules.refused n) e = no-yes e
+
+    go : (r : Option No) → refusalFor pack before c ≡ r → PlaceFits (answerOf a)
+    go none q =
+        subst PlaceFits (sym (p .carried q .0))
+        (by-rule (Rules.rule (packOf pack) (stateOf before) c .answer) (rule-accepted (packOf pack) (stateOf before) c))
+    go (some n) q = subst PlaceFits (sym (p .refused n q .0)) (refusal-placed pack before c m n q)
 
 module _ (pack store slots answer : List ℕ) (c : Call) where
   pub exported-short : length answer < 12 → Exported pack store slots answer c 100 store slots answer
@@ -62,12 +80,13 @@ module _ (pack store slots answer : List ℕ) (c : Call) where
 
     pub exported : 12 ≤ length answer → length slots ≡ 384 → records ≡ slotsIn slots
         → Carried pack (record { store = store; records = records }) c (o .answer) (record { store = store′; records = o .agents })
-        → (number ≡ numberOf (answerOf (o .answer))) × (answer′ ≡ withWords answer (valuesOf (answerOf (o .answer))))
+        → FromHost c → (number ≡ numberOf (answerOf (o .answer))) × (answer′ ≡ withWords answer (valuesOf (answerOf (o .answer))))
+        → (PlaceFits (answerOf (o .answer)) → heard number answer′ ≡ some (answerOf (o .answer)))
         → slots′ ≡ slotsAfter (answerOf (o .answer)) slots (o .agents)
         → (accepted (answerOf (o .answer)) ≡ true → slotsIn slots′ ≡ o .agents)
         → Exported pack store slots answer c number store′ slots′ answer′
     unfolding buffersWrong
-    exported h l r p t w b =
+    exported h l r p m t u w b =
         let e : buffersWrong answer slots ≡ none = rw (le-leb 12 (length answer) h, eq-eqb (length slots) 384 l) refl in
         record {
           wrong = λ n q. absurd (missing (sym e ∙ q));
@@ -77,6 +96,7 @@ module _ (pack store slots answer : List ℕ) (c : Call) where
             bytes = w ∙ ap (slotsAfter (answerOf (o .answer)) slots) (sym back);
             given = t .0;
             words = t .1;
+            read = u (answer-placed pack _ c (o .answer) _ m p);
           };
         }
       where
@@ -107,9 +127,14 @@ pub in-order : (store answer : List ℕ) (number : ℕ) (store′ answer′ : Li
     ((pack : List ℕ) (records : List Agent) →
     Carried pack (record { store = store; records = records }) order said (record { store = store′; records = records }))
     × (accepted (answerOf said) ≡ true → InOrder store store′) →
-    (number ≡ numberOf (answerOf said)) × (answer′ ≡ withWords answer (valuesOf (answerOf said))) →
+    ((number ≡ numberOf (answerOf said)) × (answer′ ≡ withWords answer (valuesOf (answerOf said))))
+    × (PlaceFits (answerOf said) → heard number answer′ ≡ some (answerOf said)) →
     PutInOrder store answer number store′ answer′
 unfolding answerShort
 in-order store answer number store′ answer′ said h c w =
     let e : answerShort 12 answer ≡ none = rw (le-leb 12 (length answer) h) refl in
-    record { short = λ n s. absurd (missing (sym e ∙ s)); served = λ q. (said, c .0, c .1, w .0, w .1) }
+    record { short = λ n s. absurd (missing (sym e ∙ s)); served = λ q. (said, c .0, c .1, w .0 .0, w .0 .1, w .1 placed) }
+  where
+    -- of any pack and any records
+    placed : PlaceFits (answerOf said)
+    placed = answer-placed [] _ order said _ tt (c .0 [] [])

@@ -1,2 +1,2 @@
-mod Told
-mod Exports
+pub mod Told
+pub mod Exports

@@ -2,18 +2,25 @@
 use mathlib.Core.List.{List, [], _∷_, _++_}
 use mathlib.Core.Option.{Option, none, some, Option·getD}
 use mathlib.Core.Path.{_≡_, refl, sym, _∙_, ap, subst}
-use Prim.Native.Nat.{ℕ, _*_, _≤_, _<_}
+use Prim.Native.Nat.{ℕ, zero, suc, _+_, _*_, _^_, _≤_, _<_}
 use native.Mathlib.Omega.{arith}
 use borrow.Author.Tests.{le-leb, lt-leb}
-use lib.ListN.{length}
-use Rattle.questions.specs.Questions.{No}
+use lib.ListN.{length, getD}
+use Rattle.questions.specs.Questions.{No, Placed}
+use Rattle.questions.proofs.Every.{Every}
 use Rattle.rules.specs.Blocks.{yields}
 use Rattle.rules.specs.Calls.{Answer, done, moved, reply, refused}
 use Rattle.questions.specs.declared.Verdict.{Verdict}
-use Rattle.pack.specs.Layout.{sizeOf, operationsAt, operandsAt}
+use Rattle.pack.specs.Layout.{count, sizeOf, operationsAt, operandsAt}
+use Rattle.pack.specs.Laid.{Laid}
+use Rattle.pack.proofs.Placed.{open-placed}
+use Rattle.pack.proofs.Sizes.{operations-within, operands-within}
+use Rattle.pack.proofs.Workflows.{open-laid, open-below}
+use Rattle.meaning.proofs.Placed.{create-placed}
 use Rattle.pack.specs.Refusal.{openRefusal}
 use Rattle.slots.specs.Records.{puts}
 use Rattle.slots.specs.Records as Records
+use Rattle.slots.proofs.Words.{fields-puts}
 use Rattle.store.specs.Questions.{createRefusal}
 use Rattle.store.specs.Created.{Created}
 use Rattle.answers.specs.Answers.{numberOf, valuesOf, withWords, judged}
@@ -37,18 +44,50 @@ told-short need answer a words h =
     let e : answerShort need answer ≡ some 100 = rw (lt-leb need (length answer) h) refl in
     record { short = λ n q. (same (sym e ∙ q), refl); told = λ q. absurd (missing (sym q ∙ e)) }
 
+-- words of 32 bits are read back whole
+abbrev Small : (words : List ℕ) → Type 0
+Small words = (j : ℕ) → getD words j 0 < 256 ^ 4
+
 told-all : (need : ℕ) (answer : List ℕ) (a : Answer) (words : List ℕ) (number : ℕ) (answer′ : List ℕ) → need ≤ length answer
-    → number ≡ numberOf a → answer′ ≡ withWords answer words → Told need answer a words number answer′
+    → 0 + length words * 4 ≤ need → Small words → number ≡ numberOf a → answer′ ≡ withWords answer words
+    → Told need answer a words number answer′
 unfolding answerShort
-told-all need answer a words number answer′ h p q =
+told-all need answer a words number answer′ h l f p q =
     let e : answerShort need answer ≡ none = rw (le-leb need (length answer) h) refl in
-    record { short = λ n s. absurd (missing (sym e ∙ s)); told = λ s. (p, q) }
+    record {
+      short = λ n s. absurd (missing (sym e ∙ s));
+      told = λ s. (p, q, rw q (fields-puts 4 answer 0 words (length words) refl (omega arith) f));
+    }
+
+append-small : (xs ys : List ℕ) → Small xs → Small ys → Small (xs ++ ys)
+append-small [] ys f g j = g j
+append-small (x ∷ xs) ys f g zero = f zero
+append-small (x ∷ xs) ys f g (suc j) = append-small xs ys (λ k. f (suc k)) g j
+
+-- the words of what questions came to, each no of which names a place
+three-words : (o : Option No) → length (valuesOf (judged o)) ≡ 3
+unfolding Answers.valuesOf judged
+three-words none = refl
+three-words (some n) = refl
+
+judged-small : (o : Option No) → Every Placed o → Small (valuesOf (judged o))
+unfolding Answers.valuesOf judged
+judged-small none h zero = omega arith
+judged-small none h (suc zero) = omega arith
+judged-small none h (suc (suc zero)) = omega arith
+judged-small none h (suc (suc (suc j))) = omega arith
+judged-small (some n) h zero = let p = h n refl in omega (arith, p .0)
+judged-small (some n) h (suc zero) = let p = h n refl in omega (arith, p .1)
+judged-small (some n) h (suc (suc zero)) = let p = h n refl in omega (arith, p .2)
+judged-small (some n) h (suc (suc (suc j))) = omega arith
 
 -- the answer b that was written is that of the questions
-pub told-judged : (answer : List ℕ) (a b : Answer) (number : ℕ) (answer′ : List ℕ) → 12 ≤ length answer → b ≡ a
-    → (number ≡ numberOf b) × (answer′ ≡ withWords answer (valuesOf b)) → Told 12 answer a (valuesOf a) number answer′
-told-judged answer a b number answer′ h e t =
-    told-all 12 answer a (valuesOf a) number answer′ h (t .0 ∙ ap numberOf e) (t .1 ∙ ap (λ x. withWords answer (valuesOf x)) e)
+pub told-judged : (answer : List ℕ) (o : Option No) (b : Answer) (number : ℕ) (answer′ : List ℕ) → 12 ≤ length answer → Every Placed o
+    → b ≡ judged o → (number ≡ numberOf b) × (answer′ ≡ withWords answer (valuesOf b))
+    → Told 12 answer (judged o) (valuesOf (judged o)) number answer′
+told-judged answer o b number answer′ h f e t =
+    told-all 12 answer (judged o) (valuesOf (judged o)) number answer′ h (omega (arith, three-words o)) (judged-small o f)
+    (t .0 ∙ ap numberOf e) (t .1 ∙ ap (λ x. withWords answer (valuesOf x)) e)
 
 -- the four words of the parts behind the three of the answer
 seven-words : (answer : List ℕ) (a : Answer) (x y z u : ℕ)
@@ -65,6 +104,50 @@ opened-words : (answer pack : List ℕ) (w : ℕ) (a : Answer) (o : Option No) �
 unfolding openedWords
 opened-words answer pack w a o e q = rw (e, q) refl
 
+-- there are seven
+seven : (pack : List ℕ) (w : ℕ) → length (openedWords pack w) ≡ 7
+unfolding openedWords
+seven pack w = go (openRefusal pack w)
+  where
+    go : (o : Option No) → length (valuesOf (judged o) ++ openedParts pack w o) ≡ 7
+    go none = unfold openedParts in unfold Answers.valuesOf in unfold judged in refl
+    go (some n) = unfold openedParts in unfold Answers.valuesOf in unfold judged in refl
+
+-- and each has 32 bits: a pack that passes is at most 10,273 bytes long
+opened-small : (pack : List ℕ) (w : ℕ) → Small (openedWords pack w)
+unfolding openedWords
+opened-small pack w = go (openRefusal pack w) refl (open-placed pack w)
+  where
+    parts : (o : Option No) → openRefusal pack w ≡ o → Small (openedParts pack w o)
+    parts (some n) e = unfold openedParts in zeros
+      where
+        zeros : Small (0 ∷ 0 ∷ 0 ∷ 0 ∷ [])
+        zeros zero = omega arith
+        zeros (suc zero) = omega arith
+        zeros (suc (suc zero)) = omega arith
+        zeros (suc (suc (suc zero))) = omega arith
+        zeros (suc (suc (suc (suc j)))) = omega arith
+    parts none e = unfold openedParts in four
+      where
+        l : Laid pack
+        l = open-laid pack w e
+
+        b : w < count pack
+        b = open-below pack w e
+
+        long : length pack ≤ 10273
+        long = omega (arith, l .whole, l .few, l .short)
+
+        four : Small (operationsAt pack w ∷ sizeOf pack w ∷ operandsAt pack w ∷ 4 * sizeOf pack w ∷ [])
+        four zero = omega (arith, operations-within pack l w b, long)
+        four (suc zero) = omega (arith, operations-within pack l w b, long)
+        four (suc (suc zero)) = omega (arith, operands-within pack l w b, long)
+        four (suc (suc (suc zero))) = omega (arith, operands-within pack l w b, long)
+        four (suc (suc (suc (suc j)))) = omega arith
+
+    go : (o : Option No) → openRefusal pack w ≡ o → Every Placed o → Small (valuesOf (judged o) ++ openedParts pack w o)
+    go o e f = append-small (valuesOf (judged o)) (openedParts pack w o) (judged-small o f) (parts o e)
+
 -- open, by what its questions came to: the answer b was written, and then the words of the parts
 pub told-open : (answer pack : List ℕ) (w : ℕ) (o : Option No) (b : Answer) (number : ℕ) (between ws answer′ : List ℕ) →
     28 ≤ length answer → openRefusal pack w ≡ o
@@ -72,7 +155,7 @@ pub told-open : (answer pack : List ℕ) (w : ℕ) (o : Option No) (b : Answer) 
     answer′ ≡ puts 4 between 12 ws 4
     → Told 28 answer (judged (openRefusal pack w)) (openedWords pack w) number answer′
 told-open answer pack w o b number between ws answer′ h q e t p r =
-    told-all 28 answer _ (openedWords pack w) number answer′ h (t .0 ∙ ap numberOf e)
+    told-all 28 answer _ (openedWords pack w) number answer′ h (omega (arith, seven pack w)) (opened-small pack w) (t .0 ∙ ap numberOf e)
     (r ∙ ap (λ l. puts 4 l 12 ws 4) (t .1) ∙ ap (λ l. puts 4 (withWords answer (valuesOf b)) 12 l 4) p
     ∙ four o ∙ opened-words answer pack w b o q (e ∙ ap judged q))
   where
@@ -97,7 +180,7 @@ unfolding answerShort
 made store answer P C number store′ answer′ v b h m e t =
     let q : answerShort 12 answer ≡ none = rw (le-leb 12 (length answer) h) refl in
     record {
-      told = told-judged answer _ b number answer′ h e t;
+      told = told-judged answer (createRefusal P C (length store)) b number answer′ h (create-placed P C (length store)) e t;
       short = λ n s. absurd (missing (sym q ∙ s));
       created = λ s. subst (Created store store′ P C) (m .answer) m;
     }

@@ -5,6 +5,7 @@ use mathlib.Core.Path.{_≡_}
 use Prim.Native.Nat.{ℕ, _*_}
 use lib.Dec.{leb}
 use lib.ListN.{length}
+use Rattle.words.specs.Words.{fields}
 use Rattle.questions.specs.Basics.{if_then_else_}
 use Rattle.questions.specs.Questions.{No}
 use Rattle.questions.specs.Verdicts.{verdictOf}
@@ -28,10 +29,11 @@ openedWords pack w = valuesOf (judged (openRefusal pack w)) ++ openedParts pack 
 unfoldable pub answerShort : (need : ℕ) (answer : List ℕ) → Option ℕ
 answerShort need answer = if leb need (length answer) then none else some 100
 
--- The answer buffer is too short, and nothing is written; or it has the words, and the number is that of the answer.
+-- The answer buffer is too short, and nothing is written; or it has the words, none of them cut, and the number is that of the answer.
 pub record Told (need : ℕ) (answer : List ℕ) (a : Answer) (words : List ℕ) (number : ℕ) (answer′ : List ℕ) : Type 0 where
   pub short : (n : ℕ) → answerShort need answer ≡ some n → (number ≡ n) × (answer′ ≡ answer)
-  pub told : answerShort need answer ≡ none → (number ≡ numberOf a) × (answer′ ≡ withWords answer words)
+  pub told : answerShort need answer ≡ none →
+      (number ≡ numberOf a) × (answer′ ≡ withWords answer words) × (fields 4 answer′ 0 (length words) ≡ words)
 
 -- Create: what is told, and what the store's bytes become.
 pub record Made (store answer : List ℕ) (P C number : ℕ) (store′ answer′ : List ℕ) : Type 0 where

@@ -3,3 +3,4 @@ pub mod Tests
 pub mod Carry
 pub mod Sense
 pub mod Begun
+pub mod Placed

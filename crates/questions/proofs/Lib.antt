@@ -3,3 +3,4 @@ pub mod Updates
 pub mod Questions
 pub mod Chains
 pub mod Each
+pub mod Every

@@ -1,3 +1,3 @@
-mod Words
+pub mod Words
 mod Typed
 pub mod Records

@@ -11,12 +11,12 @@ use native.Mathlib.Omega.{arith}
 use mir.Val.{boolByte}
 use borrow.Author.Tests.{lt-ltb}
 use lib.Dec.{ltb, eqb}
-use lib.ListN.{length}
+use lib.ListN.{length, replicate}
 use lib.Seq.{ext-getD}
 use Rattle.questions.specs.Basics.{if_then_else_}
 use Rattle.words.specs.Words.{le, put, fields}
 use Rattle.agents.specs.declared.Agent.{Agent}
-use Rattle.agents.specs.Slots.{agentAt}
+use Rattle.agents.specs.Slots.{noAgent, agentAt, isBlank}
 use Rattle.slots.specs.Records.{noRecord, isRecord, recordBy, recordIn, recordsIn, slotsIn, wordsOf, puts, withRecord, withRecords}
 use Rattle.slots.specs.Records.{withSlots}
 use Rattle.slots.proofs.Words.{length-puts, fields-puts, fields-beside}
@@ -34,6 +34,21 @@ pub record-read : (xs : List ℕ) (i u p s : ℕ) → u ≡ le 4 xs (48 * i) →
     (record { «in_use» = eqb u 1; id = le 4 xs (48 * i + 4); position = p; step = s; registers = fields 4 xs (48 * i + 16) 8 }) noRecord
 unfolding recordBy isRecord
 record-read xs i u p s eu ep es = rw (eu, ep, es, twelve xs (48 * i)) refl
+
+-- bytes that are no record stand for one that is neither in use nor empty
+pub no-record-is : (noRecord .«in_use» ≡ false) × (isBlank noRecord ≡ false)
+unfolding isBlank
+no-record-is = (refl, refl)
+
+-- so do twelve words that make none
+pub malformed : (ws : List ℕ) → isRecord ws ≡ false → recordBy ws ≡ noRecord
+unfolding recordBy
+malformed ws e = rw e refl
+
+-- 384 zero bytes are eight empty slots
+pub all-empty : slotsIn (replicate 384 0) ≡ replicate 8 noAgent
+unfolding recordsIn recordBy isRecord fields le
+all-empty = refl
 
 -- the words of a record, written as the code does: four, then the registers
 pub record-written : (xs : List ℕ) (at : ℕ) (a : Agent)
@@ -93,7 +108,7 @@ unfolding recordsIn
 length-in xs zero i = refl
 length-in xs (suc n) i = ap suc (length-in xs n (i + 1))
 
-at-in : (xs : List ℕ) (n i k : ℕ) → k < n → agentAt (recordsIn xs n i) k ≡ recordIn xs (i + k)
+pub at-in : (xs : List ℕ) (n i k : ℕ) → k < n → agentAt (recordsIn xs n i) k ≡ recordIn xs (i + k)
 unfolding recordsIn
 at-in xs zero i k h = absurd (omega arith)
 at-in xs (suc n) i zero h = ap (recordIn xs) (omega arith)

@@ -25,7 +25,7 @@ length-puts w xs at vs zero = refl
 length-puts w xs at vs (suc n) = length-put w (puts w xs at vs n) (at + n * w) (getD vs n 0) ∙ length-puts w xs at vs n
 
 -- the i-th of n numbers written is what stands at its place
-le-puts : (w : ℕ) (xs : List ℕ) (at : ℕ) (vs : List ℕ) (n i : ℕ) → i < n → at + n * w ≤ length xs → ((j : ℕ) → getD vs j 0 < 256 ^ w)
+pub le-puts : (w : ℕ) (xs : List ℕ) (at : ℕ) (vs : List ℕ) (n i : ℕ) → i < n → at + n * w ≤ length xs → ((j : ℕ) → getD vs j 0 < 256 ^ w)
     → le w (puts w xs at vs n) (at + i * w) ≡ getD vs i 0
 unfolding puts
 le-puts w xs at vs zero i h l f = absurd (omega arith)

@@ -22,4 +22,4 @@ sarthule-arrival-spec =
     (c .before .before .before .before .before .before .before .before .before .before .before .before .before .before .if1 .left)
     (c .before .before .before .before .before .before .before .before .before .before .before .before .before .if2 .left)
     (c .before .before .before .before .before .before .before .before .before .before .before .read-slots .ensures)
-    (c .before .before .before .before .before .before .before .before .before .arrival .ensures) (f .0) (f .1 .0) (f .1 .1)))
+    (c .before .before .before .before .before .before .before .before .before .arrival .ensures) tt (f .0) (f .1 .0) (f .1 .1 .0) (f .1 .1 .1)))

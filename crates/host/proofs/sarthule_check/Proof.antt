@@ -1,5 +1,7 @@
 -- `host::sarthule_check` meets its contract.
 use borrow.Author.Needs.{needs}
+use Rattle.pack.specs.Refusal.{packRefusal}
+use Rattle.pack.proofs.Placed.{pack-placed}
 use Rattle.host.proofs.Told.{told-short, told-judged}
 use Rattle.host.proofs.sarthule_check.Statement.{statement}
 use Rattle.host.proofs.sarthule_check.Tie as tie
@@ -13,6 +15,6 @@ sarthule-check-spec =
     (λ c κs. search needs)
     (λ c κs. search needs)
     (λ c. search needs)
-    (λ c. told-judged _ _ _ _ _ (c .before .before .before .before .before .before .if1 .left)
+    (λ c. told-judged _ (packRefusal _) _ _ _ (c .before .before .before .before .before .before .if1 .left) (pack-placed _)
     (c .before .before .before .judge .ensures _ (c .before .before .before .before .check .ensures))
-    (c .before .before .write-answer .ensures)))
+    (c .before .before .write-answer .ensures .0)))

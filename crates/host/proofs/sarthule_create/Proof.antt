@@ -17,4 +17,4 @@ sarthule-create-spec =
     (λ c.
     let m = c .before .before .before .before .before .before .before .create .ensures in
     made _ _ _ _ _ _ _ _ _ (c .before .before .before .before .before .before .before .before .before .if1 .left) m
-    (c .before .before .before .judge .ensures _ (m .answer)) (c .before .before .write-answer .ensures)))
+    (c .before .before .before .judge .ensures _ (m .answer)) (c .before .before .write-answer .ensures .0)))

@@ -42,7 +42,7 @@ sarthule-open-spec =
     (λ c. search needs)
     (λ c.
     told-open _ _ _ none _ _ _ _ _
-    (c .before .before .before .before .before .before .before .before .before .before .before .before .before .before .before .if1 .left) (opens (c .before .before .before .before .before .before .before)) (c .before .before .before .before .before .before .before .before .before .before .before .before .judge .ensures _ (c .before .before .before .before .before .before .before .before .before .before .before .before .before .before .open .ensures)) (c .before .before .before .before .before .before .before .before .before .before .before .write-answer .ensures)
+    (c .before .before .before .before .before .before .before .before .before .before .before .before .before .before .before .if1 .left) (opens (c .before .before .before .before .before .before .before)) (c .before .before .before .before .before .before .before .before .before .before .before .before .judge .ensures _ (c .before .before .before .before .before .before .before .before .before .before .before .before .before .before .open .ensures)) (c .before .before .before .before .before .before .before .before .before .before .before .write-answer .ensures .0)
     (rw (
       c .before .before .before .before .before .before .size-at .ensures,
       c .before .before .before .before .operations-at .ensures,
@@ -57,5 +57,5 @@ sarthule-open-spec =
     (c .before .before .before .before .enum-told2 .given .1))
     (c .before .before .before .before .before .before .before .before .before .judge .ensures _
     (c .before .before .before .before .before .before .before .before .before .before .before .open .ensures))
-    (c .before .before .before .before .before .before .before .before .write-answer .ensures) refl
+    (c .before .before .before .before .before .before .before .before .write-answer .ensures .0) refl
     (c .before .before .write-parts2 .ensures)))

@@ -19,4 +19,4 @@ sarthule-restart-spec =
     let f = c .before .before .before .before .finish .ensures in
     exported pack store _ _ _ _ _ _ _ _ _ (c .before .before .before .before .before .before .before .before .before .if1 .left)
     (c .before .before .before .before .before .before .before .before .if2 .left) refl
-    (c .before .before .before .before .before .restart .ensures pack store _) (f .0) (f .1 .0) (f .1 .1)))
+    (c .before .before .before .before .before .restart .ensures pack store _) tt (f .0) (f .1 .0) (f .1 .1 .0) (f .1 .1 .1)))

@@ -22,4 +22,4 @@ sarthule-turn-spec =
     (c .before .before .before .before .before .before .before .before .before .before .before .before .before .before .if1 .left)
     (c .before .before .before .before .before .before .before .before .before .before .before .before .before .if2 .left)
     (c .before .before .before .before .before .before .before .before .before .before .before .read-slots .ensures)
-    (c .before .before .before .before .before .before .before .before .before .turn .ensures) (f .0) (f .1 .0) (f .1 .1)))
+    (c .before .before .before .before .before .before .before .before .before .turn .ensures) tt (f .0) (f .1 .0) (f .1 .1 .0) (f .1 .1 .1)))

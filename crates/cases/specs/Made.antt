@@ -1,0 +1,42 @@
+-- The call that a case stands for, and what making it promises.
+use mathlib.Core.List.{List, [], _∷_}
+use mathlib.Core.Path.{_≡_}
+use Prim.Native.Nat.{ℕ, _≤_}
+use lib.Dec.{eqb}
+use lib.ListN.{length, getD}
+use Rattle.questions.specs.Basics.{if_then_else_}
+use Rattle.questions.specs.Verdicts.{verdictOf}
+use Rattle.rules.specs.Calls.{Call, arrival, retry, turn, crash, restart, order}
+use Rattle.pack.specs.Refusal.{packRefusal, openRefusal}
+use Rattle.store.specs.Questions.{createRefusal}
+use Rattle.store.specs.Created.{Created}
+use Rattle.agents.specs.declared.Answer.{Answer}
+use Rattle.agents.specs.Answers.{answerOf}
+use Rattle.meaning.specs.Carried.{Carried}
+use Rattle.slots.specs.Records.{slotsIn}
+use Rattle.answers.specs.Answers.{judged, slotsAfter}
+use Rattle.host.specs.Exports.{lentIn}
+
+-- a call byte with its seven words: 3 arrival, 4 retry, 5 turn, 6 crash, 9 order, otherwise restart
+unfoldable pub callBy : (byte : ℕ) (words : List ℕ) → Call
+callBy byte ws =
+    if eqb byte 3
+    then arrival (getD ws 0 0) (getD ws 1 0) (getD ws 2 0) (getD ws 3 0 ∷ getD ws 4 0 ∷ getD ws 5 0 ∷ getD ws 6 0 ∷ [])
+    else if eqb byte 4 then retry (getD ws 0 0) (getD ws 1 0)
+    else if eqb byte 5 then turn (getD ws 0 0)
+    else if eqb byte 6 then crash (getD ws 0 0)
+    else if eqb byte 9 then order
+    else restart
+
+-- The call of a case was made, on the bytes of its store and of its records: 0 is the check, 1 an opening, 2 a create, and any other a call
+-- of the list, promised as every call is.
+pub record CaseMade (byte : ℕ) (words pack store records : List ℕ) (answer : Answer) (store′ records′ : List ℕ) : Type 0 where
+  pub check : byte ≡ 0 → (answerOf answer ≡ judged (packRefusal pack)) × (store′ ≡ store) × (records′ ≡ records)
+  pub opening : byte ≡ 1 → (answerOf answer ≡ judged (openRefusal pack (getD words 0 0))) × (store′ ≡ store) × (records′ ≡ records)
+  pub create : byte ≡ 2 → (answerOf answer ≡ judged (createRefusal (getD words 0 0) (getD words 1 0) (length store)))
+      × Created store store′ (getD words 0 0) (getD words 1 0) (verdictOf (createRefusal (getD words 0 0) (getD words 1 0) (length store)))
+      × (records′ ≡ records)
+  pub carried : 3 ≤ byte → Carried pack (lentIn store records) (callBy byte words) answer (lentIn store′ records′)
+  -- order does not get the records; of any other call their bytes are those of the records that it left, or unchanged if it is refused
+  pub bytes : 3 ≤ byte → (byte ≡ 9 → ⊥) → records′ ≡ slotsAfter (answerOf answer) records (slotsIn records′)
+  pub alone : byte ≡ 9 → records′ ≡ records

@@ -1,0 +1,119 @@
+-- Demands 1, 2 and 3 of exported calls: what their promises come to.
+use mathlib.Core.Bool.{true}
+use mathlib.Core.List.{List}
+use mathlib.Core.Option.{Option, none, some}
+use mathlib.Core.Path.{_≡_, refl, sym, _∙_, ap}
+use Prim.Native.Nat.{ℕ}
+use native.Mathlib.Omega.{arith}
+use lib.ListN.{length}
+use Rattle.questions.specs.Questions.{No}
+use Rattle.questions.proofs.Tests.{no-yes}
+use Rattle.questions.proofs.Updates.{none-some}
+use Rattle.rules.specs.Calls.{Call, Answer, turn, refused}
+use Rattle.rules.specs.Calls as Calls
+use Rattle.rules.specs.Plain.{Event, accepted}
+use Rattle.rules.proofs.Calls.{rule-accepted}
+use Rattle.pack.specs.Meaning.{packOf}
+use Rattle.agents.specs.declared.Answer.{Answer as Said}
+use Rattle.agents.specs.Answers.{answerOf}
+use Rattle.meaning.specs.State.{stateOf, Lent}
+use Rattle.meaning.specs.Questions.{refusalFor}
+use Rattle.meaning.specs.Carried.{Carried}
+use Rattle.chain.specs.Demands.{InTime}
+use Rattle.chain.proofs.Each.{demand1}
+use Rattle.chain.proofs.Theorem as Chains
+use Rattle.chain.proofs.Never as Never
+use Rattle.slots.specs.Records.{slotsIn, withSlots}
+use Rattle.answers.specs.Answers.{heard, slotsAfter}
+use Rattle.answers.specs.Answers as Answers
+use Rattle.host.specs.Exports.{lentIn, buffersWrong, Exported}
+use Rattle.delivered.specs.Delivered.{Delivered}
+use Rattle.delivered.specs.Demands.{RefusedFirst, AsRuled, ByTheList}
+use Rattle.delivered.proofs.Lists.{wrong-unheard, as-chain}
+
+-- an answer that was heard
+same-heard : (a b : Answer) → some a ≡ some b → a ≡ b
+same-heard a b e i = taken (e i)
+  where
+    taken : Option Answer → Answer
+    taken none = a
+    taken (some x) = x
+
+-- a promise speaks of an answer by what it says
+answered : (pack : List ℕ) (before : Lent) (c : Call) (a b : Said) (after : Lent) → answerOf a ≡ answerOf b → Carried pack before c a after →
+    Carried pack before c b after
+answered pack before c a b after e p =
+    record {
+      refused = λ n q. (sym e ∙ p .refused n q .0, p .refused n q .1);
+      carried = λ q. (sym e ∙ p .carried q .0, p .carried q .1);
+    }
+
+module _ (pack store slots answer : List ℕ) (c : Call) (number : ℕ) (store′ slots′ answer′ : List ℕ)
+    (x : Exported pack store slots answer c number store′ slots′ answer′) where
+  -- a refused call leaves the slots' bytes
+  slots-stay : (a : Answer) (n : No) → a ≡ refused n → slotsAfter a slots (slotsIn slots′) ≡ slots
+  slots-stay a n e = ap (λ b. slotsAfter b slots (slotsIn slots′)) e ∙ unfold Answers.slotsAfter in refl
+
+  -- an accepted one writes those of the records that it left
+  slots-written : (a : Answer) → accepted a ≡ true → slotsAfter a slots (slotsIn slots′) ≡ withSlots slots (slotsIn slots′)
+  slots-written Calls.done e = unfold Answers.slotsAfter in refl
+  slots-written Calls.moved e = unfold Answers.slotsAfter in refl
+  slots-written (Calls.reply id value) e = unfold Answers.slotsAfter in refl
+  slots-written (refused n) e = no-yes e
+
+  pub refused-first : RefusedFirst pack store slots answer c number store′ slots′ answer′
+  refused-first =
+      record {
+        wrong = λ n e. let w = x .wrong n e in
+            (w .0, ap (λ m. heard m answer′) (w .0) ∙ wrong-unheard answer slots n answer′ e, w .1, w .2, w .3);
+        says-no = λ b n e. let s = x .served b in
+            let r = s .carried .refused n e in
+            (s .read ∙ ap some (r .0), ap (λ (l : Lent). l .store) (r .1), s .bytes ∙ slots-stay (answerOf (s .said)) n (r .0));
+        says-why = λ n e. why n e (buffersWrong answer slots) refl;
+      }
+    where
+      why : (n : No) → heard number answer′ ≡ some (refused n) → (o : Option ℕ) → buffersWrong answer slots ≡ o →
+          refusalFor pack (lentIn store slots) c ≡ some n
+      why n e (some m) q =
+          none-some (refused n) (ap (λ k. heard k answer′) (x .wrong m q .0) ∙ wrong-unheard answer slots m answer′ q) e
+      why n e none q =
+          let s = x .served q in
+          demand1 pack (lentIn store slots) c (s .said) (lentIn store′ slots′) (s .carried) .says-why n
+          (same-heard (answerOf (s .said)) (refused n) (sym (s .read) ∙ e))
+
+  pub as-ruled : AsRuled pack store slots answer c number store′ slots′ answer′
+  as-ruled =
+      record {
+        accepts = λ b e. let s = x .served b in
+            let r = s .carried .carried e in (
+              s .read ∙ ap some (r .0),
+              r .1,
+              s .bytes
+                  ∙ slots-written (answerOf (s .said))
+                  (ap accepted (r .0) ∙ rule-accepted (packOf pack) (stateOf (lentIn store slots)) c),
+            );
+      }
+
+pub by-the-list : (pack : List ℕ) (P C : ℕ) → ByTheList pack P C
+by-the-list pack P C =
+    record {
+      plain-run = λ events store slots d.
+          Chains.demand3 pack P C .plain-run events (lentIn store slots) (as-chain pack P C events store slots d .0);
+      in-time = λ before store slots d slot answer number store′ slots′ answer′ x said e t.
+          turned store slots before d slot answer number store′ slots′ answer′ x said e t (buffersWrong answer slots) refl;
+      never-no = λ events store slots d. Never.never-no pack P C events (lentIn store slots) (as-chain pack P C events store slots d .0);
+      long = λ events store slots d. as-chain pack P C events store slots d .1;
+    }
+  where
+    turned : (store slots : List ℕ) (before : List Event) → Delivered pack P C before store slots →
+        (slot : ℕ) (answer : List ℕ) (number : ℕ) (store′ slots′ answer′ : List ℕ) →
+        Exported pack store slots answer (turn slot) number store′ slots′ answer′ →
+        (said : Said) → heard number answer′ ≡ some (answerOf said) → accepted (answerOf said) ≡ true →
+        (o : Option ℕ) → buffersWrong answer slots ≡ o → InTime pack before (lentIn store slots) slot said
+    turned store slots before d slot answer number store′ slots′ answer′ x said e t (some m) q =
+        none-some (answerOf said) (ap (λ k. heard k answer′) (x .wrong m q .0) ∙ wrong-unheard answer slots m answer′ q) e
+    turned store slots before d slot answer number store′ slots′ answer′ x said e t none q =
+        let s = x .served q in
+        let same = same-heard (answerOf (s .said)) (answerOf said) (sym (s .read) ∙ e) in
+        Chains.demand3 pack P C .in-time before (lentIn store slots) (as-chain pack P C before store slots d .0) slot said
+        (lentIn store′ slots′) (answered pack (lentIn store slots) (turn slot) (s .said) said (lentIn store′ slots′) same (s .carried)) t
