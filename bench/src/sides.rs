@@ -7,7 +7,7 @@ use reference::{Answer, Call, Refusal, Slots};
 pub fn bytes(slots: &Slots) -> sarthule::Slots {
     let mut out = sarthule::EMPTY;
     for (record, agent) in out.chunks_mut(48).zip(slots) {
-        let head = [u32::from(agent.in_use), agent.id, agent.position, agent.step];
+        let head = [agent.in_use, agent.id, agent.position, agent.step];
         for (word, n) in record.chunks_mut(4).zip(head.into_iter().chain(agent.registers)) {
             word.copy_from_slice(&n.to_le_bytes());
         }

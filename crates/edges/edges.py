@@ -310,6 +310,14 @@ def known(id, workflow, arguments):
             calls(TALL, store(1, 15, book=THREE), [(ARRIVAL, [0, id, *rest]) for rest in [*changed, booked]]), refused(18) * 5 + DONE)
 
 
+def no_record(i):
+    """Words in slot i that make no record: an arrival there, and turns of an agent that would be sound if its number were cut."""
+    booked = store(book=BOOKED)
+    return [("in use 2 in slot %d" % i, call(ARRIVAL, [i, 8, 0], ONE, store(), {i: agent(0, in_use=2)}), refused(14)),
+            ("position 65,536 in slot %d" % i, turn(ONE, booked, {i: agent(7, 65536)}, i), refused(14)),
+            ("step 65,536 in slot %d" % i, turn(ONE, booked, {i: agent(7, 0, 65536)}, i), refused(14))]
+
+
 EDGES = [
     ("the whole case", schedule(MOVE, 2, 5, [SEVEN, EIGHT], [0x00, 0x10, 0x10, 0x20, 0x31, 0x11, 0x11, 0x11, 0x11, 0x01], [0] * 9 + [1]), """\
 events 10
@@ -492,6 +500,16 @@ log 1 7 1 30
     ("a position behind the workflow", turn(s=store(book=BOOKED), slots={0: agent(7, 1)}), refused(14)),
     ("a position inside a block", turn(TWICE, store(book=BOOKED), {0: agent(7, 1)}), refused(14)),
     ("a step above the position", turn(TWICE, store(book=BOOKED), {0: agent(7, 0, 1)}), refused(14)),
+    *[edge for i in range(8) for edge in no_record(i)],
+    ("position 65,536 in a slot that is not in use", call(ARRIVAL, [3, 8, 0], ONE, store(), {3: agent(0, 65536, in_use=0)}), refused(14)),
+    ("step 65,536 in a slot that is not in use", call(ARRIVAL, [3, 8, 0], ONE, store(), {3: agent(0, 0, 65536, in_use=0)}), refused(14)),
+    ("in use 2 in another slot", call(RETRY, [0, 7], ONE, store(book=BOOKED), {5: agent(7, in_use=2)}), refused(14)),
+    ("in use 2 beside a pack that is refused", call(CRASH, [0], pack([SET]), store(), {0: agent(0, in_use=2)}), refused(8, 0, 0)),
+    ("in use 2 beside a store that the pack does not fit", turn(pack([(0x60, 1), END, RETURN]), store(1), {0: agent(0, in_use=2)}), refused(13)),
+    ("a restart where in use is 2", call(RESTART, (), ONE, store(), {0: agent(0, in_use=2)}), DONE),
+    ("a restart of a slot with in use 2, then an arrival there", calls(
+        ONE, store(), [(ARRIVAL, [0, 7, 0]), (RESTART, []), (ARRIVAL, [0, 7, 0])], {0: agent(0, in_use=2)}),
+     refused(14) + DONE + DONE, store(book=[(7, 0, [0, 0, 0, 0])])),
     # 15 and 16
     ("a turn of slot 8", turn(slot=8), refused(15)),
     ("a turn of slot 2^32 - 1", turn(slot=2**32 - 1), refused(15)),

@@ -6,10 +6,12 @@ use crate::store::Store;
 
 pub const SLOTS: usize = 8;
 
-/// Position and step are held whole, so that a number given for them is never cut.
+/// In use, position and step are held whole, so that a number given for them is never cut:
+/// a record with in use 2 is neither empty nor sound.
 #[derive(Clone, Copy, Debug, Default, PartialEq, Eq)]
 pub struct Agent {
-    pub in_use: bool,
+    /// 1, or 0 for an empty slot.
+    pub in_use: u32,
     pub id: u32,
     pub position: u32,
     pub step: u32,
@@ -23,7 +25,7 @@ pub const ALL_EMPTY: Slots = [Agent::EMPTY; SLOTS];
 
 impl Agent {
     pub const EMPTY: Self = Self {
-        in_use: false,
+        in_use: 0,
         id: 0,
         position: 0,
         step: 0,
@@ -35,11 +37,15 @@ impl Agent {
         let mut registers = [0; 8];
         registers[..4].copy_from_slice(&arguments);
         Self {
-            in_use: true,
+            in_use: 1,
             id,
             registers,
             ..Self::EMPTY
         }
+    }
+
+    pub fn is_in_use(&self) -> bool {
+        self.in_use == 1
     }
 
     pub fn is_empty(&self) -> bool {
@@ -55,7 +61,7 @@ impl Agent {
             return false;
         };
         let position = self.position as usize;
-        self.in_use
+        self.is_in_use()
             && position < workflow.size()
             && !workflow.is_inside(position)
             && self.step <= self.position

@@ -74,7 +74,7 @@ fn ask_all_state<'a, 'b>(
 fn ask_slot(slots: &Slots, slot: u32, in_use: bool) -> Result<usize, Refusal> {
     let slot = slot as usize;
     ask(15, slot < SLOTS)?;
-    ask(16, slots[slot].in_use == in_use)?;
+    ask(16, slots[slot].is_in_use() == in_use)?;
     Ok(slot)
 }
 

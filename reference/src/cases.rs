@@ -130,8 +130,8 @@ fn write_slots(slots: &Slots, file: &mut Vec<u8>) {
 fn read_agent(reader: &mut Reader) -> Option<Agent> {
     let [in_use, id, position, step] = reader.words()?;
     let registers = reader.words()?;
-    (in_use <= 1).then_some(Agent {
-        in_use: in_use == 1,
+    Some(Agent {
+        in_use,
         id,
         position,
         step,
@@ -141,7 +141,7 @@ fn read_agent(reader: &mut Reader) -> Option<Agent> {
 
 fn agent_words(agent: &Agent) -> impl Iterator<Item = u32> {
     let head = [
-        u32::from(agent.in_use),
+        agent.in_use,
         agent.id,
         agent.position,
         agent.step,

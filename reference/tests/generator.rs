@@ -411,13 +411,18 @@ fn near_misses_mostly_hit_their_question() {
 }
 
 #[test]
-fn records_stay_within_what_both_suppliers_can_hold() {
+fn words_that_make_no_record_are_among_the_records() {
+    let [mut in_use, mut position, mut step] = [0; 3];
     for case in generate::cases(13, 3_000) {
         let Case::Call(call) = case else { continue };
-        let fits = |number: u32| number < 65_536;
-        assert!(call.slots.iter().all(|a| fits(a.position) && fits(a.step)));
+        for agent in &call.slots {
+            in_use += u32::from(agent.in_use > 1);
+            position += u32::from(agent.position > 65_535);
+            step += u32::from(agent.step > 65_535);
+        }
         if let Order::Open { .. } = call.order {
             assert!(call.pack.len() <= 1 + 32 + 5 * MOST_INSTRUCTIONS + 5);
         }
     }
+    assert!(in_use > 0 && position > 0 && step > 0, "{in_use} {position} {step}");
 }

@@ -404,7 +404,15 @@ fn crash_beside(change: impl Fn(&mut Agent)) -> u8 {
 fn question_14_records() {
     assert_eq!(crash_beside(|_| {}), 0);
     assert_eq!(crash_beside(|agent| *agent = Agent::EMPTY), 0);
-    assert_eq!(crash_beside(|agent| agent.in_use = false), 14);
+    assert_eq!(crash_beside(|agent| agent.in_use = 0), 14);
+    assert_eq!(crash_beside(|agent| agent.in_use = 2), 14);
+    assert_eq!(crash_beside(|agent| agent.position += 65_536), 14);
+    assert_eq!(crash_beside(|agent| agent.step += 65_536), 14);
+    let in_use_2 = |agent: &mut Agent| {
+        *agent = Agent::EMPTY;
+        agent.in_use = 2;
+    };
+    assert_eq!(crash_beside(in_use_2), 14);
     let dirty = |agent: &mut Agent| {
         *agent = Agent::EMPTY;
         agent.registers[7] = 1;

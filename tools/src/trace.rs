@@ -118,7 +118,7 @@ impl Machine<'_> {
 
     /// The partition of the block that a slot's agent stands at, and whether it is logged.
     fn block_at(&self, slot: usize) -> Option<(u32, bool)> {
-        let agent = self.slots.get(slot).filter(|agent| agent.in_use)?;
+        let agent = self.slots.get(slot).filter(|agent| agent.is_in_use())?;
         let store = Store::lay_out(self.store.as_slice()).ok()?;
         let pack = Pack::read(self.pack).ok()?;
         let workflow = pack.workflow(store.request(agent.id)?.workflow)?;

@@ -153,7 +153,7 @@ pub fn odd(random: &mut Random) -> Case {
     let ids = store.booked_ids();
     let crowd = random.pick(&[1, 4, 4]);
     for agent in &mut world.slots {
-        if agent.in_use || (!ids.is_empty() && random.one_in(crowd)) {
+        if agent.is_in_use() || (!ids.is_empty() && random.one_in(crowd)) {
             *agent = any_sound(random, &world.pack, &store, &ids).unwrap_or(*agent);
         }
     }
@@ -189,7 +189,7 @@ fn any_sound(
     let outside: Vec<usize> = (0..workflow.size()).filter(is_outside).collect();
     let position = random.pick(&outside);
     Some(Agent {
-        in_use: true,
+        in_use: 1,
         id,
         position: position as u32,
         step: random.below(position + 1) as u32,
@@ -249,7 +249,7 @@ fn booked_case(random: &mut Random) -> CallCase {
 pub fn wrong(random: &mut Random, question: u8, lane: usize) -> Case {
     let rows = random.between(5, 12);
     let mut world = booked_world(random, rows);
-    if world.slots.iter().all(|agent| agent.in_use) {
+    if world.slots.iter().all(|agent| agent.is_in_use()) {
         world.slots[random.below(SLOTS)] = Agent::EMPTY;
     }
     let empty = u32::from(world.some_slot(random, false).unwrap_or(0));
@@ -293,7 +293,7 @@ fn on_wrong_slot(random: &mut Random, world: &World) -> Call {
 /// An arrival or retry where an agent is, or a turn or crash where none is.
 fn on_wrong_kind_of_slot(random: &mut Random, world: &World) -> Call {
     let slot = random.below(SLOTS);
-    let in_use = world.slots[slot].in_use;
+    let in_use = world.slots[slot].is_in_use();
     let slot = slot as u32;
     let request = random.pick(&world.schedule.requests);
     match (in_use, random.one_in(2)) {

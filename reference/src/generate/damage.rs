@@ -252,13 +252,16 @@ fn wrong_record(random: &mut Random, case: &mut CallCase, lane: usize) {
     };
     let mut agent = sound;
     let (size, inside) = size_and_inside(&agent, case);
-    match lane % 7 {
+    match lane % 10 {
         0 => agent = dirty_empty(random),
-        1 => agent.in_use = false,
+        1 => agent.in_use = 0,
         2 => agent.id ^= 1 << random.between(16, 31),
         3 => agent.position = random.pick(&[size, size + 1, 256, 65_535]),
         4 => agent.step = agent.position + 1,
         5 => agent.step = random.pick(&[256, 65_535]),
+        6 => agent.in_use = random.pick(&[2, 3, 256, 1 << 31, u32::MAX]),
+        7 => agent.position += 65_536 << random.below(16),
+        8 => agent.step += 65_536 << random.below(16),
         _ => match inside.is_empty() {
             true => agent.position = size,
             false => agent.position = random.pick(&inside),
@@ -269,7 +272,7 @@ fn wrong_record(random: &mut Random, case: &mut CallCase, lane: usize) {
 
 /// A record that is there, or a started one of a booked id.
 fn a_sound_record(random: &mut Random, case: &CallCase) -> Option<Agent> {
-    let in_use: Vec<Agent> = case.slots.iter().copied().filter(|a| a.in_use).collect();
+    let in_use: Vec<Agent> = case.slots.iter().copied().filter(|a| a.is_in_use()).collect();
     if !in_use.is_empty() && random.one_in(2) {
         return Some(random.pick(&in_use));
     }

@@ -143,7 +143,7 @@ impl World {
 
     /// A slot in use or an empty one, if there is such a one.
     pub fn some_slot(&self, random: &mut Random, in_use: bool) -> Option<u8> {
-        let fits = |slot: &u8| self.slots[usize::from(*slot)].in_use == in_use;
+        let fits = |slot: &u8| self.slots[usize::from(*slot)].is_in_use() == in_use;
         let slots: Vec<u8> = (0..SLOTS as u8).filter(fits).collect();
         if slots.is_empty() {
             return None;
