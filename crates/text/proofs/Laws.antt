@@ -2,14 +2,14 @@
 use mathlib.Core.Path.{_≡_, refl, sym, ap, subst, _∙_}
 use mathlib.Core.List.{List, [], _∷_, _++_, append-nil, append-assoc}
 use mathlib.Core.Logic.{⊎-elim}
-use Prim.Native.Nat.{ℕ, zero, suc, _+_, _*_, _/_, _%_, _^_, _≤_, _<_}
+use Prim.Native.Nat.{ℕ, zero, suc, _+_, _-_, _*_, _/_, _%_, _^_, _≤_, _<_}
 use native.Mathlib.Nat.{add-zero, pow-succ'}
 use native.Mathlib.Decide.{decLt}
 use native.Mathlib.Numerals.{add-one}
 use native.Mathlib.Omega.{arith}
 use borrow.Author.Tests.{lt-ltb, le-ltb}
-use lib.ListN.{length, take, set, getD, length-append, length-set}
-use lib.Seq.{take-suc, take-suc-set, take-length}
+use lib.ListN.{length, take, drop, set, getD, length-append, length-set}
+use lib.Seq.{take-suc, take-suc-set, take-length, drop-set-lt, drop-drop}
 use Rattle.text.specs.Text.{digit, digits, decimal, Appended}
 
 -- x + 1 digits are enough for x, and more change nothing
@@ -51,26 +51,38 @@ decimal-length (suc n) x h = go (decimal-length n (x / 10) (omega (arith, pow-su
   go tenth (no l) = omega (arith, size-more x (omega arith))
 
 -- nothing put behind it leaves the text
-pub appended-none : (out : List ℕ) (n : ℕ) → n ≤ length out → Appended out n [] out n
-appended-none out n h = record { reach = omega arith; room = h; says = sym (append-nil (take n out)) }
+pub appended-none : (out : List ℕ) (written : ℕ) → written ≤ length out → Appended out written [] out written
+appended-none out written h =
+    record { reach = omega arith; room = h; says = sym (append-nil (take written out)); long = refl; stays = refl }
+
+-- what is the same from n on is the same from any later place on
+same-behind : (xs ys : List ℕ) (n m : ℕ) → n ≤ m → drop n xs ≡ drop n ys → drop m xs ≡ drop m ys
+same-behind xs ys n m h e =
+    let k : n + (m - n) ≡ m = omega arith in
+    subst (λ (i : ℕ). drop i xs ≡ drop i ys) k (sym (drop-drop (m - n) n xs) ∙ ap (drop (m - n)) e ∙ drop-drop (m - n) n ys)
 
 -- text, and then text behind it
-pub appended-then : {out out′ out″ : List ℕ} {n n′ n″ : ℕ} {s t : List ℕ} → Appended out n s out′ n′ → Appended out′ n′ t out″ n″ →
-    Appended out n (s ++ t) out″ n″
-appended-then {out} {n = n} {s = s} {t} a b =
+pub appended-then : {out out′ out″ : List ℕ} {written written′ written″ : ℕ} {s t : List ℕ} →
+    Appended out written s out′ written′ → Appended out′ written′ t out″ written″ → Appended out written (s ++ t) out″ written″
+appended-then {out} {out′} {written = written} {written′} {written″} {s} {t} a b =
     record {
       reach = rw length-append (omega arith);
       room = b .room;
-      says = b .says ∙ ap (λ xs. xs ++ t) (a .says) ∙ append-assoc (take n out) s t;
+      says = b .says ∙ ap (λ xs. xs ++ t) (a .says) ∙ append-assoc (take written out) s t;
+      long = b .long ∙ a .long;
+      stays = b .stays ∙ same-behind out′ out written′ written″ (omega arith) (a .stays);
     }
 
 -- a byte stored behind the text
-pub appended-byte : (out : List ℕ) (n b : ℕ) → n < length out → Appended out n (b ∷ []) (set out n b) (n + 1)
-appended-byte out n b h =
+pub appended-byte : (out : List ℕ) (written byte : ℕ) → written < length out →
+    Appended out written (byte ∷ []) (set out written byte) (written + 1)
+appended-byte out written byte h =
     record {
       reach = refl;
       room = rw length-set (omega arith);
-      says = rw add-one (take-suc-set out n b h);
+      says = rw add-one (take-suc-set out written byte h);
+      long = length-set out written byte;
+      stays = drop-set-lt (written + 1) out written byte (omega arith);
     }
 
 -- a copy begins with nothing

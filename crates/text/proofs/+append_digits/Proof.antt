@@ -30,13 +30,14 @@ pub +append-digits-spec : {M : Type 1} → statement M
     append-digits.Post
     (λ c. search needs)
     (λ c. search needs)
-    (λ c κs. omega (arith, size-one (c .before .before .before .args .x) (c .before .if1 .taken)))
+    (λ c κs. omega (arith, size-one (c .before .before .before .args .number) (c .before .if1 .taken)))
     (λ c. search needs)
     (λ c. number-one (c .before .before .before .before .if1 .taken) (c .before .before .append-byte .ensures))
-    (λ c κs. (search needs, omega (arith, size-more (c .before .before .before .args .x) (c .before .if1 .left))))
+    (λ c κs. (search needs, omega (arith, size-more (c .before .before .before .args .number) (c .before .if1 .left))))
     (λ c. search needs)
     (λ c. search needs)
-    (λ c κs. let b = c .before .before .before .before .before in omega (arith, size-more (b .before .before .args .x) (b .if1 .left)))
+    (λ c κs. let b = c .before .before .before .before .before in omega (arith, size-more (b .before .before .args .number) (b .if1 .left)))
     (λ c. search needs)
-    (λ c. number-more (c .before .before .before .before .before .before .before .before .if1 .left)
-    (c .before .before .before .before .before .before .append-digits .ensures) (c .before .before .append-byte2 .ensures))
+    (λ c. let last = c .before .before in
+    let ahead = last .before .before .before .before in
+    number-more (ahead .before .before .if1 .left) (ahead .append-digits .ensures) (last .append-byte2 .ensures))

@@ -1,4 +1,4 @@
--- `text::append_bytes` meets its contract. The loop's invariant: the first i bytes of `src` are appended.
+-- `text::append_bytes` meets its contract. The loop's invariant: the first `copied` bytes of `source` are appended.
 use Prim.Native.Nat.{_+_, _-_, _≤_}
 use native.Mathlib.Omega.{arith}
 use borrow.Author.Needs.{needs}
@@ -10,10 +10,11 @@ use Rattle.text.proofs.append_bytes.Statement.{statement}
 use Rattle.text.proofs.append_bytes.Tie as tie
 
 abbrev Inv-loop : tie.InvT-loop
-Inv-loop out₀ n src i₀ out i = (i ≤ length src) × (length out ≡ length out₀) × Appended out₀ n (take i src) out (n + i)
+Inv-loop out₀ written source copied₀ out copied =
+    (copied ≤ length source) × (length out ≡ length out₀) × Appended out₀ written (take copied source) out (written + copied)
 
 abbrev μ-loop : tie.MeasureT-loop
-μ-loop out₀ n src i₀ out i = length src - i
+μ-loop out₀ written source copied₀ out copied = length source - copied
 
 pub append-bytes-spec : {M : Type 1} → statement M
 append-bytes-spec =
@@ -21,7 +22,7 @@ append-bytes-spec =
     (tie.spec
     Inv-loop
     μ-loop
-    (λ c. (search needs, refl, copied-none _ (c .args .src .now) _ (omega arith)))
+    (λ c. (search needs, refl, copied-none _ (c .args .source .now) _ (omega arith)))
     (λ c. search needs)
     (λ c. search needs)
     (λ c. search needs)

@@ -9,7 +9,7 @@ pub append-number-spec : {M : Type 1} → statement M
 append-number-spec =
     tie.close
     (tie.spec
-    (λ c κs. omega (arith, decimal-length 19 (c .before .before .args .x) (omega arith)))
+    (λ c κs. omega (arith, decimal-length 19 (c .before .before .args .number) (omega arith)))
     (λ c. search needs)
     (λ c. let b = c .before .before in
-    (b .append-digits .ensures, omega (arith, decimal-length 19 (b .before .before .before .args .x) (omega arith)))))
+    (b .append-digits .ensures, omega (arith, decimal-length 19 (b .before .before .before .args .number) (omega arith)))))
