@@ -7,119 +7,128 @@ ghost use Rattle.text.specs.Text.{Appended};
 ghost use Rattle.lines.specs.Lines.{field, eventsLine, refusedLine, answerText, answerLine, rowLine, logLine, storedLine};
 
 // A number behind a blank.
-pub fn append_field(out: &mut [u8], n: usize, x: u64) -> usize
-    requires { ⌜ n + 21 ≤ length (now out) ⌝ }
-    ensures { λ r. ⌜ Appended (now (out .entry)) n (field x) (now (out .exit)) r × (r ≤ n + 21) ⌝ }
+pub fn append_field(out: &mut [u8], written: usize, number: u64) -> usize
+    requires { ⌜ written + 21 ≤ length (now out) ⌝ }
+    ensures { λ r. ⌜ Appended (now (out .entry)) written (field number) (now (out .exit)) r × (r ≤ written + 21) ⌝ }
 {
-    let a = text::append_byte(out, n, b' ');
-    text::append_number(out, a, x)
+    let written = text::append_byte(out, written, b' ');
+    text::append_number(out, written, number)
 }
 
 // events TOTAL
-pub fn events_line(out: &mut [u8], n: usize, total: u64) -> usize
-    requires { ⌜ n + 28 ≤ length (now out) ⌝ }
-    ensures { λ r. ⌜ Appended (now (out .entry)) n (eventsLine total) (now (out .exit)) r × (r ≤ n + 28) ⌝ }
+pub fn events_line(out: &mut [u8], written: usize, total: u64) -> usize
+    requires { ⌜ written + 28 ≤ length (now out) ⌝ }
+    ensures { λ r. ⌜ Appended (now (out .entry)) written (eventsLine total) (now (out .exit)) r × (r ≤ written + 28) ⌝ }
 {
-    let a = text::append_bytes(out, n, b"events");
-    let b = append_field(out, a, total);
-    text::append_byte(out, b, b'\n')
+    let written = text::append_bytes(out, written, b"events");
+    let written = append_field(out, written, total);
+    text::append_byte(out, written, b'\n')
 }
 
 // refused N
-pub fn refused_line(out: &mut [u8], n: usize, question: u8) -> usize
-    requires { ⌜ n + 29 ≤ length (now out) ⌝ }
-    ensures { λ r. ⌜ Appended (now (out .entry)) n (refusedLine question) (now (out .exit)) r × (r ≤ n + 29) ⌝ }
+pub fn refused_line(out: &mut [u8], written: usize, question: u8) -> usize
+    requires { ⌜ written + 29 ≤ length (now out) ⌝ }
+    ensures { λ r. ⌜ Appended (now (out .entry)) written (refusedLine question) (now (out .exit)) r × (r ≤ written + 29) ⌝ }
 {
-    let a = text::append_bytes(out, n, b"refused");
-    let b = append_field(out, a, question as u64);
-    text::append_byte(out, b, b'\n')
+    let written = text::append_bytes(out, written, b"refused");
+    let written = append_field(out, written, question as u64);
+    text::append_byte(out, written, b'\n')
 }
 
 // reply ID VALUE
-fn append_reply(out: &mut [u8], n: usize, id: u64, value: u64) -> usize
-    requires { ⌜ n + 47 ≤ length (now out) ⌝ }
-    ensures { λ r. ⌜ Appended (now (out .entry)) n (answerText (answerOf (Answer.Reply id value))) (now (out .exit)) r × (r ≤ n + 47) ⌝ }
+fn append_reply(out: &mut [u8], written: usize, id: u64, value: u64) -> usize
+    requires { ⌜ written + 47 ≤ length (now out) ⌝ }
+    ensures { λ r. ⌜ Appended (now (out .entry)) written (answerText (answerOf (Answer.Reply id value))) (now (out .exit)) r
+        × (r ≤ written + 47) ⌝ }
 {
-    let a = text::append_bytes(out, n, b"reply");
-    let b = append_field(out, a, id);
-    append_field(out, b, value)
+    let written = text::append_bytes(out, written, b"reply");
+    let written = append_field(out, written, id);
+    append_field(out, written, value)
 }
 
 // refused N, of an answer: the place that goes with 4 to 8 isn't printed.
 fn append_refused(
     out: &mut [u8],
-    n: usize,
+    written: usize,
     question: u8,
     workflow: usize,
     instruction: usize,
 ) -> usize
-    requires { ⌜ n + 47 ≤ length (now out) ⌝ }
-    ensures { λ r. ⌜ Appended (now (out .entry)) n (answerText (answerOf (Answer.Refused question workflow instruction))) (now (out .exit)) r × (r ≤ n + 47) ⌝ }
+    requires { ⌜ written + 47 ≤ length (now out) ⌝ }
+    ensures { λ r. ⌜ Appended (now (out .entry)) written (answerText (answerOf (Answer.Refused question workflow instruction)))
+        (now (out .exit)) r × (r ≤ written + 47) ⌝ }
 {
-    let a = text::append_bytes(out, n, b"refused");
-    append_field(out, a, question as u64)
+    let written = text::append_bytes(out, written, b"refused");
+    append_field(out, written, question as u64)
 }
 
 // An answer in words.
-pub fn append_answer(out: &mut [u8], n: usize, answer: Answer) -> usize
-    requires { ⌜ n + 47 ≤ length (now out) ⌝ }
-    ensures { λ r. ⌜ Appended (now (out .entry)) n (answerText (answerOf answer)) (now (out .exit)) r × (r ≤ n + 47) ⌝ }
+pub fn append_answer(out: &mut [u8], written: usize, answer: Answer) -> usize
+    requires { ⌜ written + 47 ≤ length (now out) ⌝ }
+    ensures { λ r. ⌜ Appended (now (out .entry)) written (answerText (answerOf answer)) (now (out .exit)) r × (r ≤ written + 47) ⌝ }
 {
     match answer {
-        Answer::Done => text::append_bytes(out, n, b"done"),
-        Answer::Moved => text::append_bytes(out, n, b"moved"),
-        Answer::Reply { id, value } => append_reply(out, n, id as u64, value as u64),
+        Answer::Done => text::append_bytes(out, written, b"done"),
+        Answer::Moved => text::append_bytes(out, written, b"moved"),
+        Answer::Reply { id, value } => append_reply(out, written, id as u64, value as u64),
         Answer::Refused {
             question,
             workflow,
             instruction,
-        } => append_refused(out, n, question, workflow, instruction),
+        } => append_refused(out, written, question, workflow, instruction),
     }
 }
 
 // An event's number and its answer.
-pub fn answer_line(out: &mut [u8], n: usize, event: u64, answer: Answer) -> usize
-    requires { ⌜ n + 69 ≤ length (now out) ⌝ }
-    ensures { λ r. ⌜ Appended (now (out .entry)) n (answerLine event (answerOf answer)) (now (out .exit)) r × (r ≤ n + 69) ⌝ }
+pub fn answer_line(out: &mut [u8], written: usize, event: u64, answer: Answer) -> usize
+    requires { ⌜ written + 69 ≤ length (now out) ⌝ }
+    ensures { λ r. ⌜ Appended (now (out .entry)) written (answerLine event (answerOf answer)) (now (out .exit)) r × (r ≤ written + 69) ⌝ }
 {
-    let a = text::append_number(out, n, event);
-    let b = text::append_byte(out, a, b' ');
-    let c = append_answer(out, b, answer);
-    text::append_byte(out, c, b'\n')
+    let written = text::append_number(out, written, event);
+    let written = text::append_byte(out, written, b' ');
+    let written = append_answer(out, written, answer);
+    text::append_byte(out, written, b'\n')
 }
 
 // row PARTITION KEY VALUE
-pub fn row_line(out: &mut [u8], n: usize, p: u64, key: u64, value: u64) -> usize
-    requires { ⌜ n + 88 ≤ length (now out) ⌝ }
-    ensures { λ r. ⌜ Appended (now (out .entry)) n (rowLine p key value) (now (out .exit)) r × (r ≤ n + 88) ⌝ }
+pub fn row_line(out: &mut [u8], written: usize, partition: u64, key: u64, value: u64) -> usize
+    requires { ⌜ written + 88 ≤ length (now out) ⌝ }
+    ensures { λ r. ⌜ Appended (now (out .entry)) written (rowLine partition key value) (now (out .exit)) r × (r ≤ written + 88) ⌝ }
 {
-    let a = text::append_bytes(out, n, b"row");
-    let b = append_field(out, a, p);
-    let c = append_field(out, b, key);
-    let d = append_field(out, c, value);
-    text::append_byte(out, d, b'\n')
+    let written = text::append_bytes(out, written, b"row");
+    let written = append_field(out, written, partition);
+    let written = append_field(out, written, key);
+    let written = append_field(out, written, value);
+    text::append_byte(out, written, b'\n')
 }
 
 // log PARTITION ID STEP VALUE
-fn log_line(out: &mut [u8], n: usize, p: u64, id: u64, step: u64, value: u64) -> usize
-    requires { ⌜ n + 88 ≤ length (now out) ⌝ }
-    ensures { λ r. ⌜ Appended (now (out .entry)) n (logLine p id step value) (now (out .exit)) r × (r ≤ n + 88) ⌝ }
+fn log_line(out: &mut [u8], written: usize, partition: u64, id: u64, step: u64, value: u64) -> usize
+    requires { ⌜ written + 88 ≤ length (now out) ⌝ }
+    ensures { λ r. ⌜ Appended (now (out .entry)) written (logLine partition id step value) (now (out .exit)) r × (r ≤ written + 88) ⌝ }
 {
-    let a = text::append_bytes(out, n, b"log");
-    let b = append_field(out, a, p);
-    let c = append_field(out, b, id);
-    let d = append_field(out, c, step);
-    let e = append_field(out, d, value);
-    text::append_byte(out, e, b'\n')
+    let written = text::append_bytes(out, written, b"log");
+    let written = append_field(out, written, partition);
+    let written = append_field(out, written, id);
+    let written = append_field(out, written, step);
+    let written = append_field(out, written, value);
+    text::append_byte(out, written, b'\n')
 }
 
 // A row by its stored key.
-pub fn stored_line(out: &mut [u8], n: usize, p: u64, key: u64, value: u64) -> usize
-    requires { ⌜ n + 88 ≤ length (now out) ⌝ }
-    ensures { λ r. ⌜ Appended (now (out .entry)) n (storedLine p key value) (now (out .exit)) r × (r ≤ n + 88) ⌝ }
+pub fn stored_line(out: &mut [u8], written: usize, partition: u64, key: u64, value: u64) -> usize
+    requires { ⌜ written + 88 ≤ length (now out) ⌝ }
+    ensures { λ r. ⌜ Appended (now (out .entry)) written (storedLine partition key value) (now (out .exit)) r × (r ≤ written + 88) ⌝ }
 {
     if keys::is_data(key) {
-        return row_line(out, n, p, keys::data_of(key), value);
+        return row_line(out, written, partition, keys::data_of(key), value);
     }
-    log_line(out, n, p, keys::id_of(key), keys::step_of(key), value)
+    log_line(
+        out,
+        written,
+        partition,
+        keys::id_of(key),
+        keys::step_of(key),
+        value,
+    )
 }
