@@ -9,7 +9,8 @@ use native.Mathlib.Numerals.{add-one}
 use native.Mathlib.Omega.{arith}
 use borrow.Author.Tests.{eq-eqb}
 use lib.Dec.{leb}
-use lib.ListN.{length, take, replicate}
+use lib.ListN.{length, take, drop, replicate, drop-of-length-le}
+use lib.Seq.{take-all, take-at, drop-at}
 use Rattle.questions.specs.Questions.{No, ask}
 use Rattle.questions.specs.Verdicts.{verdictOf}
 use Rattle.rules.specs.Plain.{Event}
@@ -36,7 +37,7 @@ use Rattle.chain.proofs.Theorem.{sized}
 use Rattle.schedule_check.specs.Layout.{eventCount}
 use Rattle.schedule_check.specs.Questions.{bytesRefusal, Allowed, scheduleRefusal}
 use Rattle.schedule.specs.Events.{callAt, callsOf}
-use Rattle.schedule.specs.Run.{madeIn, answerLines, WholeRun, Printed}
+use Rattle.schedule.specs.Run.{madeIn, answerLines, storeSize, Ran, WholeRun, Printed}
 use Rattle.schedule.specs.Going.{Going, Went}
 use Rattle.schedule_check.proofs.Steps.{laid}
 
@@ -143,39 +144,65 @@ chain-sound {pack} {P} {C} {events} {store} {records} h =
 
 -- ---- what is printed
 
-pub prints : {pack s out : List ℕ} {e a b r : ℕ} {store out1 out2 out3 : List ℕ} → e ≡ eventCount s →
-    Appended out 0 (eventsLine e) out1 a → Went pack s out1 a store out2 b
-    → Appended out2 b (storeText store) out3 r → WholeRun pack s (take r out3)
-prints {r = r} {store = store} {out3 = out3} q x w z =
-    let g = w .going in
+module _ {pack s out : List ℕ} (e : ℕ) {a b r : ℕ} {store out1 out2 out3 : List ℕ} (x : Appended out 0 (eventsLine e) out1 a)
+    (w : Went pack s out1 a store out2 b) (z : Appended out2 b (storeText store) out3 r) where
+  -- the event total, the answers and the store, one behind the other
+  pub all-said : Appended out 0 (eventsLine e ++ (answerLines (w .going .events) ++ storeText store)) out3 r
+  all-said = appended-then x (appended-then (w .going .said) z)
+
+  -- on a store of just the size, there is nothing behind it
+  pub prints : (lent : List ℕ) → e ≡ eventCount s → length lent ≡ storeSize s → length store ≡ storeSize s →
+      WholeRun pack s lent store (take r out3)
+  prints lent q l l′ =
+      record {
+        events = g .events;
+        records = w .records;
+        ran = subst (λ xs. Ran pack s (eventCount s) (g .events) xs (w .records)) (sym whole) (g .ran);
+        prints = all-said .says ∙ ap (λ k. eventsLine k ++ (answerLines (g .events) ++ storeText store)) q
+            ∙ ap (λ xs. eventsLine (eventCount s) ++ (answerLines (g .events) ++ storeText xs)) (sym whole);
+        behind = drop-of-length-le store {i = storeSize s} (omega arith) ∙ sym (drop-of-length-le lent {i = storeSize s} (omega arith));
+      }
+    where
+      g : Going pack s out1 a (eventCount s) store (w .records) out2 b
+      g = w .going
+
+      whole : take (storeSize s) store ≡ store
+      whole = take-all (storeSize s) store (omega arith)
+
+-- a run on the first bytes of what is lent, which are put back in front of those behind them
+pub on-first : (pack s part part′ lent text : List ℕ) (size : ℕ) → size ≡ storeSize s → length part′ ≡ storeSize s →
+    WholeRun pack s part part′ text → WholeRun pack s lent (part′ ++ drop size lent) text
+on-first pack s part part′ lent text size e l w =
     record {
-      events = g .events;
-      store = store;
+      events = w .events;
       records = w .records;
-      ran = g .ran;
-      prints = subst (λ (k : ℕ). take r out3 ≡ eventsLine k ++ (answerLines (g .events) ++ storeText store)) q
-          (appended-then x (appended-then (g .said) z) .says);
+      ran = subst (λ xs. Ran pack s (eventCount s) (w .events) xs (w .records)) same (w .ran);
+      prints = w .prints ∙ ap (λ xs. eventsLine (eventCount s) ++ (answerLines (w .events) ++ storeText xs)) same;
+      behind = drop-at part′ (drop size lent) (storeSize s) l ∙ ap (λ n. drop n lent) e;
     }
+  where
+    same : take (storeSize s) part′ ≡ take (storeSize s) (part′ ++ drop size lent)
+    same = take-all (storeSize s) part′ (omega arith) ∙ sym (take-at part′ (drop size lent) (storeSize s) l)
 
 module _ (p s : List ℕ) (v : Verdict) (said : v ≡ verdictOf (scheduleRefusal p s)) where
   pub none-said : v ≡ Accepted → scheduleRefusal p s ≡ none
   none-said e = verdict-none _ (sym e ∙ said)
 
-  pub printed-run : (text : List ℕ) → v ≡ Accepted → WholeRun p s text → Printed p s text
-  printed-run text e r =
+  pub printed-run : (lent lent′ text : List ℕ) → v ≡ Accepted → WholeRun p s lent lent′ text → Printed p s lent lent′ text
+  printed-run lent lent′ text e r =
       record {
         refused = λ n q. let f = none-said e in let z : _≡_ {A = ℕ} 0 1 = cc in absurd (omega arith);
         run = λ q. r;
       }
 
-  pub printed-refused : (out out′ : List ℕ) (r question workflow instruction : ℕ) → v ≡ Refused question workflow instruction →
+  pub printed-refused : (lent out out′ : List ℕ) (r question workflow instruction : ℕ) → v ≡ Refused question workflow instruction →
       Appended out 0 (refusedLine question) out′ r
-      → Printed p s (take r out′)
-  printed-refused out out′ r question workflow instruction e a =
+      → Printed p s lent lent (take r out′)
+  printed-refused lent out out′ r question workflow instruction e a =
       record {
         refused = λ n q. let z : Refused question workflow instruction ≡ Refused (n .question) (n .workflow) (n .instruction) =
             sym e ∙ said ∙ ap verdictOf q in
-            let f : n .question ≡ question = cc in a .says ∙ ap refusedLine (sym f);
+            let f : n .question ≡ question = cc in (a .says ∙ ap refusedLine (sym f), refl);
         run = λ q. let y : Refused question workflow instruction ≡ Accepted = sym e ∙ said ∙ ap verdictOf q in let z : _≡_ {A = ℕ} 0 1 =
             cc in absurd (omega arith);
       }

@@ -7,13 +7,14 @@ use Rattle.text.specs.Text.{Appended}
 use Rattle.schedule_check.specs.Layout.{eventCount}
 use Rattle.schedule.specs.Run.{answerLines, Ran}
 
--- the first i events were run, and their answers printed
-pub record Going (pack schedule out : List ℕ) (n i : ℕ) (store : List ℕ) (records : List Agent) (out′ : List ℕ) (at : ℕ) : Type 0 where
+-- the first `count` events were run, and their answers printed
+pub record Going (pack schedule out : List ℕ) (written count : ℕ) (store : List ℕ) (records : List Agent) (out′ : List ℕ)
+    (written′ : ℕ) : Type 0 where
   pub events : List Event
-  pub ran : Ran pack schedule i events store records
-  pub said : Appended out n (answerLines events) out′ at
+  pub ran : Ran pack schedule count events store records
+  pub said : Appended out written (answerLines events) out′ written′
 
 -- all were
-pub record Went (pack schedule out : List ℕ) (n : ℕ) (store out′ : List ℕ) (at : ℕ) : Type 0 where
+pub record Went (pack schedule out : List ℕ) (written : ℕ) (store out′ : List ℕ) (written′ : ℕ) : Type 0 where
   pub records : List Agent
-  pub going : Going pack schedule out n (eventCount schedule) store records out′ at
+  pub going : Going pack schedule out written (eventCount schedule) store records out′ written′

@@ -3,11 +3,11 @@ use mathlib.Core.List.{List, [], _∷_, _++_}
 use mathlib.Core.Option.{none, some}
 use mathlib.Core.Path.{_≡_}
 use Prim.Native.Nat.{ℕ}
-use lib.ListN.{length}
+use lib.ListN.{length, take, drop}
 use Rattle.questions.specs.Questions.{No}
 use Rattle.rules.specs.Calls.{Call}
 use Rattle.rules.specs.Plain.{Event}
-use Rattle.store.specs.Layout.{partsOf, capOf}
+use Rattle.store.specs.Layout.{partsOf, capOf, storeLength}
 use Rattle.agents.specs.declared.Agent.{Agent}
 use Rattle.lines.specs.Lines.{eventsLine, refusedLine, answerLine}
 use Rattle.listing.specs.Store.{storeText}
@@ -32,15 +32,20 @@ pub record Ran (pack schedule : List ℕ) (n : ℕ) (events : List Event) (store
   pub chain : Chain pack (partsOf schedule) (capOf schedule) events (record { store = store; records = records })
   pub calls : madeIn events ≡ callsOf schedule n
 
--- A whole run prints the event total, the answers, and the store that is left.
-pub record WholeRun (pack schedule : List ℕ) (text : List ℕ) : Type 0 where
-  pub events : List Event
-  pub store : List ℕ
-  pub records : List Agent
-  pub ran : Ran pack schedule (eventCount schedule) events store records
-  pub prints : text ≡ eventsLine (eventCount schedule) ++ (answerLines events ++ storeText store)
+-- how many bytes the store of a schedule's P and C has
+abbrev pub storeSize : (schedule : List ℕ) → ℕ
+storeSize s = storeLength (partsOf s) (capOf s)
 
--- What the program prints of any pack and schedule: only the first no, or else the run.
-pub record Printed (pack schedule : List ℕ) (text : List ℕ) : Type 0 where
-  pub refused : (n : No) → scheduleRefusal pack schedule ≡ some n → text ≡ refusedLine (n .question)
-  pub run : scheduleRefusal pack schedule ≡ none → WholeRun pack schedule text
+-- A whole run prints the event total, the answers, and the store that is left. That store is the first bytes of what was lent for it; the
+-- bytes behind it stay as they were.
+pub record WholeRun (pack schedule lent lent′ text : List ℕ) : Type 0 where
+  pub events : List Event
+  pub records : List Agent
+  pub ran : Ran pack schedule (eventCount schedule) events (take (storeSize schedule) lent′) records
+  pub prints : text ≡ eventsLine (eventCount schedule) ++ (answerLines events ++ storeText (take (storeSize schedule) lent′))
+  pub behind : drop (storeSize schedule) lent′ ≡ drop (storeSize schedule) lent
+
+-- What the program prints of any pack and schedule: only the first no, and then what was lent for the store is unchanged, or else the run.
+pub record Printed (pack schedule lent lent′ text : List ℕ) : Type 0 where
+  pub refused : (n : No) → scheduleRefusal pack schedule ≡ some n → (text ≡ refusedLine (n .question)) × (lent′ ≡ lent)
+  pub run : scheduleRefusal pack schedule ≡ none → WholeRun pack schedule lent lent′ text

@@ -11,61 +11,68 @@ ghost use Rattle.schedule_check.specs.Layout.{requestCount, eventCount, request
 ghost use Rattle.schedule_check.specs.Questions.{ScheduleLaid, Allowed, eventRight};
 ghost use Rattle.schedule.specs.Events.{callOf, callAt};
 
-// The arrival of request `r`.
+// The arrival of a request.
 fn arrival_of(
     pack: &[u8],
-    s: &[u8],
+    schedule: &[u8],
     store: &mut [u8],
     agents: [Agent; 8],
     slot: usize,
-    r: usize,
+    request: usize,
 ) -> Outcome
-    requires { ⌜ ScheduleLaid (now s) × (r < requestCount (now s)) ⌝ }
-    ensures { λ o. ⌜ Carried (now (pack .entry)) (record { store = now (store .entry); records = agents }) (Call.arrival slot (requestId (now (s .entry)) r) (requestWorkflow (now (s .entry)) r) (requestArguments (now (s .entry)) r)) (o .answer) (record { store = now (store .exit); records = o .agents }) ⌝ }
+    requires { ⌜ ScheduleLaid (now schedule) × (request < requestCount (now schedule)) ⌝ }
+    ensures { λ o. ⌜ Carried (now (pack .entry)) (record { store = now (store .entry); records = agents })
+        (Call.arrival slot (requestId (now (schedule .entry)) request) (requestWorkflow (now (schedule .entry)) request)
+        (requestArguments (now (schedule .entry)) request))
+        (o .answer) (record { store = now (store .exit); records = o .agents }) ⌝ }
 {
-    let at = 6 + 24 * r;
-    let id = words::read32(s, at);
+    let from = 6 + 24 * request;
+    let id = words::read32(schedule, from);
     let q = Request {
-        workflow: words::read32(s, at + 4),
-        a0: words::read32(s, at + 8),
-        a1: words::read32(s, at + 12),
-        a2: words::read32(s, at + 16),
-        a3: words::read32(s, at + 20),
+        workflow: words::read32(schedule, from + 4),
+        a0: words::read32(schedule, from + 8),
+        a1: words::read32(schedule, from + 12),
+        a2: words::read32(schedule, from + 16),
+        a3: words::read32(schedule, from + 20),
     };
     runtime::arrival(pack, store, agents, slot, id, q)
 }
 
-// The retry of request `r`.
+// The retry of a request.
 fn retry_of(
     pack: &[u8],
-    s: &[u8],
+    schedule: &[u8],
     store: &[u8],
     agents: [Agent; 8],
     slot: usize,
-    r: usize,
+    request: usize,
 ) -> Outcome
-    requires { ⌜ ScheduleLaid (now s) × (r < requestCount (now s)) ⌝ }
-    ensures { λ o. ⌜ Carried (now (pack .entry)) (record { store = now (store .entry); records = agents }) (Call.retry slot (requestId (now (s .entry)) r)) (o .answer) (record { store = now (store .entry); records = o .agents }) ⌝ }
+    requires { ⌜ ScheduleLaid (now schedule) × (request < requestCount (now schedule)) ⌝ }
+    ensures { λ o. ⌜ Carried (now (pack .entry)) (record { store = now (store .entry); records = agents })
+        (Call.retry slot (requestId (now (schedule .entry)) request))
+        (o .answer) (record { store = now (store .entry); records = o .agents }) ⌝ }
 {
-    let id = words::read32(s, 6 + 24 * r);
+    let id = words::read32(schedule, 6 + 24 * request);
     runtime::retry(pack, store, agents, slot, id)
 }
 
 // The call of an event, by its kind, slot and request index.
 fn call_of(
     pack: &[u8],
-    s: &[u8],
+    schedule: &[u8],
     store: &mut [u8],
     agents: [Agent; 8],
     kind: u8,
     slot: usize,
-    r: u8,
+    request: u8,
 ) -> Outcome
-    requires { ⌜ ScheduleLaid (now s) × (eventRight (requestCount (now s)) kind r ≡ true) ⌝ }
-    ensures { λ o. ⌜ Carried (now (pack .entry)) (record { store = now (store .entry); records = agents }) (callOf (now (s .entry)) kind slot r) (o .answer) (record { store = now (store .exit); records = o .agents }) ⌝ }
+    requires { ⌜ ScheduleLaid (now schedule) × (eventRight (requestCount (now schedule)) kind request ≡ true) ⌝ }
+    ensures { λ o. ⌜ Carried (now (pack .entry)) (record { store = now (store .entry); records = agents })
+        (callOf (now (schedule .entry)) kind slot request)
+        (o .answer) (record { store = now (store .exit); records = o .agents }) ⌝ }
 {
     if kind == 0 {
-        return arrival_of(pack, s, store, agents, slot, r as usize);
+        return arrival_of(pack, schedule, store, agents, slot, request as usize);
     }
     if kind == 1 {
         return runtime::turn(pack, store, agents, slot);
@@ -74,19 +81,35 @@ fn call_of(
         return runtime::crash(pack, store, agents, slot);
     }
     if kind == 3 {
-        return retry_of(pack, s, store, agents, slot, r as usize);
+        return retry_of(pack, schedule, store, agents, slot, request as usize);
     }
     runtime::restart()
 }
 
-// The call of event `i`.
-pub fn call_event(pack: &[u8], s: &[u8], store: &mut [u8], agents: [Agent; 8], i: usize) -> Outcome
-    requires { ⌜ Allowed (now s) × (i < eventCount (now s)) ⌝ }
-    ensures { λ o. ⌜ Carried (now (pack .entry)) (record { store = now (store .entry); records = agents }) (callAt (now (s .entry)) i) (o .answer) (record { store = now (store .exit); records = o .agents }) ⌝ }
+// The call of an event, by its number.
+pub fn call_event(
+    pack: &[u8],
+    schedule: &[u8],
+    store: &mut [u8],
+    agents: [Agent; 8],
+    event: usize,
+) -> Outcome
+    requires { ⌜ Allowed (now schedule) × (event < eventCount (now schedule)) ⌝ }
+    ensures { λ o. ⌜ Carried (now (pack .entry)) (record { store = now (store .entry); records = agents })
+        (callAt (now (schedule .entry)) event)
+        (o .answer) (record { store = now (store .exit); records = o .agents }) ⌝ }
 {
-    let events = 6 + 24 * s[3] as usize;
-    let e = words::read16(s, 4) as usize;
-    let b = s[events + i];
-    let r = s[events + e + i];
-    call_of(pack, s, store, agents, b / 16, (b % 16) as usize, r)
+    let kinds = 6 + 24 * schedule[3] as usize;
+    let events = words::read16(schedule, 4) as usize;
+    let kind_and_slot = schedule[kinds + event];
+    let request = schedule[kinds + events + event];
+    call_of(
+        pack,
+        schedule,
+        store,
+        agents,
+        kind_and_slot / 16,
+        (kind_and_slot % 16) as usize,
+        request,
+    )
 }

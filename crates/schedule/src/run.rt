@@ -5,54 +5,68 @@ use schedule_check::check_schedule;
 ghost use mathlib.Core.List.{[]};
 ghost use mathlib.Core.Path.{_≡_};
 ghost use Prim.Native.Nat.{_+_, _≤_};
-ghost use lib.ListN.{length, take, replicate};
-ghost use Rattle.store.specs.Layout.{partsOf, capOf, storeLength};
+ghost use lib.ListN.{length, take, drop, replicate};
+ghost use Rattle.store.specs.Layout.{partsOf, capOf};
 ghost use Rattle.agents.specs.Slots.{noAgent};
 ghost use Rattle.chain.specs.Chain.{Chain};
 ghost use Rattle.schedule_check.specs.Questions.{Allowed};
-ghost use Rattle.schedule.specs.Run.{WholeRun, Printed};
+ghost use Rattle.schedule.specs.Run.{storeSize, WholeRun, Printed};
 ghost use Rattle.schedule.specs.Going.{Went};
 
 // Makes the calls of all events, and prints their answers.
-fn run_events(pack: &[u8], s: &[u8], store: &mut [u8], out: &mut [u8], n: usize) -> usize
-    requires { ⌜ Allowed (now s) × Chain (now pack) (partsOf (now s)) (capOf (now s)) [] (record { store = now store; records = replicate 8 noAgent }) × (n + 70656 ≤ length (now out)) ⌝ }
-    ensures { λ r. ⌜ Went (now (pack .entry)) (now (s .entry)) (now (out .entry)) n (now (store .exit)) (now (out .exit)) r × (r ≤ n + 70656) ⌝ }
+fn run_events(
+    pack: &[u8],
+    schedule: &[u8],
+    store: &mut [u8],
+    out: &mut [u8],
+    written: usize,
+) -> usize
+    requires { ⌜ Allowed (now schedule)
+        × Chain (now pack) (partsOf (now schedule)) (capOf (now schedule)) [] (record { store = now store; records = replicate 8 noAgent })
+        × (written + 70656 ≤ length (now out)) ⌝ }
+    ensures { λ r. ⌜ Went (now (pack .entry)) (now (schedule .entry)) (now (out .entry)) written (now (store .exit)) (now (out .exit)) r
+        × (r ≤ written + 70656) ⌝ }
 {
-    let e = words::read16(s, 4) as usize;
+    let events = words::read16(schedule, 4) as usize;
     let mut agents = agents::no_agents();
-    let mut at = n;
-    let mut i = 0;
-    while i < e {
-        let o = call_event(pack, s, store, agents, i);
+    let mut written = written;
+    let mut event = 0;
+    while event < events {
+        let o = call_event(pack, schedule, store, agents, event);
         agents = o.agents;
         let answer = o.answer;
-        at = lines::answer_line(out, at, i as u64, answer);
-        i += 1;
+        written = lines::answer_line(out, written, event as u64, answer);
+        event += 1;
     }
-    at
+    written
 }
 
 // The run on a store that fits the schedule's P and C.
-fn run_on(pack: &[u8], s: &[u8], store: &mut [u8], out: &mut [u8]) -> usize
-    requires { ⌜ Allowed (now s) × (length (now store) ≡ storeLength (partsOf (now s)) (capOf (now s))) × (524288 ≤ length (now out)) ⌝ }
-    ensures { λ r. ⌜ WholeRun (now (pack .entry)) (now (s .entry)) (take r (now (out .exit))) × (r ≤ length (now (out .exit))) ⌝ }
+fn run_on(pack: &[u8], schedule: &[u8], store: &mut [u8], out: &mut [u8]) -> usize
+    requires { ⌜ Allowed (now schedule) × (length (now store) ≡ storeSize (now schedule)) × (524288 ≤ length (now out)) ⌝ }
+    ensures { λ r. ⌜ WholeRun (now (pack .entry)) (now (schedule .entry)) (now (store .entry)) (now (store .exit)) (take r (now (out .exit)))
+        × (r ≤ length (now (out .exit))) × (drop r (now (out .exit)) ≡ drop r (now (out .entry))) ⌝ }
 {
-    let e = words::read16(s, 4) as u64;
-    let parts = store::head::partition_count(s);
-    let cap = store::head::capacity(s);
-    store_write::create::create(store, parts, cap);
-    let a = lines::events_line(out, 0, e);
-    let b = run_events(pack, s, store, out, a);
-    listing::print_store(store, out, b)
+    let events = words::read16(schedule, 4) as u64;
+    let partitions = store::head::partition_count(schedule);
+    let cap = store::head::capacity(schedule);
+    store_write::create::create(store, partitions, cap);
+    let written = lines::events_line(out, 0, events);
+    let written = run_events(pack, schedule, store, out, written);
+    listing::print_store(store, out, written)
 }
 
 // The run on the first bytes of a buffer.
-fn run_in(pack: &[u8], s: &[u8], store: &mut [u8], out: &mut [u8]) -> usize
-    requires { ⌜ Allowed (now s) × (27669 ≤ length (now store)) × (524288 ≤ length (now out)) ⌝ }
-    ensures { λ r. ⌜ WholeRun (now (pack .entry)) (now (s .entry)) (take r (now (out .exit))) × (r ≤ length (now (out .exit))) ⌝ }
+fn run_in(pack: &[u8], schedule: &[u8], store: &mut [u8], out: &mut [u8]) -> usize
+    requires { ⌜ Allowed (now schedule) × (27669 ≤ length (now store)) × (524288 ≤ length (now out)) ⌝ }
+    ensures { λ r. ⌜ WholeRun (now (pack .entry)) (now (schedule .entry)) (now (store .entry)) (now (store .exit)) (take r (now (out .exit)))
+        × (r ≤ length (now (out .exit))) × (drop r (now (out .exit)) ≡ drop r (now (out .entry))) ⌝ }
 {
-    let size = store::head::store_size(store::head::partition_count(s), store::head::capacity(s));
-    run_on(pack, s, &mut store[..size], out)
+    let size = store::head::store_size(
+        store::head::partition_count(schedule),
+        store::head::capacity(schedule),
+    );
+    run_on(pack, schedule, &mut store[..size], out)
 }
 
 // The longest store, 3 + 2 × 9 + 12 × 256 × 9.
@@ -69,9 +83,11 @@ pub fn text_buffer() -> [u8; 524_288]
     [0; 524_288]
 }
 
-// What the program prints: its first bytes in `out`, as many as it answers. No bytes of pack and schedule are taken for granted.
+// What the program prints: its first bytes in `out`, as many as it answers; behind them `out` is as it was. The store that is left stands in
+// the first bytes of `store`. No bytes of pack and schedule are taken for granted.
 pub fn run(pack: &[u8], schedule: &[u8], store: &mut [u8; 27_669], out: &mut [u8; 524_288]) -> usize
-    ensures { λ r. ⌜ Printed (now (pack .entry)) (now (schedule .entry)) (take r (now (out .exit))) × (r ≤ length (now (out .exit))) ⌝ }
+    ensures { λ r. ⌜ Printed (now (pack .entry)) (now (schedule .entry)) (now (store .entry)) (now (store .exit)) (take r (now (out .exit)))
+        × (r ≤ length (now (out .exit))) × (drop r (now (out .exit)) ≡ drop r (now (out .entry))) ⌝ }
 {
     let v = check_schedule(pack, schedule);
     match v {

@@ -10,7 +10,7 @@ use Rattle.schedule_check.proofs.check_bytes.Statement.{statement}
 use Rattle.schedule_check.proofs.check_bytes.Tie as tie
 
 -- behind a yes to 22 there are three bytes
-long : (c : tie.After-events-right) → 3 ≤ length (c .before .before .before .before .args .s .now)
+long : (c : tie.After-events-right) → 3 ≤ length (c .before .before .before .before .args .schedule .now)
 long c = let l = laid _ (sym (c .before .before .length-right .ensures) ∙ not-false _ (c .before .if1 .left)) in omega arith
 
 pub check-bytes-spec : {M : Type 1} → statement M

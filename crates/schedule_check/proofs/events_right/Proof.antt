@@ -12,10 +12,11 @@ use Rattle.schedule_check.proofs.events_right.Statement.{statement}
 use Rattle.schedule_check.proofs.events_right.Tie as tie
 
 abbrev Inv-loop : tie.InvT-loop
-Inv-loop s g e kinds indexes i₀ i = (i ≤ e) × (eachFrom (rightAt s) (e - i) i ≡ question23 s)
+Inv-loop schedule requests events kinds indexes event₀ event =
+    (event ≤ events) × (eachFrom (rightAt schedule) (events - event) event ≡ question23 schedule)
 
 abbrev μ-loop : tie.MeasureT-loop
-μ-loop s g e kinds indexes i₀ i = e - i
+μ-loop schedule requests events kinds indexes event₀ event = events - event
 
 pub events-right-spec : {M : Type 1} → statement M
 unfolding question23
@@ -31,7 +32,7 @@ events-right-spec =
     (λ c. omega arith)
     (λ c. omega arith)
     (λ c. omega arith)
-    (λ c. (search needs, rw sub-zero (ap (λ n. eachFrom (rightAt (c .before .before .before .args .s .now)) n 0) (c .read16 .ensures))))
+    (λ c. (search needs, rw sub-zero (ap (λ n. eachFrom (rightAt (c .before .before .before .args .schedule .now)) n 0) (c .read16 .ensures))))
     (λ c. omega arith)
     (λ c. omega arith)
     (λ c. omega arith)
@@ -39,13 +40,13 @@ events-right-spec =
     (λ c κs. search needs)
     (λ c. let l = c .before .before .before .before .before in
     let a = l .before .before .before .before .args in
-    let f = event-wrong (a .s .now) _ _ (l .loop .i) _ refl (l .before .read16 .ensures) (c .before .event-right .ensures)
+    let f = event-wrong (a .schedule .now) _ _ (l .loop .event) _ refl (l .before .read16 .ensures) (c .before .event-right .ensures)
     (c .if1 .taken) in
     sym (each-fails _ _ _ (omega arith) f) ∙ l .loop .inv .1)
     (λ c. search needs)
     (λ c. search needs)
     (λ c. let l = c .before .before .before .before .before in
     let a = l .before .before .before .before .args in
-    let f = event-right (a .s .now) _ _ (l .loop .i) _ refl (l .before .read16 .ensures) (c .before .event-right .ensures) (c .if1 .left) in
+    let f = event-right (a .schedule .now) _ _ (l .loop .event) _ refl (l .before .read16 .ensures) (c .before .event-right .ensures) (c .if1 .left) in
     (search needs, sym (each-more _ _ _ (omega arith) f) ∙ l .loop .inv .1))
     (λ c. sym (each-none _ _ _ (omega arith)) ∙ c .before .loop .inv .1))

@@ -21,12 +21,14 @@ run-spec =
     (λ c. search needs)
     (λ c κs. search needs)
     (λ c. (
-      printed-run _ _ _ (c .before .before .before .before .before .check-schedule .ensures) _
+      printed-run _ _ _ (c .before .before .before .before .before .check-schedule .ensures) _ _ _
           (c .before .before .before .enum-told .given .1) (c .run-in .ensures .0),
       c .run-in .ensures .1,
+      c .run-in .ensures .2,
     ))
-    (λ c. (
-      printed-refused _ _ _ (c .before .before .before .before .before .check-schedule .ensures) _ _ _ _ _ _
-          (c .before .before .before .v .given .1) (c .refused-line .ensures .0),
-      c .refused-line .ensures .0 .room,
+    (λ c. let a = c .refused-line .ensures .0 in (
+      printed-refused _ _ _ (c .before .before .before .before .before .check-schedule .ensures) _ _ _ _ _ _ _
+          (c .before .before .before .v .given .1) a,
+      a .room,
+      a .stays,
     )))

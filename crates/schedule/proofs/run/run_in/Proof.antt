@@ -5,21 +5,21 @@ use native.Mathlib.Omega.{arith}
 use lib.ListN.{length}
 use lib.Seq.{length-take-le}
 use denote.Ref.{now}
-use Rattle.store.specs.Layout.{partsOf, capOf, storeLength}
+use Rattle.schedule.specs.Run.{storeSize}
 use borrow.Author.Needs.{needs}
-use Rattle.schedule.proofs.Goes.{size-fits, size-as}
+use Rattle.schedule.proofs.Goes.{size-fits, size-as, on-first}
 use Rattle.schedule.proofs.run.run_in.Statement.{statement}
 use Rattle.schedule.proofs.run.run_in.Tie as tie
 
+abbrev start : tie.After-store-size → tie.Start
+start c = c .before .before .before .before .before .before .before
+
 -- the length of the store, and that it fits
-sized : (c : tie.After-store-size) →
-    c .store-size .result ≡ storeLength (partsOf (now (c .before .before .before .before .before .before .before .args .s)))
-    (capOf (now (c .before .before .before .before .before .before .before .args .s)))
+sized : (c : tie.After-store-size) → c .store-size .result ≡ storeSize (start c .args .schedule .now)
 sized c = size-as _ _ _ _ _ (c .store-size .ensures) (c .before .before .partition-count .ensures) (c .before .capacity .ensures)
 
-fits : (c : tie.After-store-size) →
-    c .store-size .result ≤ length (now (c .before .before .before .before .before .before .before .args .store))
-fits c = let q = c .before .before .before .before .before .before .before .pre in omega (arith, sized c, size-fits _ _ (q .0 .numbers) .2)
+fits : (c : tie.After-store-size) → c .store-size .result ≤ length (start c .args .store .now)
+fits c = let q = start c .pre in omega (arith, sized c, size-fits _ _ (q .0 .numbers) .2)
 
 pub run-in-spec : {M : Type 1} → statement M
 run-in-spec =
@@ -31,8 +31,12 @@ run-in-spec =
     (omega (arith, f .0), omega (arith, f .1)))
     (λ c. fits c)
     (λ c. sym (length-take-le _ _ (fits (c .before))))
-    (λ c κs. let d = c .before .before in let q = d .before .before .before .before .before .before .before .pre in
-    (q .0, length-take-le _ _ (fits d) ∙ sized d, q .2))
+    (λ c κs. let d = c .before .before in let q = start d .pre in (q .0, length-take-le _ _ (fits d) ∙ sized d, q .2))
     (λ c. search needs)
     (λ c. search needs)
-    (λ c. search needs))
+    (λ c. let r = c .before .before .before .before in
+    let d = r .before .before .before in (
+      on-first _ _ _ _ _ _ _ (sized d) (r .run-on .kept .1 .1 .0 ∙ length-take-le _ _ (fits d) ∙ sized d) (r .run-on .ensures .0),
+      r .run-on .ensures .1,
+      r .run-on .ensures .2,
+    )))
