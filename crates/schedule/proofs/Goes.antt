@@ -9,8 +9,8 @@ use native.Mathlib.Numerals.{add-one}
 use native.Mathlib.Omega.{arith}
 use borrow.Author.Tests.{eq-eqb}
 use lib.Dec.{leb}
-use lib.ListN.{length, take, drop, replicate, drop-of-length-le}
-use lib.Seq.{take-all, take-at, drop-at}
+use lib.ListN.{length, take, drop, replicate}
+use lib.Seq.{take-at, drop-at}
 use Rattle.questions.specs.Questions.{No, ask}
 use Rattle.questions.specs.Verdicts.{verdictOf}
 use Rattle.rules.specs.Plain.{Event}
@@ -37,7 +37,7 @@ use Rattle.chain.proofs.Theorem.{sized}
 use Rattle.schedule_check.specs.Layout.{eventCount}
 use Rattle.schedule_check.specs.Questions.{bytesRefusal, Allowed, scheduleRefusal}
 use Rattle.schedule.specs.Events.{callAt, callsOf}
-use Rattle.schedule.specs.Run.{madeIn, answerLines, storeSize, Ran, WholeRun, Printed}
+use Rattle.schedule.specs.Run.{madeIn, answerLines, RunPrints, storeSize, WholeRun, Printed}
 use Rattle.schedule.specs.Going.{Going, Went}
 use Rattle.schedule_check.proofs.Steps.{laid}
 
@@ -150,39 +150,23 @@ module _ {pack s out : List ℕ} (e : ℕ) {a b r : ℕ} {store out1 out2 out3 :
   pub all-said : Appended out 0 (eventsLine e ++ (answerLines (w .going .events) ++ storeText store)) out3 r
   all-said = appended-then x (appended-then (w .going .said) z)
 
-  -- on a store of just the size, there is nothing behind it
-  pub prints : (lent : List ℕ) → e ≡ eventCount s → length lent ≡ storeSize s → length store ≡ storeSize s →
-      WholeRun pack s lent store (take r out3)
-  prints lent q l l′ =
+  pub prints : e ≡ eventCount s → RunPrints pack s store (take r out3)
+  prints q =
       record {
-        events = g .events;
+        events = w .going .events;
         records = w .records;
-        ran = subst (λ xs. Ran pack s (eventCount s) (g .events) xs (w .records)) (sym whole) (g .ran);
-        prints = all-said .says ∙ ap (λ k. eventsLine k ++ (answerLines (g .events) ++ storeText store)) q
-            ∙ ap (λ xs. eventsLine (eventCount s) ++ (answerLines (g .events) ++ storeText xs)) (sym whole);
-        behind = drop-of-length-le store {i = storeSize s} (omega arith) ∙ sym (drop-of-length-le lent {i = storeSize s} (omega arith));
+        ran = w .going .ran;
+        prints = all-said .says ∙ ap (λ k. eventsLine k ++ (answerLines (w .going .events) ++ storeText store)) q;
       }
-    where
-      g : Going pack s out1 a (eventCount s) store (w .records) out2 b
-      g = w .going
-
-      whole : take (storeSize s) store ≡ store
-      whole = take-all (storeSize s) store (omega arith)
 
 -- a run on the first bytes of what is lent, which are put back in front of those behind them
-pub on-first : (pack s part part′ lent text : List ℕ) (size : ℕ) → size ≡ storeSize s → length part′ ≡ storeSize s →
-    WholeRun pack s part part′ text → WholeRun pack s lent (part′ ++ drop size lent) text
-on-first pack s part part′ lent text size e l w =
+pub on-first : (pack s store lent text : List ℕ) (size : ℕ) → size ≡ storeSize s → length store ≡ storeSize s →
+    RunPrints pack s store text → WholeRun pack s lent (store ++ drop size lent) text
+on-first pack s store lent text size e l w =
     record {
-      events = w .events;
-      records = w .records;
-      ran = subst (λ xs. Ran pack s (eventCount s) (w .events) xs (w .records)) same (w .ran);
-      prints = w .prints ∙ ap (λ xs. eventsLine (eventCount s) ++ (answerLines (w .events) ++ storeText xs)) same;
-      behind = drop-at part′ (drop size lent) (storeSize s) l ∙ ap (λ n. drop n lent) e;
+      run = subst (λ xs. RunPrints pack s xs text) (sym (take-at store (drop size lent) (storeSize s) l)) w;
+      behind = drop-at store (drop size lent) (storeSize s) l ∙ ap (λ n. drop n lent) e;
     }
-  where
-    same : take (storeSize s) part′ ≡ take (storeSize s) (part′ ++ drop size lent)
-    same = take-all (storeSize s) part′ (omega arith) ∙ sym (take-at part′ (drop size lent) (storeSize s) l)
 
 module _ (p s : List ℕ) (v : Verdict) (said : v ≡ verdictOf (scheduleRefusal p s)) where
   pub none-said : v ≡ Accepted → scheduleRefusal p s ≡ none

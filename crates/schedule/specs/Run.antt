@@ -32,20 +32,24 @@ pub record Ran (pack schedule : List ℕ) (n : ℕ) (events : List Event) (store
   pub chain : Chain pack (partsOf schedule) (capOf schedule) events (record { store = store; records = records })
   pub calls : madeIn events ≡ callsOf schedule n
 
+-- A run of all events that leaves this store prints the event total, the answers, and the store.
+pub record RunPrints (pack schedule store text : List ℕ) : Type 0 where
+  pub events : List Event
+  pub records : List Agent
+  pub ran : Ran pack schedule (eventCount schedule) events store records
+  pub prints : text ≡ eventsLine (eventCount schedule) ++ (answerLines events ++ storeText store)
+
 -- how many bytes the store of a schedule's P and C has
 abbrev pub storeSize : (schedule : List ℕ) → ℕ
 storeSize s = storeLength (partsOf s) (capOf s)
 
--- A whole run prints the event total, the answers, and the store that is left. That store is the first bytes of what was lent for it; the
--- bytes behind it stay as they were.
+-- A whole run, by what was lent for the store before it and after: its first bytes, as many as the store has, are then the store that is
+-- left; the bytes behind them stay as they were.
 pub record WholeRun (pack schedule lent lent′ text : List ℕ) : Type 0 where
-  pub events : List Event
-  pub records : List Agent
-  pub ran : Ran pack schedule (eventCount schedule) events (take (storeSize schedule) lent′) records
-  pub prints : text ≡ eventsLine (eventCount schedule) ++ (answerLines events ++ storeText (take (storeSize schedule) lent′))
+  pub run : RunPrints pack schedule (take (storeSize schedule) lent′) text
   pub behind : drop (storeSize schedule) lent′ ≡ drop (storeSize schedule) lent
 
--- What the program prints of any pack and schedule: only the first no, and then what was lent for the store is unchanged, or else the run.
+-- What the program prints of any pack and schedule: only the first no, and what was lent for the store is unchanged; or else the run.
 pub record Printed (pack schedule lent lent′ text : List ℕ) : Type 0 where
   pub refused : (n : No) → scheduleRefusal pack schedule ≡ some n → (text ≡ refusedLine (n .question)) × (lent′ ≡ lent)
   pub run : scheduleRefusal pack schedule ≡ none → WholeRun pack schedule lent lent′ text

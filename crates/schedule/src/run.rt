@@ -10,7 +10,7 @@ ghost use Rattle.store.specs.Layout.{partsOf, capOf};
 ghost use Rattle.agents.specs.Slots.{noAgent};
 ghost use Rattle.chain.specs.Chain.{Chain};
 ghost use Rattle.schedule_check.specs.Questions.{Allowed};
-ghost use Rattle.schedule.specs.Run.{storeSize, WholeRun, Printed};
+ghost use Rattle.schedule.specs.Run.{RunPrints, storeSize, WholeRun, Printed};
 ghost use Rattle.schedule.specs.Going.{Went};
 
 // Makes the calls of all events, and prints their answers.
@@ -44,7 +44,7 @@ fn run_events(
 // The run on a store that fits the schedule's P and C.
 fn run_on(pack: &[u8], schedule: &[u8], store: &mut [u8], out: &mut [u8]) -> usize
     requires { ⌜ Allowed (now schedule) × (length (now store) ≡ storeSize (now schedule)) × (524288 ≤ length (now out)) ⌝ }
-    ensures { λ r. ⌜ WholeRun (now (pack .entry)) (now (schedule .entry)) (now (store .entry)) (now (store .exit)) (take r (now (out .exit)))
+    ensures { λ r. ⌜ RunPrints (now (pack .entry)) (now (schedule .entry)) (now (store .exit)) (take r (now (out .exit)))
         × (r ≤ length (now (out .exit))) × (drop r (now (out .exit)) ≡ drop r (now (out .entry))) ⌝ }
 {
     let events = words::read16(schedule, 4) as u64;

@@ -36,7 +36,7 @@ run-in-spec =
     (λ c. search needs)
     (λ c. let r = c .before .before .before .before in
     let d = r .before .before .before in (
-      on-first _ _ _ _ _ _ _ (sized d) (r .run-on .kept .1 .1 .0 ∙ length-take-le _ _ (fits d) ∙ sized d) (r .run-on .ensures .0),
+      on-first _ _ _ _ _ _ (sized d) (r .run-on .kept .1 .1 .0 ∙ length-take-le _ _ (fits d) ∙ sized d) (r .run-on .ensures .0),
       r .run-on .ensures .1,
       r .run-on .ensures .2,
     )))

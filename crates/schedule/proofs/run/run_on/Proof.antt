@@ -1,5 +1,4 @@
 -- `schedule::run::run_on` meets its contract.
-use mathlib.Core.Path.{_∙_}
 use native.Mathlib.Omega.{arith}
 use borrow.Author.Needs.{needs}
 use Rattle.schedule.proofs.Goes.{fresh-chain, chain-sound, all-said, prints}
@@ -9,6 +8,9 @@ use Rattle.schedule.proofs.run.run_on.Tie as tie
 -- what the code had in hand at each call, from a later one
 abbrev start : tie.After-capacity → tie.Start
 start c = c .before .before .before .before .before .before .before
+
+abbrev begun : tie.After-create → tie.After-capacity
+begun c = c .before .before
 
 abbrev created : tie.After-events-line → tie.After-create
 created c = c .before .before .before .before
@@ -30,7 +32,7 @@ run-on-spec =
     (λ c κs. search needs)
     (λ c κs. search needs)
     (λ c κs. let m = created (c .before .before .before .before) in
-    let k = m .before .before in
+    let k = begun m in
     let q = start k .pre in (
       q .0,
       fresh-chain _ _ _ _ _ _ _ (k .before .partition-count .ensures) (k .capacity .ensures) (q .0) (q .1) (m .create .ensures),
@@ -45,7 +47,7 @@ run-on-spec =
         d .run-events .kept .1 .1 .1 .0,
         t .events-line .ensures .1,
         t .events-line .kept .0,
-        start (created t .before .before) .pre .2,
+        start (begun (created t)) .pre .2,
       ),
     ))
     (λ c. search needs)
@@ -53,14 +55,7 @@ run-on-spec =
     (λ c. let p = c .before .before in
     let d = went (p .before) in
     let t = total d in
-    let m = created t in
-    let k = m .before .before in
-    let st = start k in
     let x = t .events-line .ensures .0 in
     let w = d .run-events .ensures .0 in
-    let z = p .print-store .ensures in (
-      prints _ x w z (st .args .store .now) (k .before .before .read16 .ensures) (st .pre .1)
-          (d .run-events .kept .1 .1 .0 ∙ m .create .kept .0 ∙ st .pre .1),
-      z .room,
-      all-said _ x w z .stays,
-    )))
+    let z = p .print-store .ensures in
+    (prints _ x w z (begun (created t) .before .before .read16 .ensures), z .room, all-said _ x w z .stays)))
