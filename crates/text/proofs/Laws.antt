@@ -50,6 +50,10 @@ decimal-length (suc n) x h = go (decimal-length n (x / 10) (omega (arith, pow-su
   go tenth (yes l) = omega (arith, size-one x l)
   go tenth (no l) = omega (arith, size-more x (omega arith))
 
+-- so 20 bytes have room for one of 64 bits
+pub number-fits : (size written x : ℕ) → written + 20 ≤ size → x < 2 ^ 64 → written + length (decimal x) ≤ size
+number-fits size written x h l = omega (arith, decimal-length 19 x (omega arith))
+
 -- nothing put behind it leaves the text
 pub appended-none : (out : List ℕ) (written : ℕ) → written ≤ length out → Appended out written [] out written
 appended-none out written h =

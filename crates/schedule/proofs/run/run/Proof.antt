@@ -19,7 +19,7 @@ run-spec =
       search needs,
     ))
     (λ c. search needs)
-    (λ c κs. search needs)
+    (λ c κs. omega arith)
     (λ c. (
       printed-run _ _ _ (c .before .before .before .before .before .check-schedule .ensures) _ _ _
           (c .before .before .before .enum-told .given .1) (c .run-in .ensures .0),
