@@ -59,7 +59,8 @@ fn run_on(pack: &[u8], schedule: &[u8], store: &mut [u8], out: &mut [u8]) -> usi
 // The run on the first bytes of a buffer.
 fn run_in(pack: &[u8], schedule: &[u8], store: &mut [u8], out: &mut [u8]) -> usize
     requires { ⌜ Allowed (now schedule) × (27669 ≤ length (now store)) × (524288 ≤ length (now out)) ⌝ }
-    ensures { λ r. ⌜ WholeRun (now (pack .entry)) (now (schedule .entry)) (now (store .entry)) (now (store .exit)) (take r (now (out .exit)))
+    ensures { λ r. ⌜ WholeRun (now (pack .entry)) (now (schedule .entry)) (now (store .entry)) (now (store .exit))
+        (take r (now (out .exit)))
         × (r ≤ length (now (out .exit))) × (drop r (now (out .exit)) ≡ drop r (now (out .entry))) ⌝ }
 {
     let size = store::head::store_size(
@@ -83,10 +84,11 @@ pub fn text_buffer() -> [u8; 524_288]
     [0; 524_288]
 }
 
-// What the program prints: its first bytes in `out`, as many as it answers; behind them `out` is as it was. The store that is left stands in
-// the first bytes of `store`. No bytes of pack and schedule are taken for granted.
+// What the program prints: its first bytes in `out`, as many as it answers; behind them `out` is as it was. The store that is left stands
+// in the first bytes of `store`. No bytes of pack and schedule are taken for granted.
 pub fn run(pack: &[u8], schedule: &[u8], store: &mut [u8; 27_669], out: &mut [u8; 524_288]) -> usize
-    ensures { λ r. ⌜ Printed (now (pack .entry)) (now (schedule .entry)) (now (store .entry)) (now (store .exit)) (take r (now (out .exit)))
+    ensures { λ r. ⌜ Printed (now (pack .entry)) (now (schedule .entry)) (now (store .entry)) (now (store .exit))
+        (take r (now (out .exit)))
         × (r ≤ length (now (out .exit))) × (drop r (now (out .exit)) ≡ drop r (now (out .entry))) ⌝ }
 {
     let v = check_schedule(pack, schedule);

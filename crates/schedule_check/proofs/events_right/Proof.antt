@@ -32,7 +32,8 @@ events-right-spec =
     (λ c. omega arith)
     (λ c. omega arith)
     (λ c. omega arith)
-    (λ c. (search needs, rw sub-zero (ap (λ n. eachFrom (rightAt (c .before .before .before .args .schedule .now)) n 0) (c .read16 .ensures))))
+    (λ c. let s = c .before .before .before .args .schedule .now in
+    (search needs, rw sub-zero (ap (λ n. eachFrom (rightAt s) n 0) (c .read16 .ensures))))
     (λ c. omega arith)
     (λ c. omega arith)
     (λ c. omega arith)
@@ -47,6 +48,7 @@ events-right-spec =
     (λ c. search needs)
     (λ c. let l = c .before .before .before .before .before in
     let a = l .before .before .before .before .args in
-    let f = event-right (a .schedule .now) _ _ (l .loop .event) _ refl (l .before .read16 .ensures) (c .before .event-right .ensures) (c .if1 .left) in
+    let f = event-right (a .schedule .now) _ _ (l .loop .event) _ refl (l .before .read16 .ensures) (c .before .event-right .ensures)
+    (c .if1 .left) in
     (search needs, sym (each-more _ _ _ (omega arith) f) ∙ l .loop .inv .1))
     (λ c. sym (each-none _ _ _ (omega arith)) ∙ c .before .loop .inv .1))

@@ -4,11 +4,14 @@ use Rattle.schedule.proofs.Listed.{same-call, names-0, names-3, kind-0,
 use Rattle.schedule.proofs.calls.call_of.Statement.{statement}
 use Rattle.schedule.proofs.calls.call_of.Tie as tie
 
+abbrev start : tie.After-slice-known → tie.Start
+start c = c .before .before .before
+
 pub call-of-spec : {M : Type 1} → statement M
 call-of-spec =
     tie.close
     (tie.spec
-    (λ c κs. let q = c .before .before .before .before .before .pre in (q .0, names-0 _ _ _ (c .before .if1 .taken) (q .1)))
+    (λ c κs. let q = start (c .before .before) .pre in (q .0, names-0 _ _ _ (c .before .if1 .taken) (q .1)))
     (λ c. search needs)
     (λ c. let d = c .before .before in same-call _ _ (kind-0 _ _ _ _ (d .before .before .if1 .taken)) (d .arrival-of .ensures))
     (λ c κs. search needs)
@@ -17,7 +20,7 @@ call-of-spec =
     (λ c κs. search needs)
     (λ c. search needs)
     (λ c. same-call _ _ (kind-2 _ _ _ _ (c .before .before .if3 .taken)) (c .crash .ensures))
-    (λ c κs. let q = c .before .before .before .before .before .before .before .before .pre in
+    (λ c κs. let q = start (c .before .before .before .before .before) .pre in
     (q .0, names-3 _ _ _ (c .before .if4 .taken) (q .1)))
     (λ c. search needs)
     (λ c. same-call _ _ (kind-3 _ _ _ _ (c .before .before .if4 .taken)) (c .retry-of .ensures))
