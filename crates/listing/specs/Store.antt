@@ -22,10 +22,10 @@ ofKind test (r ∷ rows) = if test (r .0) then r ∷ ofKind test rows else ofKin
 unfoldable pub partitionText : (store : List ℕ) → (partition : ℕ) → List ℕ
 partitionText s p = linesOf p (ofKind isDataKey (rowsOf s p)) ++ linesOf p (ofKind isLogKey (rowsOf s p))
 
--- the n partitions from p on
-unfoldable pub partitionsText : (store : List ℕ) → (n p : ℕ) → List ℕ
+-- so many partitions, from one on
+unfoldable pub partitionsText : (store : List ℕ) → (count partition : ℕ) → List ℕ
 partitionsText s zero p = []
-partitionsText s (suc n) p = partitionText s p ++ partitionsText s n (p + 1)
+partitionsText s (suc count) p = partitionText s p ++ partitionsText s count (p + 1)
 
 -- all P partitions
 abbrev pub storeText : (store : List ℕ) → List ℕ

@@ -15,10 +15,10 @@ callOf s kind slot r =
     else if eqb kind 3 then retry slot (requestId s r)
     else restart
 
-abbrev pub callAt : (schedule : List ℕ) → (i : ℕ) → Call
-callAt s i = callOf s (kindAt s i) (slotAt s i) (indexAt s i)
+abbrev pub callAt : (schedule : List ℕ) → (event : ℕ) → Call
+callAt s event = callOf s (kindAt s event) (slotAt s event) (indexAt s event)
 
--- the calls of the first n events, the latest first
-unfoldable pub callsOf : (schedule : List ℕ) → (n : ℕ) → List Call
+-- the calls of so many first events, the latest first
+unfoldable pub callsOf : (schedule : List ℕ) → (count : ℕ) → List Call
 callsOf s zero = []
-callsOf s (suc n) = callAt s n ∷ callsOf s n
+callsOf s (suc count) = callAt s count ∷ callsOf s count

@@ -26,11 +26,11 @@ unfoldable pub answerLines : List Event → List ℕ
 answerLines [] = []
 answerLines (e ∷ before) = answerLines before ++ answerLine (length before) (e .answer)
 
--- The calls of a schedule's first n events were made, in order, each with its answer, from a fresh store of the schedule's P and C, and
+-- The calls of a schedule's first `count` events were made, in order, each with its answer, from a fresh store of the schedule's P and C, and
 -- left this store. Demand 3 speaks of every such list (crate `chain`).
-pub record Ran (pack schedule : List ℕ) (n : ℕ) (events : List Event) (store : List ℕ) (records : List Agent) : Type 0 where
+pub record Ran (pack schedule : List ℕ) (count : ℕ) (events : List Event) (store : List ℕ) (records : List Agent) : Type 0 where
   pub chain : Chain pack (partsOf schedule) (capOf schedule) events (record { store = store; records = records })
-  pub calls : madeIn events ≡ callsOf schedule n
+  pub calls : madeIn events ≡ callsOf schedule count
 
 -- A run of all events that leaves this store prints the event total, the answers, and the store.
 pub record RunPrints (pack schedule store text : List ℕ) : Type 0 where

@@ -18,8 +18,8 @@ abbrev pub lengthFor : (g e : ℕ) → ℕ
 lengthFor g e = 6 + 24 * g + 2 * e
 
 -- a request's six words: id, workflow, arguments
-abbrev pub requestWord : (schedule : List ℕ) → (request j : ℕ) → ℕ
-requestWord s r j = le 4 s (6 + 24 * r + 4 * j)
+abbrev pub requestWord : (schedule : List ℕ) → (request word : ℕ) → ℕ
+requestWord s r word = le 4 s (6 + 24 * r + 4 * word)
 
 abbrev pub requestId : (schedule : List ℕ) → (request : ℕ) → ℕ
 requestId s r = requestWord s r 0
@@ -30,16 +30,16 @@ requestWorkflow s r = requestWord s r 1
 abbrev pub requestArguments : (schedule : List ℕ) → (request : ℕ) → List ℕ
 requestArguments s r = requestWord s r 2 ∷ requestWord s r 3 ∷ requestWord s r 4 ∷ requestWord s r 5 ∷ []
 
--- event byte i: its high four bits are the kind, its low four the slot
-abbrev pub eventByte : (schedule : List ℕ) → (i : ℕ) → ℕ
-eventByte s i = getD s (6 + 24 * requestCount s + i) 0
+-- the byte of an event: its high four bits are the kind, its low four the slot
+abbrev pub eventByte : (schedule : List ℕ) → (event : ℕ) → ℕ
+eventByte s event = getD s (6 + 24 * requestCount s + event) 0
 
-abbrev pub kindAt : (schedule : List ℕ) → (i : ℕ) → ℕ
-kindAt s i = eventByte s i / 16
+abbrev pub kindAt : (schedule : List ℕ) → (event : ℕ) → ℕ
+kindAt s event = eventByte s event / 16
 
-abbrev pub slotAt : (schedule : List ℕ) → (i : ℕ) → ℕ
-slotAt s i = eventByte s i % 16
+abbrev pub slotAt : (schedule : List ℕ) → (event : ℕ) → ℕ
+slotAt s event = eventByte s event % 16
 
--- the request index of event i
-abbrev pub indexAt : (schedule : List ℕ) → (i : ℕ) → ℕ
-indexAt s i = getD s (6 + 24 * requestCount s + eventCount s + i) 0
+-- the request index of an event
+abbrev pub indexAt : (schedule : List ℕ) → (event : ℕ) → ℕ
+indexAt s event = getD s (6 + 24 * requestCount s + eventCount s + event) 0

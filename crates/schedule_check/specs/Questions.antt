@@ -30,12 +30,12 @@ pub record ScheduleLaid (schedule : List ℕ) : Type 0 where
 abbrev pub namesRequest : (kind : ℕ) → Bool
 namesRequest kind = eqb kind 0 || eqb kind 3
 
--- of one event, where there are g requests
-unfoldable pub eventRight : (g kind index : ℕ) → Bool
-eventRight g kind index = leb kind 4 && (if namesRequest kind then ltb index g else eqb index 0)
+-- of one event, by how many requests there are
+unfoldable pub eventRight : (requests kind index : ℕ) → Bool
+eventRight requests kind index = leb kind 4 && (if namesRequest kind then ltb index requests else eqb index 0)
 
-unfoldable pub rightAt : (schedule : List ℕ) → (i : ℕ) → Bool
-rightAt s i = eventRight (requestCount s) (kindAt s i) (indexAt s i)
+unfoldable pub rightAt : (schedule : List ℕ) → (event : ℕ) → Bool
+rightAt s event = eventRight (requestCount s) (kindAt s event) (indexAt s event)
 
 -- 23. Is each kind at most 4, each index below g for kinds 0 and 3 and 0 otherwise?
 unfoldable pub question23 : (schedule : List ℕ) → Bool
