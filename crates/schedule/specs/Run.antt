@@ -26,8 +26,8 @@ unfoldable pub answerLines : List Event → List ℕ
 answerLines [] = []
 answerLines (e ∷ before) = answerLines before ++ answerLine (length before) (e .answer)
 
--- The calls of a schedule's first `count` events were made, in order, each with its answer, from a fresh store of the schedule's P and C, and
--- left this store. Demand 3 speaks of every such list (crate `chain`).
+-- The calls of a schedule's first `count` events were made, in order, each with its answer, from a fresh store of the schedule's P and C,
+-- and left this store. Demand 3 speaks of every such list (crate `chain`).
 pub record Ran (pack schedule : List ℕ) (count : ℕ) (events : List Event) (store : List ℕ) (records : List Agent) : Type 0 where
   pub chain : Chain pack (partsOf schedule) (capOf schedule) events (record { store = store; records = records })
   pub calls : madeIn events ≡ callsOf schedule count
