@@ -130,6 +130,14 @@ module _ (code : Code) (checked : Checked code) (begin p : ℕ) (opened : begin 
     at-end : shape x .behind ≡ some outside → suc j ≡ behindEnd code begin
     at-end e = let t = here ∙ ap (λ o. if_then_else_ (closing o) 1 (suc (throughEnd (drop (suc j) code)))) e in omega (arith, t, same-end)
 
+    -- only the last of them is END
+    no-end-before : suc j < behindEnd code begin → isEnd x ≡ false
+    no-end-before l = go (isEnd x) here
+      where
+        go : (b : Bool) → throughEnd (drop j code) ≡ if_then_else_ b 1 (suc (throughEnd (drop (suc j) code))) → b ≡ false
+        go true t = absurd (omega (arith, t, same-end, l))
+        go false t = refl
+
     -- if not, it is ahead
     not-end : shape x .behind ≡ none → behindEnd code j ≡ behindEnd code begin
     not-end e = let t = here ∙ ap (λ o. if_then_else_ (closing o) 1 (suc (throughEnd (drop (suc j) code)))) e in omega (arith, t, same-end)
@@ -155,21 +163,32 @@ module _ (code : Code) (checked : Checked code) (begin p : ℕ) (opened : begin 
   -- one instruction, if the rest comes to END
   one-inside : (w : Work) (f : Work → Block) →
       ((v : Work) → w .place .position < v .place .position → Between (v .place .position) → Closed code begin (f v)) →
-      (h : Between (w .place .position)) → (y : Act) → actAt code (w .place) ≡ y →
+      (h : Between (w .place .position)) → (y : Act) →
       Agrees (instructionAt code (w .place .position)) (w .place) y → Closed code begin (within y w f)
   unfolding within
-  one-inside w f rec h (moves to) e (on, inl p) =
+  one-inside w f rec h (moves to) (on, inl p) =
       rec _ (omega arith) (subst Between (sym p) (next-between (w .place .position) h on))
-  one-inside w f rec h (moves to) e (on, inr p) =
+  one-inside w f rec h (moves to) (on, inr p) =
       let b = jump-between (w .place .position) h on (to .position) p in
       rec _ (subst (GoesTo code (w .place .position)) p (checked .stands (w .place .position) (in-code (w .place .position) h) .1) .0) b
-  one-inside w f rec h (reads k to) e (s, on, p) =
+  one-inside w f rec h (reads k to) (s, on, p) =
       rec _ (omega (arith, p (w .table k))) (subst Between (sym (p (w .table k))) (next-between (w .place .position) h on))
-  one-inside w f rec h (puts k v) e (s, on) = rec _ (omega arith) (next-between (w .place .position) h on)
-  one-inside w f rec h (closes v) e (s, b) =
-      record { last = w; value = v; at-end = e; the-first = at-end (w .place .position) h b; closed = refl }
-  one-inside w f rec h (opens q) e a = not-outside (w .place .position) h (ap (λ y. shape y .stands) a)
-  one-inside w f rec h (returns v) e a = not-outside (w .place .position) h a
+  one-inside w f rec h (puts k v) (s, on) = rec _ (omega arith) (next-between (w .place .position) h on)
+  one-inside w f rec h (closes v) (s, b, ends) =
+      let last = at-end (w .place .position) h b in
+      record {
+        last = w;
+        d = ends .0;
+        value = v;
+        at-end = ends .1;
+        its-register = ends .2;
+        behind-begin = h .behind;
+        the-first = λ i l m. no-end-before i (record { behind = l; before = omega (arith, last, m) }) (omega (arith, last, m));
+        goes-on = last;
+        closed = refl;
+      }
+  one-inside w f rec h (opens q) a = not-outside (w .place .position) h (ap (λ y. shape y .stands) a)
+  one-inside w f rec h (returns v) a = not-outside (w .place .position) h a
 
   comes-to-end : (ahead : ℕ) (w : Work) → Between (w .place .position) → length code ≤ w .place .position + ahead →
       Closed code begin (runFrom code ahead w)
@@ -177,7 +196,7 @@ module _ (code : Code) (checked : Checked code) (begin p : ℕ) (opened : begin 
   comes-to-end zero w h l = absurd (let b = in-code (w .place .position) h in omega arith)
   comes-to-end (suc ahead) w h l =
       one-inside w (runFrom code ahead) (λ v f b. comes-to-end ahead v b (omega arith)) h
-      (actAt code (w .place)) refl (agrees (instructionAt code (w .place .position)) (w .place))
+      (actAt code (w .place)) (agrees (instructionAt code (w .place .position)) (w .place))
 
   first-between : Between (suc begin)
   first-between =

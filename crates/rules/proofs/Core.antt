@@ -25,7 +25,8 @@ progress-stays pack log log′ replies replies′ id r same reply (underway t f 
     (same-grows log log′ id same) f)
     (λ p t′ h. same-free log log′ p id t′ (same p t′) (none-from p t′ h)) (reply ∙ not-yet)
 progress-stays pack log log′ replies replies′ id r same reply (over v f e) =
-    over v (follow-stays log log′ id (requestCode pack (r .request)) (r .request) (r .moveCount) (finished v) (same-grows log log′ id same) f)
+    over v
+    (follow-stays log log′ id (requestCode pack (r .request)) (r .request) (r .moveCount) (finished v) (same-grows log log′ id same) f)
     (reply ∙ e)
 
 -- and what the machine has of it, if its run stays

@@ -99,8 +99,8 @@ module _ (pack : Pack) (log log′ : Log) (book book′ : Book) (runs runs′ : 
         behind = omega (arith, l .behind, h .further);
         there =
             subst (λ q. followed pack log′ (a .id) q (l .turns) ≡ some (at (a .course) (a .step))) (sym (h .request-is))
-            (follow-stays log log′ (a .id) (requestCode pack (l .run .request)) (l .run .request) (l .turns) (at (a .course) (a .step)) (k .1)
-            (l .there));
+            (follow-stays log log′ (a .id) (requestCode pack (l .run .request)) (l .run .request) (l .turns) (at (a .course) (a .step))
+            (k .1) (l .there));
       }
 
   pub slots-stay : (t : Tallies) (slots : ℕ → Option Agent) →

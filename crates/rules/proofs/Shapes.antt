@@ -19,7 +19,8 @@ pub record GoesOn (s : Shape) : Type 0 where
 abbrev pub Agrees : Instruction → Place → Act → Type 0
 Agrees x at (moves to) = GoesOn (shape x) × ((to .position ≡ suc (at .position)) ⊎ (shape x .target ≡ some (to .position)))
 Agrees x at (opens p) = x ≡ BEGIN p
-Agrees x at (closes v) = (shape x .stands ≡ some inside) × (shape x .behind ≡ some outside)
+Agrees x at (closes v) =
+    (shape x .stands ≡ some inside) × (shape x .behind ≡ some outside) × ((d : ℕ) × (x ≡ END d) × (v ≡ register at d))
 Agrees x at (reads k onFound) =
     (shape x .stands ≡ some inside) × GoesOn (shape x) × ((found : Option ℕ) → onFound found .position ≡ suc (at .position))
 Agrees x at (puts k v) = (shape x .stands ≡ some inside) × GoesOn (shape x)
@@ -44,7 +45,7 @@ agrees (SUB d s) at = (on refl refl, inl refl)
 agrees (JLT d s target) at = (on refl refl, either at target (ltb (register at d) (register at s)))
 agrees (JEQ d s target) at = (on refl refl, either at target (eqb (register at d) (register at s)))
 agrees (BEGIN p) at = refl
-agrees (END d) at = (refl, refl)
+agrees (END d) at = (refl, refl, (d, refl, refl))
 agrees (GET d s) at = (refl, on refl refl, λ found. refl)
 agrees (PUT d s) at = (refl, on refl refl)
 agrees (HAS d s) at = (refl, on refl refl, λ found. refl)

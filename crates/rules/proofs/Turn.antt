@@ -295,7 +295,8 @@ module _
             absurd (let z : _≡_ {A = ℕ} 0 1 = cc in omega arith)
         go (inr l) _ =
             let b =
-            follow-below (s .store .log) (a .id) (requestCode pack (r .request)) (r .request) (r .moveCount) (in-all .0) (suc k) l (in-all .1) in
+            follow-below (s .store .log) (a .id) (requestCode pack (r .request)) (r .request) (r .moveCount) (in-all .0) (suc k) l
+            (in-all .1) in
             let b₂ = b .2 in
             absurd (let z : _≡_ {A = ℕ} 0 1 = cc in omega arith)
 
@@ -414,10 +415,12 @@ module _
     front-turn e (underway step f none-from no-reply) =
         keeps-by pack (fed pack m t (feeds (turn slot))) (move pack m (a .id) r) (tallied t (feeds (turn slot)))
         (update t slot (tallyOf (a .id) (suc (r .moveCount)))) rs
-        (turnIn pack s slot (some a)) (turnOn s slot stands (requestCode pack (r .request)) (nextOf (requestCode pack (r .request)) (r .course)))
+        (turnIn pack s slot (some a))
+        (turnOn s slot stands (requestCode pack (r .request)) (nextOf (requestCode pack (r .request)) (r .course)))
         (fed-is ∙ ap (λ b. if_then_else_ b (move pack m (a .id) r) m) (ltb-yes (r .moveCount) (suc k) (omega arith)))
         (tallied-is ∙ ap (λ n. update t slot (tallyOf (a .id) (suc n))) e)
-        (outcome-is ∙ ap (λ (x : Agent). turnOn s slot x (requestCode pack (r .request)) (nextOf (requestCode pack (r .request)) (x .course))) same)
+        (outcome-is
+        ∙ ap (λ (x : Agent). turnOn s slot x (requestCode pack (r .request)) (nextOf (requestCode pack (r .request)) (x .course))) same)
         (front-keeps pack s m t rs inv slot (a .id) r step (live .run-is) f none-from no-reply (live .book-is)
         (nextOf (requestCode pack (r .request)) (r .course)) refl)
       where

@@ -3,10 +3,11 @@ use mathlib.Core.Bool.{Bool, true, false}
 use mathlib.Core.List.{[], _∷_}
 use mathlib.Core.Option.{Option, none, some}
 use mathlib.Core.Path.{_≡_}
-use Prim.Native.Nat.{ℕ, zero, suc, _+_, _-_}
+use Prim.Native.Nat.{ℕ, zero, suc, _+_, _-_, _<_}
 use lib.ListN.{length, set, drop}
 use Rattle.questions.specs.Basics.{if_then_else_, update, isSome}
-use Rattle.rules.specs.Instructions.{Code, Instruction, Place, next, Act, moves, opens, closes, reads, puts, returns, actAt}
+use Rattle.rules.specs.Instructions.{Code, Instruction, END, instructionAt, Place, register, next}
+use Rattle.rules.specs.Instructions.{Act, moves, opens, closes, reads, puts, returns, actAt}
 use Rattle.rules.specs.Shapes.{Side, outside, inside, shape}
 
 -- a table from data key to value, if the key is present
@@ -86,10 +87,17 @@ behindEnd code begin = suc begin + throughEnd (drop (suc begin) code)
 unfoldable pub afterBlock : Code → Place → (result : ℕ) → Place
 afterBlock code at v = record { position = behindEnd code (at .position); registers = set (at .registers) 0 v }
 
--- A block that opens at an index comes to END: its run is closed by an END, the one behind which the agent goes on.
+-- A block that opens at an index comes to END: its run stops at the first END behind BEGIN, the one behind which the agent goes on, and
+-- its result is what the register of that END holds.
 pub record Closed (code : Code) (begin : ℕ) (b : Block) : Type 0 where
+  -- the run where it stops, and the register that END names there
   pub last : Work
+  pub d : ℕ
   pub value : ℕ
-  pub at-end : actAt code (last .place) ≡ closes value
-  pub the-first : suc (last .place .position) ≡ behindEnd code begin
+  pub at-end : instructionAt code (last .place .position) ≡ END d
+  pub its-register : value ≡ register (last .place) d
+  -- the END stands behind BEGIN, and none stands between
+  pub behind-begin : begin < last .place .position
+  pub the-first : (i : ℕ) → begin < i → i < last .place .position → isEnd (instructionAt code i) ≡ false
+  pub goes-on : suc (last .place .position) ≡ behindEnd code begin
   pub closed : b ≡ close last (yields value)

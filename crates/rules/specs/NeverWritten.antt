@@ -32,8 +32,8 @@ pub record NeverWritten (d s : ℕ) (w : Work) (onward : Work → Block) : Type 
   pub has : within (act (HAS d s) (w .place)) w onward
       ≡ onward (workAt w (becomes (w .place) d (if isSome (w .table (register (w .place) s)) then 1 else 0)))
 
--- The register is that of the block's copy and not of the record, which stands at the BEGIN and has the registers of `at`: a block that SETs
--- d and then reads an absent key into it comes to what it has SET.
+-- The register is that of the block's copy and not of the record, which stands at the BEGIN and has the registers of `at`: a block that
+-- SETs d and then reads an absent key into it comes to what it has SET.
 abbrev pub OfTheCopy : Type 0
 OfTheCopy =
     (code : Code) (at : Place) (table : Table) (d s v : ℕ) → d < length (at .registers) →
