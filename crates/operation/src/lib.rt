@@ -9,37 +9,37 @@ ghost use Rattle.operation.specs.Operations.{entryOf};
 ghost use Rattle.operation.specs.Packed.{packed, packedOf};
 
 // The high four bits: the operation.
-pub fn operation_of(b: u8) -> u8
-    ensures { λ r. ⌜ r ≡ operationOf b ⌝ }
+pub fn operation_of(byte: u8) -> u8
+    ensures { λ r. ⌜ r ≡ operationOf byte ⌝ }
 {
-    b >> 4
+    byte >> 4
 }
 
 // The low three bits: the register d.
-pub fn register_of(b: u8) -> u8
-    ensures { λ r. ⌜ r ≡ registerOf b ⌝ }
+pub fn register_of(byte: u8) -> u8
+    ensures { λ r. ⌜ r ≡ registerOf byte ⌝ }
 {
-    b & 7
+    byte & 7
 }
 
 // Is bit 3 clear?
-pub fn bit3_clear(b: u8) -> bool
-    ensures { λ r. ⌜ r ≡ eqb (bit3Of b) 0 ⌝ }
+pub fn bit3_clear(byte: u8) -> bool
+    ensures { λ r. ⌜ r ≡ eqb (bit3Of byte) 0 ⌝ }
 {
-    b & 8 == 0
+    byte & 8 == 0
 }
 
 // A jump's operand is 16 × target + s.
-pub fn target_of(w: u32) -> u32
-    ensures { λ r. ⌜ r ≡ targetOf w ⌝ }
+pub fn target_of(word: u32) -> u32
+    ensures { λ r. ⌜ r ≡ targetOf word ⌝ }
 {
-    w >> 4
+    word >> 4
 }
 
-pub fn source_of(w: u32) -> u32
-    ensures { λ r. ⌜ r ≡ sourceOf w ⌝ }
+pub fn source_of(word: u32) -> u32
+    ensures { λ r. ⌜ r ≡ sourceOf word ⌝ }
 {
-    w & 15
+    word & 15
 }
 
 // ADD, as the rules' table of operations has it.
@@ -107,10 +107,11 @@ const TABLE: [u8; 16] = [
     0x04, // none
 ];
 
-fn side_in(byte: u8) -> Side
-    ensures { λ r. ⌜ ((s : Side) (o : Operand) (f : Bool) → byte ≡ packed s o f → r ≡ s) ⌝ }
+// The side, the operand and the fixed register of a packed entry.
+fn side_in(entry: u8) -> Side
+    ensures { λ r. ⌜ ((s : Side) (o : Operand) (f : Bool) → entry ≡ packed s o f → r ≡ s) ⌝ }
 {
-    let bits = byte & 3;
+    let bits = entry & 3;
     if bits == 1 {
         return Side::Inside;
     }
@@ -120,10 +121,10 @@ fn side_in(byte: u8) -> Side
     Side::Anywhere
 }
 
-fn operand_in(byte: u8) -> Operand
-    ensures { λ r. ⌜ ((s : Side) (o : Operand) (f : Bool) → byte ≡ packed s o f → r ≡ o) ⌝ }
+fn operand_in(entry: u8) -> Operand
+    ensures { λ r. ⌜ ((s : Side) (o : Operand) (f : Bool) → entry ≡ packed s o f → r ≡ o) ⌝ }
 {
-    let bits = byte >> 2 & 3;
+    let bits = entry >> 2 & 3;
     if bits == 1 {
         return Operand::Below8;
     }
@@ -136,30 +137,30 @@ fn operand_in(byte: u8) -> Operand
     Operand::Any
 }
 
-fn fixed_in(byte: u8) -> bool
-    ensures { λ r. ⌜ ((s : Side) (o : Operand) (f : Bool) → byte ≡ packed s o f → r ≡ f) ⌝ }
+fn fixed_in(entry: u8) -> bool
+    ensures { λ r. ⌜ ((s : Side) (o : Operand) (f : Bool) → entry ≡ packed s o f → r ≡ f) ⌝ }
 {
-    byte >> 4 == 1
+    entry >> 4 == 1
 }
 
 // The packed byte of an operation.
-fn packed_of(op: usize) -> u8
-    requires { ⌜ op < 16 ⌝ }
-    ensures { λ r. ⌜ r ≡ packedOf op ⌝ }
+fn packed_of(operation: usize) -> u8
+    requires { ⌜ operation < 16 ⌝ }
+    ensures { λ r. ⌜ r ≡ packedOf operation ⌝ }
 {
-    TABLE[op]
+    TABLE[operation]
 }
 
 // What the table says of the operation of a byte. The table is looked up once.
-pub fn entry_of(b: u8) -> Entry
-    ensures { λ r. ⌜ r ≡ entryOf (operationOf b) ⌝ }
+pub fn entry_of(byte: u8) -> Entry
+    ensures { λ r. ⌜ r ≡ entryOf (operationOf byte) ⌝ }
 {
-    let byte = packed_of(operation_of(b) as usize);
-    let side = side_in(byte);
-    let operand = operand_in(byte);
+    let entry = packed_of(operation_of(byte) as usize);
+    let side = side_in(entry);
+    let operand = operand_in(entry);
     Entry {
         side,
         operand,
-        fixed: fixed_in(byte),
+        fixed: fixed_in(entry),
     }
 }

@@ -8,8 +8,8 @@ use Rattle.operation.proofs.bit3_clear.Tie as tie
 
 returns : tie.Need-returns
 returns c =
-    let h = and-high (c .args .b) 1 3 in
-    eqb-iff (bitAnd (c .args .b) 8) 0 (c .args .b / 8 % 2) 0 (λ e. omega arith) (λ e. omega arith)
+    let h = and-high (c .args .byte) 1 3 in
+    eqb-iff (bitAnd (c .args .byte) 8) 0 (c .args .byte / 8 % 2) 0 (λ e. omega arith) (λ e. omega arith)
 
 pub bit3-clear-spec : {M : Type 1} → statement M
 bit3-clear-spec = tie.close (tie.spec returns)

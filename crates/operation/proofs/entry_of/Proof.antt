@@ -20,7 +20,7 @@ entry-of-spec =
     (λ c κs. search needs)
     (λ c.
     let o = c .before .before .before .before in
-    let op = operationOf (o .before .args .b) in
+    let op = operationOf (o .before .args .byte) in
     let e = c .before .before .before .packed-of .ensures ∙ ap packedOf (o .operation-of .ensures) in
     λ i.
     record {

@@ -8,4 +8,4 @@ use Rattle.operation.proofs.packed_of.Tie as tie
 
 pub packed-of-spec : {M : Type 1} → statement M
 unfolding packedOf sideOf operandOf fixedOf
-packed-of-spec = tie.close (tie.spec (λ c. search needs) (λ c. table packedOf 16 (c .args .op) 0 (search needs)))
+packed-of-spec = tie.close (tie.spec (λ c. search needs) (λ c. table packedOf 16 (c .args .operation) 0 (search needs)))
