@@ -148,7 +148,8 @@ module _ (d w : ℕ) where
   decoded-opens : (op : ℕ) → shape (decode op d w) .behind ≡ some inside → op ≡ opBegin
   decoded-opens op e = go (eqb op opBegin) (eqb op opEnd) refl (sym (decoded-behind op) ∙ e)
     where
-      go : (x y : Bool) → eqb op opBegin ≡ x → if_then_else_ x (some inside) (if_then_else_ y (some outside) none) ≡ some inside → op ≡ opBegin
+      go : (x y : Bool) → eqb op opBegin ≡ x → if_then_else_ x (some inside) (if_then_else_ y (some outside) none) ≡ some inside →
+          op ≡ opBegin
       go true y q f = eqb-true op opBegin q
       go false true q f = absurd (let z : _≡_ {A = ℕ} 0 1 = cc in omega arith)
       go false false q f = absurd (let z : _≡_ {A = ℕ} 0 1 = cc in omega arith)
@@ -252,24 +253,25 @@ module _ (ops ws : List ℕ) where
             subst (GoesTo (codeOf ops ws) i) (sym (e .2)) (goes-to (operandOf op) r l),
           )
 
-module _ (w : ℕ) (ops ws : List ℕ) (e : codeNo w ops ws ≡ none) where
+module _ (workflow : ℕ) (ops ws : List ℕ) (e : codeNo workflow ops ws ≡ none) where
   -- each instruction is right
-  pub right-at : (i : ℕ) → i < length ops → instructionNo w ops ws i ≡ none
+  pub right-at : (i : ℕ) → i < length ops → instructionNo workflow ops ws i ≡ none
   unfolding codeNo
-  right-at i h = rw zero-add at (each-yes (instructionNo w ops ws) (length ops) 0 i (orElse-none _ _ e .0) h)
+  right-at i h = rw zero-add at (each-yes (instructionNo workflow ops ws) (length ops) 0 i (orElse-none _ _ e .0) h)
 
   pub operation-known : (i : ℕ) → i < length ops → operationAt ops i < 12
   unfolding question4 legal
   operation-known i h =
-      let l = leb-true (operationAt ops i) 11 (and-left (leb (operationAt ops i) 11) _ (yes-4 w ops ws i (right-at i h))) in omega arith
+      let l = leb-true (operationAt ops i) 11 (and-left (leb (operationAt ops i) 11) _ (yes-4 workflow ops ws i (right-at i h))) in
+      omega arith
 
   stands-at : (i : ℕ) → i < length ops → Stands (codeOf ops ws) i (instructionAt (codeOf ops ws) i)
   stands-at i h =
       subst (λ x. Stands (codeOf ops ws) i x) (sym (instruction-at ops ws i h))
       (stands-all ops ws operation-known i h (registerAt ops i) (wordAt ws i) (operationAt ops i) (operation-known i h)
-      (operand-ranged ops ws i (yes-5 w ops ws i (right-at i h)))
-      (stands-right ops ws i (yes-6 w ops ws i (right-at i h)))
-      (lands-right ops ws i (yes-6 w ops ws i (right-at i h))))
+      (operand-ranged ops ws i (yes-5 workflow ops ws i (right-at i h)))
+      (stands-right ops ws i (yes-6 workflow ops ws i (right-at i h)))
+      (lands-right ops ws i (yes-6 workflow ops ws i (right-at i h))))
 
   returns-at-last : operationAt ops (length ops - 1) ≡ opReturn
   unfolding codeNo question8
@@ -320,9 +322,9 @@ module _ (d size i w : ℕ) (h : d < 8) where
       also (λ r. h)
       also tt)
 
-module _ (w : ℕ) (ops ws : List ℕ) (e : codeNo w ops ws ≡ none) where
+module _ (workflow : ℕ) (ops ws : List ℕ) (e : codeNo workflow ops ws ≡ none) where
   pub bounded-at : (i : ℕ) → i < length ops → Bounded (instructionAt (codeOf ops ws) i)
   bounded-at i h =
       subst Bounded (sym (instruction-at ops ws i h))
-      (bounded-all (registerAt ops i) (length ops) i (wordAt ws i) (omega arith) (operationAt ops i) (operation-known w ops ws e i h)
-      (operand-ranged ops ws i (yes-5 w ops ws i (right-at w ops ws e i h))))
+      (bounded-all (registerAt ops i) (length ops) i (wordAt ws i) (omega arith) (operationAt ops i) (operation-known workflow ops ws e i h)
+      (operand-ranged ops ws i (yes-5 workflow ops ws i (right-at workflow ops ws e i h))))

@@ -42,11 +42,12 @@ unfolding isNoEnd
 no-end-here ops i n = rw (ne-eqb (operationAt ops i) opEnd n)
 
 -- the answers in order
-pub judged : (w : ℕ) (ops ws : List ℕ) (i : ℕ) (a b c d : Bool) → question4 ops i ≡ a → question5 ops ws i ≡ b → question6 ops ws i ≡ c →
-    question7 ops i ≡ d →
-    instructionNo w ops ws i ≡ ask (no 4 w i) a (ask (no 5 w i) b (ask (no 6 w i) c (ask (no 7 w i) d none)))
+pub judged : (workflow : ℕ) (ops ws : List ℕ) (i : ℕ) (a b c d : Bool) → question4 ops i ≡ a → question5 ops ws i ≡ b →
+    question6 ops ws i ≡ c → question7 ops i ≡ d →
+    instructionNo workflow ops ws i
+    ≡ ask (no 4 workflow i) a (ask (no 5 workflow i) b (ask (no 6 workflow i) c (ask (no 7 workflow i) d none)))
 unfolding instructionNo
-judged w ops ws i a b c d p q r s = rw (p, q, r, s)
+judged workflow ops ws i a b c d p q r s = rw (p, q, r, s)
 
 -- 5 and 6 by an entry of the table
 module _ (ops ws : List ℕ) (i w : ℕ) (entry : Entry) (e : w ≡ wordAt ws i) (f : entry ≡ entryOf (operationAt ops i)) where
@@ -66,19 +67,20 @@ pub ranged-operand : (o : Operand) (fixed : Bool) (size i w d : ℕ) (t : Bool) 
 ranged-operand o fixed size i w d t e h = and-left (inRange o size i w) (registerRight fixed d) (sym e ∙ h)
 
 -- the four questions, each yes
-module _ (w : ℕ) (ops ws : List ℕ) (i : ℕ) (e : instructionNo w ops ws i ≡ none) where
+module _ (workflow : ℕ) (ops ws : List ℕ) (i : ℕ) (e : instructionNo workflow ops ws i ≡ none) where
   pub yes-4 : question4 ops i ≡ true
   unfolding instructionNo
   yes-4 = ask-none _ (question4 ops i) _ e .0
 
-  after-4 : ask (no 5 w i) (question5 ops ws i) (ask (no 6 w i) (question6 ops ws i) (ask (no 7 w i) (question7 ops i) none)) ≡ none
+  after-4 : ask (no 5 workflow i) (question5 ops ws i)
+      (ask (no 6 workflow i) (question6 ops ws i) (ask (no 7 workflow i) (question7 ops i) none)) ≡ none
   unfolding instructionNo
   after-4 = ask-none _ (question4 ops i) _ e .1
 
   pub yes-5 : question5 ops ws i ≡ true
   yes-5 = ask-none _ (question5 ops ws i) _ after-4 .0
 
-  after-5 : ask (no 6 w i) (question6 ops ws i) (ask (no 7 w i) (question7 ops i) none) ≡ none
+  after-5 : ask (no 6 workflow i) (question6 ops ws i) (ask (no 7 workflow i) (question7 ops i) none) ≡ none
   after-5 = ask-none _ (question5 ops ws i) _ after-4 .1
 
   pub yes-6 : question6 ops ws i ≡ true

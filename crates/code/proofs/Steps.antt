@@ -19,15 +19,16 @@ use Rattle.code.specs.Questions.{insideAt, putsBefore, stands}
 use Rattle.code.specs.Refusal.{instructionNo}
 use Rattle.code.proofs.Judged.{stood, yes-6, yes-7, counted-put}
 
-module _ (w : ℕ) (ops ws : List ℕ) (i : ℕ) (v : Verdict) (p : v ≡ verdictOf (instructionNo w ops ws i)) (a : v ≡ Accepted) where
+module _ (workflow : ℕ) (ops ws : List ℕ) (i : ℕ) (v : Verdict) (p : v ≡ verdictOf (instructionNo workflow ops ws i))
+    (a : v ≡ Accepted) where
   -- END stands inside, BEGIN outside
   no-end : insideAt ops i ≡ false → operationAt ops i ≡ opEnd → ⊥
   unfolding sideOf stands
-  no-end s e = no-yes (stood ops ws i opEnd false e s (yes-6 w ops ws i (accepted v _ p a)))
+  no-end s e = no-yes (stood ops ws i opEnd false e s (yes-6 workflow ops ws i (accepted v _ p a)))
 
   no-begin : insideAt ops i ≡ true → operationAt ops i ≡ opBegin → ⊥
   unfolding sideOf stands
-  no-begin s e = no-yes (stood ops ws i opBegin true e s (yes-6 w ops ws i (accepted v _ p a)))
+  no-begin s e = no-yes (stood ops ws i opBegin true e s (yes-6 workflow ops ws i (accepted v _ p a)))
 
   pub stays-outside : insideAt ops i ≡ false → (operationAt ops i ≡ opBegin → ⊥) → insideAt ops (i + 1) ≡ false
   unfolding insideAt
@@ -51,7 +52,7 @@ module _ (w : ℕ) (ops ws : List ℕ) (i : ℕ) (v : Verdict) (p : v ≡ verdic
       where
         go : (t : Bool) → eqb op opPut ≡ t → if_then_else_ t (puts + 1) puts ≤ 16
         go true g =
-            let l = counted-put ops i (sym e ∙ eqb-true op opPut g) (yes-7 w ops ws i (accepted v _ p a)) in
+            let l = counted-put ops i (sym e ∙ eqb-true op opPut g) (yes-7 workflow ops ws i (accepted v _ p a)) in
             omega (arith, l, q)
         go false g = h
 

@@ -14,14 +14,15 @@ use Rattle.code.specs.Questions.{question8}
 use Rattle.code.specs.Refusal.{instructionNo, codeNo}
 
 -- the walk from the start, then 8
-module _ (w : ℕ) (ops ws : List ℕ) (v : Verdict) (p : v ≡ verdictOf (firstNo (instructionNo w ops ws) (length ops - 0) 0)) where
-  walked : v ≡ verdictOf (firstNo (instructionNo w ops ws) (length ops) 0)
-  walked = p ∙ ap verdictOf (first-all (instructionNo w ops ws) (length ops))
+module _ (workflow : ℕ) (ops ws : List ℕ) (v : Verdict)
+    (p : v ≡ verdictOf (firstNo (instructionNo workflow ops ws) (length ops - 0) 0)) where
+  walked : v ≡ verdictOf (firstNo (instructionNo workflow ops ws) (length ops) 0)
+  walked = p ∙ ap verdictOf (first-all (instructionNo workflow ops ws) (length ops))
 
-  pub code-refused : (q w′ i : ℕ) → v ≡ Refused q w′ i → v ≡ verdictOf (codeNo w ops ws)
+  pub code-refused : (q w′ i : ℕ) → v ≡ Refused q w′ i → v ≡ verdictOf (codeNo workflow ops ws)
   unfolding codeNo
   code-refused q w′ i r = refused-first v _ _ q w′ i walked r
 
-  pub code-walked : (t : Bool) → v ≡ Accepted → question8 ops ≡ t → codeNo w ops ws ≡ ask (no 8 w (length ops - 1)) t none
+  pub code-walked : (t : Bool) → v ≡ Accepted → question8 ops ≡ t → codeNo workflow ops ws ≡ ask (no 8 workflow (length ops - 1)) t none
   unfolding codeNo
   code-walked t a e = or-yes _ _ (accepted v _ walked a) ∙ rw e

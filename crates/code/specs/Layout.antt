@@ -5,12 +5,12 @@ use lib.ListN.{getD}
 use Rattle.words.specs.Words.{le}
 use Rattle.operation.specs.Parts.{operationOf, registerOf}
 
--- Of a workflow's own operation bytes and operand bytes: the operation, the register d and the operand word w of instruction i.
-abbrev pub operationAt : (ops : List ℕ) (i : ℕ) → ℕ
-operationAt ops i = operationOf (getD ops i 0)
+-- Of a workflow's own operation bytes and operand bytes: the operation, the register d and the operand word w of an instruction.
+abbrev pub operationAt : (ops : List ℕ) (index : ℕ) → ℕ
+operationAt ops index = operationOf (getD ops index 0)
 
-abbrev pub registerAt : (ops : List ℕ) (i : ℕ) → ℕ
-registerAt ops i = registerOf (getD ops i 0)
+abbrev pub registerAt : (ops : List ℕ) (index : ℕ) → ℕ
+registerAt ops index = registerOf (getD ops index 0)
 
-abbrev pub wordAt : (ws : List ℕ) (i : ℕ) → ℕ
-wordAt ws i = le 4 ws (4 * i)
+abbrev pub wordAt : (ws : List ℕ) (index : ℕ) → ℕ
+wordAt ws index = le 4 ws (4 * index)

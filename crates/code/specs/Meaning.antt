@@ -28,7 +28,7 @@ decode op d w =
 
 -- the instruction of an operation byte and an operand word
 abbrev pub instructionOf : (byte w : ℕ) → Instruction
-instructionOf b w = decode (operationOf b) (registerOf b) w
+instructionOf byte w = decode (operationOf byte) (registerOf byte) w
 
 -- f i, f (i + 1), …: n of them
 unfoldable pub listOf : {A : Type 0} → (ℕ → A) → (n i : ℕ) → List A
@@ -37,7 +37,7 @@ listOf f (suc n) i = f i ∷ listOf f n (suc i)
 
 -- the workflow that has these operation bytes and operand bytes
 unfoldable pub codeOf : (ops ws : List ℕ) → Code
-codeOf ops ws = listOf (λ i. instructionOf (getD ops i 0) (wordAt ws i)) (length ops) 0
+codeOf ops ws = listOf (λ index. instructionOf (getD ops index 0) (wordAt ws index)) (length ops) 0
 
 -- the numbers of registers and partitions are 0 to 7
 abbrev pub Bounded : Instruction → Type 0

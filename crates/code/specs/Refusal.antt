@@ -6,15 +6,15 @@ use lib.ListN.{length}
 use Rattle.questions.specs.Questions.{No, no, ask, orElse, firstNo}
 use Rattle.code.specs.Questions.{question4, question5, question6, question7, question8}
 
--- 4 to 7, put to instruction i of workflow w
-unfoldable pub instructionNo : (w : ℕ) (ops ws : List ℕ) (i : ℕ) → Option No
-instructionNo w ops ws i =
-    ask (no 4 w i) (question4 ops i)
-    (ask (no 5 w i) (question5 ops ws i)
-    (ask (no 6 w i) (question6 ops ws i)
-    (ask (no 7 w i) (question7 ops i) none)))
+-- 4 to 7, put to an instruction of a workflow
+unfoldable pub instructionNo : (workflow : ℕ) (ops ws : List ℕ) (index : ℕ) → Option No
+instructionNo workflow ops ws index =
+    ask (no 4 workflow index) (question4 ops index)
+    (ask (no 5 workflow index) (question5 ops ws index)
+    (ask (no 6 workflow index) (question6 ops ws index)
+    (ask (no 7 workflow index) (question7 ops index) none)))
 
 -- Within a workflow, questions 4 to 7 are put instruction by instruction; then 8, which names the last.
-unfoldable pub codeNo : (w : ℕ) (ops ws : List ℕ) → Option No
-codeNo w ops ws =
-    orElse (firstNo (instructionNo w ops ws) (length ops) 0) (ask (no 8 w (length ops - 1)) (question8 ops) none)
+unfoldable pub codeNo : (workflow : ℕ) (ops ws : List ℕ) → Option No
+codeNo workflow ops ws =
+    orElse (firstNo (instructionNo workflow ops ws) (length ops) 0) (ask (no 8 workflow (length ops - 1)) (question8 ops) none)

@@ -1,5 +1,5 @@
 -- The two walks meet their contracts. The measure of each is the number of instructions ahead. Each loop's invariant: the side of
--- instruction i (inside, the block's PUTs too), and that the first no from `at` on is the first from i on.
+-- instruction i (inside, the block's PUTs too), and that the first no from `first` on is the first from i on.
 use borrow.Author.Needs.{needs}
 use mathlib.Core.Path.{_≡_, refl, sym, _∙_, ap}
 use mathlib.Core.Bool.{true, false}
@@ -46,26 +46,26 @@ abbrev outside-below : ℕ → In 2 walk-outside-kinds.ps
 outside-below t = and 2 walk-outside-kinds.ps (falls 2 walk-outside-kinds.ps _<_ μ-outside t) walk-outside.Pre
 
 abbrev Inv-inside : walk-inside-lts.InvT-loop
-Inv-inside ops operands workflow at puts₀ i₀ puts i =
+Inv-inside ops operands workflow first puts₀ i₀ puts i =
     (insideAt ops i ≡ true)
     × (putsBefore ops i ≡ puts)
     × (puts ≤ 16)
-    × (at ≤ i)
-    × (firstNo (instructionNo workflow ops operands) (length ops - at) at ≡ firstNo (instructionNo workflow ops operands)
+    × (first ≤ i)
+    × (firstNo (instructionNo workflow ops operands) (length ops - first) first ≡ firstNo (instructionNo workflow ops operands)
     (length ops - i) i)
 
 abbrev μ-loop-inside : walk-inside-lts.MeasureT-loop
-μ-loop-inside ops operands workflow at puts₀ i₀ puts i = length ops - i
+μ-loop-inside ops operands workflow first puts₀ i₀ puts i = length ops - i
 
 abbrev Inv-outside : walk-outside-lts.InvT-loop
-Inv-outside ops operands workflow at i₀ i =
+Inv-outside ops operands workflow first i₀ i =
     (insideAt ops i ≡ false)
-    × (at ≤ i)
-    × (firstNo (instructionNo workflow ops operands) (length ops - at) at ≡ firstNo (instructionNo workflow ops operands)
+    × (first ≤ i)
+    × (firstNo (instructionNo workflow ops operands) (length ops - first) first ≡ firstNo (instructionNo workflow ops operands)
     (length ops - i) i)
 
 abbrev μ-loop-outside : walk-outside-lts.MeasureT-loop
-μ-loop-outside ops operands workflow at i₀ i = length ops - i
+μ-loop-outside ops operands workflow first i₀ i = length ops - i
 
 pub +walk-inside+walk-outside-spec : {M : Type 1} → statement M
 +walk-inside+walk-outside-spec =
@@ -112,7 +112,7 @@ pub +walk-inside+walk-outside-spec : {M : Type 1} → statement M
     c .walk-outside .ensures
     ∙ ap verdictOf (sym (l .before .loop .inv .4
     ∙ first-yes _ _ _ (l .loop-test .taken) _ (j .judge-inside .ensures) (e .enum-told2 .given .1))))
-    (λ c κs. c .before .before .before .before .before .before .before .loop .inv .2)
+    (λ c κs. let e = c .before .before .before in let l = e .before .before .before in l .before .loop .inv .2)
     (λ c. search needs)
     (λ c. search needs)
     (λ c.

@@ -10,10 +10,10 @@ use Rattle.code.proofs.has_no_end.Statement.{statement}
 use Rattle.code.proofs.has_no_end.Tie as tie
 
 abbrev Inv-loop : tie.InvT-loop
-Inv-loop ops from to i₀ i = eachFrom (isNoEnd ops) (to - from) from ≡ eachFrom (isNoEnd ops) (to - i) i
+Inv-loop ops first end i₀ i = eachFrom (isNoEnd ops) (end - first) first ≡ eachFrom (isNoEnd ops) (end - i) i
 
 abbrev μ-loop : tie.MeasureT-loop
-μ-loop ops from to i₀ i = to - i
+μ-loop ops first end i₀ i = end - i
 
 pub has-no-end-spec : {M : Type 1} → statement M
 has-no-end-spec =

@@ -9,10 +9,10 @@ use Rattle.code.proofs.is_inside.Statement.{statement}
 use Rattle.code.proofs.is_inside.Tie as tie
 
 abbrev Inv-loop : tie.InvT-loop
-Inv-loop ops from to inside₀ i₀ inside i = (i ≤ to) × (inside ≡ insideAt ops i)
+Inv-loop ops start index inside₀ i₀ inside i = (i ≤ index) × (inside ≡ insideAt ops i)
 
 abbrev μ-loop : tie.MeasureT-loop
-μ-loop ops from to inside₀ i₀ inside i = to - i
+μ-loop ops start index inside₀ i₀ inside i = index - i
 
 loop-again : tie.Need-loop-again Inv-loop μ-loop
 unfolding insideAt
