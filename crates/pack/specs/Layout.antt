@@ -6,40 +6,40 @@ use lib.ListN.{getD, take, drop}
 use Rattle.words.specs.Words.{le}
 
 -- m, the number of workflows
-abbrev pub count : List ℕ → ℕ
-count p = getD p 0 0
+abbrev pub count : (pack : List ℕ) → ℕ
+count pack = getD pack 0 0
 
--- the number of instructions of workflow w
-abbrev pub sizeOf : List ℕ → ℕ → ℕ
-sizeOf p w = le 2 p (1 + 2 * w)
+-- the number of instructions of a workflow
+abbrev pub sizeOf : (pack : List ℕ) (workflow : ℕ) → ℕ
+sizeOf pack workflow = le 2 pack (1 + 2 * workflow)
 
--- the instructions of the workflows before w: where w begins in both arrays
-unfoldable pub firstOf : List ℕ → ℕ → ℕ
-firstOf p zero = 0
-firstOf p (suc w) = firstOf p w + sizeOf p w
+-- the number of instructions of the workflows before one: where it begins in both arrays
+unfoldable pub firstOf : (pack : List ℕ) (workflow : ℕ) → ℕ
+firstOf pack zero = 0
+firstOf pack (suc workflow) = firstOf pack workflow + sizeOf pack workflow
 
 -- T, the number of all instructions
-abbrev pub total : List ℕ → ℕ
-total p = firstOf p (count p)
+abbrev pub total : (pack : List ℕ) → ℕ
+total pack = firstOf pack (count pack)
 
--- where the operation bytes and the operand bytes of workflow w begin in the pack
-abbrev pub operationsAt : List ℕ → ℕ → ℕ
-operationsAt p w = 1 + 2 * count p + firstOf p w
+-- where the operation bytes and the operand bytes of a workflow begin in the pack
+abbrev pub operationsAt : (pack : List ℕ) (workflow : ℕ) → ℕ
+operationsAt pack workflow = 1 + 2 * count pack + firstOf pack workflow
 
-abbrev pub operandsAt : List ℕ → ℕ → ℕ
-operandsAt p w = 1 + 2 * count p + total p + 4 * firstOf p w
+abbrev pub operandsAt : (pack : List ℕ) (workflow : ℕ) → ℕ
+operandsAt pack workflow = 1 + 2 * count pack + total pack + 4 * firstOf pack workflow
 
--- all operation bytes of workflow w
-unfoldable pub operationsOf : List ℕ → ℕ → List ℕ
-operationsOf p w = take (sizeOf p w) (drop (operationsAt p w) p)
+-- all operation bytes of a workflow
+unfoldable pub operationsOf : (pack : List ℕ) (workflow : ℕ) → List ℕ
+operationsOf pack workflow = take (sizeOf pack workflow) (drop (operationsAt pack workflow) pack)
 
 -- all its operand bytes, four to an instruction
-unfoldable pub operandsOf : List ℕ → ℕ → List ℕ
-operandsOf p w = take (4 * sizeOf p w) (drop (operandsAt p w) p)
+unfoldable pub operandsOf : (pack : List ℕ) (workflow : ℕ) → List ℕ
+operandsOf pack workflow = take (4 * sizeOf pack workflow) (drop (operandsAt pack workflow) pack)
 
--- the operation byte and the operand word of instruction i of workflow w
-unfoldable pub operationByte : List ℕ → (w i : ℕ) → ℕ
-operationByte p w i = getD p (operationsAt p w + i) 0
+-- the operation byte and the operand word of an instruction of a workflow
+unfoldable pub operationByte : (pack : List ℕ) (workflow index : ℕ) → ℕ
+operationByte pack workflow index = getD pack (operationsAt pack workflow + index) 0
 
-unfoldable pub operandWord : List ℕ → (w i : ℕ) → ℕ
-operandWord p w i = le 4 p (operandsAt p w + 4 * i)
+unfoldable pub operandWord : (pack : List ℕ) (workflow index : ℕ) → ℕ
+operandWord pack workflow index = le 4 pack (operandsAt pack workflow + 4 * index)

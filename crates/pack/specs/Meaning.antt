@@ -6,5 +6,5 @@ use Rattle.code.specs.Meaning.{listOf, codeOf}
 use Rattle.pack.specs.Layout.{count, operationsOf, operandsOf}
 
 -- all workflows of a pack
-unfoldable pub packOf : List ℕ → Pack
-packOf p = listOf (λ w. codeOf (operationsOf p w) (operandsOf p w)) (count p) 0
+unfoldable pub packOf : (pack : List ℕ) → Pack
+packOf pack = listOf (λ workflow. codeOf (operationsOf pack workflow) (operandsOf pack workflow)) (count pack) 0

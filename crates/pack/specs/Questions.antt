@@ -12,21 +12,21 @@ abbrev pub between : (low high x : ℕ) → Bool
 between low high x = leb low x && leb x high
 
 -- 1. Is there a count, 1 to 16?
-unfoldable pub question1 : List ℕ → Bool
-question1 p = leb 1 (length p) && between 1 16 (count p)
+unfoldable pub question1 : (pack : List ℕ) → Bool
+question1 pack = leb 1 (length pack) && between 1 16 (count pack)
 
 -- a size is 1 to 256
-unfoldable pub sizeRight : List ℕ → ℕ → Bool
-sizeRight p w = between 1 256 (sizeOf p w)
+unfoldable pub sizeRight : (pack : List ℕ) (workflow : ℕ) → Bool
+sizeRight pack workflow = between 1 256 (sizeOf pack workflow)
 
 -- 2. Are all sizes there, each 1 to 256, sum at most 2,048?
-unfoldable pub question2 : List ℕ → Bool
-question2 p = leb (1 + 2 * count p) (length p) && each (count p) (sizeRight p) && leb (total p) 2048
+unfoldable pub question2 : (pack : List ℕ) → Bool
+question2 pack = leb (1 + 2 * count pack) (length pack) && each (count pack) (sizeRight pack) && leb (total pack) 2048
 
 -- 3. Is the length 1 + 2m + 5T?
-unfoldable pub question3 : List ℕ → Bool
-question3 p = eqb (length p) (1 + 2 * count p + 5 * total p)
+unfoldable pub question3 : (pack : List ℕ) → Bool
+question3 pack = eqb (length pack) (1 + 2 * count pack + 5 * total pack)
 
 -- 17. Is the workflow below m?
-abbrev pub question17 : List ℕ → (w : ℕ) → Bool
-question17 p w = ltb w (count p)
+abbrev pub question17 : (pack : List ℕ) (workflow : ℕ) → Bool
+question17 pack workflow = ltb workflow (count pack)

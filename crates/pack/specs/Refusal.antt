@@ -8,19 +8,20 @@ use Rattle.pack.specs.Layout.{count, operationsOf, operandsOf}
 use Rattle.pack.specs.Questions.{question1, question2, question3, question17}
 
 -- 1 to 3
-unfoldable pub layoutNo : List ℕ → Option No
-layoutNo p = ask (number 1) (question1 p) (ask (number 2) (question2 p) (ask (number 3) (question3 p) none))
+unfoldable pub layoutNo : (pack : List ℕ) → Option No
+layoutNo pack = ask (number 1) (question1 pack) (ask (number 2) (question2 pack) (ask (number 3) (question3 pack) none))
 
-abbrev pub workflowNo : List ℕ → (w : ℕ) → Option No
-workflowNo p w = codeNo w (operationsOf p w) (operandsOf p w)
+-- 4 to 8, put to one workflow
+abbrev pub workflowNo : (pack : List ℕ) (workflow : ℕ) → Option No
+workflowNo pack workflow = codeNo workflow (operationsOf pack workflow) (operandsOf pack workflow)
 
 -- The pack check: 1 to 3, then workflow by workflow.
-unfoldable pub packRefusal : List ℕ → Option No
-packRefusal p = orElse (layoutNo p) (firstNo (workflowNo p) (count p) 0)
+unfoldable pub packRefusal : (pack : List ℕ) → Option No
+packRefusal pack = orElse (layoutNo pack) (firstNo (workflowNo pack) (count pack) 0)
 
--- Opening workflow w: 1 to 8 and 17.
-unfoldable pub openRefusal : List ℕ → (w : ℕ) → Option No
-openRefusal p w = orElse (packRefusal p) (ask (number 17) (question17 p w) none)
+-- Opening a workflow: 1 to 8 and 17.
+unfoldable pub openRefusal : (pack : List ℕ) (workflow : ℕ) → Option No
+openRefusal pack workflow = orElse (packRefusal pack) (ask (number 17) (question17 pack workflow) none)
 
 -- what an opening hands out: a part of the pack; a refusal comes with an empty part
 unfoldable pub opened : Option No → (part : List ℕ) → List ℕ

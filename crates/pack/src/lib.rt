@@ -11,16 +11,16 @@ ghost use Rattle.pack.specs.Questions.{sizeRight};
 ghost use Rattle.pack.specs.Refusal.{layoutNo, workflowNo, packRefusal, openRefusal, opened};
 use questions::Verdict;
 
-// The number of instructions of the workflows before `w`.
-pub fn first_of(pack: &[u8], w: usize) -> usize
-    requires { ⌜ (w ≤ 16) × (1 + 2 * w ≤ length (now pack)) ⌝ }
-    ensures { λ r. ⌜ r ≡ firstOf (now (pack .entry)) w ⌝ }
+// The number of instructions of the workflows before this one.
+pub fn first_of(pack: &[u8], workflow: usize) -> usize
+    requires { ⌜ (workflow ≤ 16) × (1 + 2 * workflow ≤ length (now pack)) ⌝ }
+    ensures { λ r. ⌜ r ≡ firstOf (now (pack .entry)) workflow ⌝ }
 {
     let mut sum: usize = 0;
-    let mut v = 0;
-    while v < w {
-        sum += words::read16(pack, 1 + 2 * v) as usize;
-        v += 1;
+    let mut earlier = 0;
+    while earlier < workflow {
+        sum += words::read16(pack, 1 + 2 * earlier) as usize;
+        earlier += 1;
     }
     sum
 }
@@ -30,16 +30,16 @@ fn sizes_in_range(pack: &[u8], m: usize) -> bool
     requires { ⌜ 1 + 2 * m ≤ length (now pack) ⌝ }
     ensures { λ r. ⌜ r ≡ each m (sizeRight (now (pack .entry))) ⌝ }
 {
-    let mut w = 0;
-    while w < m {
-        let size = words::read16(pack, 1 + 2 * w);
+    let mut workflow = 0;
+    while workflow < m {
+        let size = words::read16(pack, 1 + 2 * workflow);
         if size < 1 {
             return false;
         }
         if 256 < size {
             return false;
         }
-        w += 1;
+        workflow += 1;
     }
     true
 }
@@ -83,12 +83,12 @@ pub fn count_of(pack: &[u8]) -> u32
 }
 
 // The number of instructions of a workflow.
-pub fn size_at(pack: &[u8], w: usize) -> usize
+pub fn size_at(pack: &[u8], workflow: usize) -> usize
     requires { ⌜ Laid (now pack) ⌝ }
-    requires { ⌜ w < count (now pack) ⌝ }
-    ensures { λ r. ⌜ r ≡ sizeOf (now (pack .entry)) w ⌝ }
+    requires { ⌜ workflow < count (now pack) ⌝ }
+    ensures { λ r. ⌜ r ≡ sizeOf (now (pack .entry)) workflow ⌝ }
 {
-    words::read16(pack, 1 + 2 * w) as usize
+    words::read16(pack, 1 + 2 * workflow) as usize
 }
 
 // Where the operation bytes of all workflows begin in the pack, and where their operand bytes do: of what stands behind the sizes a
@@ -104,20 +104,20 @@ fn operands_begin(pack: &[u8]) -> usize
     requires { ⌜ Laid (now pack) ⌝ }
     ensures { λ r. ⌜ r ≡ 1 + 2 * count (now (pack .entry)) + total (now (pack .entry)) ⌝ }
 {
-    let a = operations_begin(pack);
-    a + (pack.len() - a) / 5
+    let operations = operations_begin(pack);
+    operations + (pack.len() - operations) / 5
 }
 
-// The n bytes from a on.
-fn part(pack: &[u8], a: usize, n: usize) -> &[u8]
-    requires { ⌜ a + n ≤ length (now pack) ⌝ }
-    ensures { λ r. ⌜ now r ≡ take n (drop a (now (pack .entry))) ⌝ }
+// So many bytes from `start` on.
+fn part(pack: &[u8], start: usize, count: usize) -> &[u8]
+    requires { ⌜ start + count ≤ length (now pack) ⌝ }
+    ensures { λ r. ⌜ now r ≡ take count (drop start (now (pack .entry))) ⌝ }
 {
-    let e = a + n;
-    &pack[a..e]
+    let end = start + count;
+    &pack[start..end]
 }
 
-// Questions 4 to 8, workflow by workflow. `first` is the number of instructions of the workflows before w.
+// Questions 4 to 8, workflow by workflow. `first` is the number of instructions of the workflows before.
 fn check_workflows(pack: &[u8]) -> Verdict
     requires { ⌜ Laid (now pack) ⌝ }
     ensures { λ r. ⌜ r ≡ verdictOf (firstNo (workflowNo (now (pack .entry))) (count (now (pack .entry))) 0) ⌝ }
@@ -126,11 +126,11 @@ fn check_workflows(pack: &[u8]) -> Verdict
     let operations = operations_begin(pack);
     let operands = operands_begin(pack);
     let mut first = 0;
-    let mut w = 0;
-    while w < m {
-        let size = size_at(pack, w);
+    let mut workflow = 0;
+    while workflow < m {
+        let size = size_at(pack, workflow);
         let ops = part(pack, operations + first, size);
-        let v = code::check_workflow(ops, part(pack, operands + 4 * first, 4 * size), w);
+        let v = code::check_workflow(ops, part(pack, operands + 4 * first, 4 * size), workflow);
         if let Verdict::Refused {
             question: _,
             workflow: _,
@@ -139,7 +139,7 @@ fn check_workflows(pack: &[u8]) -> Verdict
             return v;
         }
         first += size;
-        w += 1;
+        workflow += 1;
     }
     Verdict::Accepted
 }
@@ -181,39 +181,43 @@ pub fn open(pack: &[u8], workflow: u32) -> Verdict
 }
 
 // Where the operation bytes of a workflow begin in the pack.
-pub fn operations_at(pack: &[u8], w: usize) -> usize
+pub fn operations_at(pack: &[u8], workflow: usize) -> usize
     requires { ⌜ Laid (now pack) ⌝ }
-    requires { ⌜ w < count (now pack) ⌝ }
-    ensures { λ r. ⌜ r ≡ operationsAt (now (pack .entry)) w ⌝ }
+    requires { ⌜ workflow < count (now pack) ⌝ }
+    ensures { λ r. ⌜ r ≡ operationsAt (now (pack .entry)) workflow ⌝ }
 {
-    operations_begin(pack) + first_of(pack, w)
+    operations_begin(pack) + first_of(pack, workflow)
 }
 
 // Where its operand bytes begin.
-pub fn operands_at(pack: &[u8], w: usize) -> usize
+pub fn operands_at(pack: &[u8], workflow: usize) -> usize
     requires { ⌜ Laid (now pack) ⌝ }
-    requires { ⌜ w < count (now pack) ⌝ }
-    ensures { λ r. ⌜ r ≡ operandsAt (now (pack .entry)) w ⌝ }
+    requires { ⌜ workflow < count (now pack) ⌝ }
+    ensures { λ r. ⌜ r ≡ operandsAt (now (pack .entry)) workflow ⌝ }
 {
-    operands_begin(pack) + 4 * first_of(pack, w)
+    operands_begin(pack) + 4 * first_of(pack, workflow)
 }
 
 // The operation bytes of a workflow: a part of the pack.
-pub fn operations_part(pack: &[u8], w: usize) -> &[u8]
+pub fn operations_part(pack: &[u8], workflow: usize) -> &[u8]
     requires { ⌜ Laid (now pack) ⌝ }
-    requires { ⌜ w < count (now pack) ⌝ }
-    ensures { λ r. ⌜ now r ≡ operationsOf (now (pack .entry)) w ⌝ }
+    requires { ⌜ workflow < count (now pack) ⌝ }
+    ensures { λ r. ⌜ now r ≡ operationsOf (now (pack .entry)) workflow ⌝ }
 {
-    part(pack, operations_at(pack, w), size_at(pack, w))
+    part(pack, operations_at(pack, workflow), size_at(pack, workflow))
 }
 
 // The operand bytes of a workflow: a part of the pack.
-pub fn operands_part(pack: &[u8], w: usize) -> &[u8]
+pub fn operands_part(pack: &[u8], workflow: usize) -> &[u8]
     requires { ⌜ Laid (now pack) ⌝ }
-    requires { ⌜ w < count (now pack) ⌝ }
-    ensures { λ r. ⌜ now r ≡ operandsOf (now (pack .entry)) w ⌝ }
+    requires { ⌜ workflow < count (now pack) ⌝ }
+    ensures { λ r. ⌜ now r ≡ operandsOf (now (pack .entry)) workflow ⌝ }
 {
-    part(pack, operands_at(pack, w), 4 * size_at(pack, w))
+    part(
+        pack,
+        operands_at(pack, workflow),
+        4 * size_at(pack, workflow),
+    )
 }
 
 // The opened workflow's own operation bytes, a part of the pack; the empty part on refusal.

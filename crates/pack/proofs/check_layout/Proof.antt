@@ -11,11 +11,14 @@ use Rattle.pack.proofs.Sizes.{too-low, too-high, is-between, no-count, 
 use Rattle.pack.proofs.check_layout.Statement.{statement}
 use Rattle.pack.proofs.check_layout.Tie as tie
 
-yes1 : (c : tie.Else3) → question1 (c .before .before .before .before .before .args .pack .now) ≡ true
+-- where the call began, from question 1 on
+abbrev began : tie.Else3 → tie.Start
+began c = c .before .before .before .before .before
+
+yes1 : (c : tie.Else3) → question1 (began c .args .pack .now) ≡ true
 yes1 c = count-asked _ (c .before .before .before .if1 .left) true (is-between 1 16 _ (c .before .if2 .left) (c .if3 .left))
 
-yes2 : (c : tie.Else6) →
-    question2 (c .before .before .before .before .before .before .before .before .before .before .args .pack .now) ≡ true
+yes2 : (c : tie.Else6) → question2 (began (c .before .before .before .before .before) .args .pack .now) ≡ true
 yes2 c =
     let s = c .before .before .before in
     sizes-asked _ true true true _ (c .before .first-of .ensures) (le-leb _ _ (s .before .if4 .left))

@@ -1,8 +1,9 @@
--- `pack::check_workflows` meets its contract. The loop's invariant: `first` is where workflow w begins in both arrays, and the answer is
+-- `pack::check_workflows` meets its contract. The loop's invariant: `first` is where the workflow begins in both arrays, and the answer is
 -- that for the workflows ahead.
 use borrow.Author.Needs.{needs}
+use mathlib.Core.List.{List}
 use mathlib.Core.Path.{_≡_, refl, sym, _∙_, ap}
-use Prim.Native.Nat.{_+_, _*_, _≤_, _-_}
+use Prim.Native.Nat.{ℕ, _+_, _*_, _≤_, _-_}
 use native.Mathlib.Omega.{arith}
 use lib.ListN.{length}
 use Rattle.questions.specs.Questions.{firstNo}
@@ -17,11 +18,12 @@ use Rattle.pack.proofs.check_workflows.Statement.{statement}
 use Rattle.pack.proofs.check_workflows.Tie as tie
 
 abbrev Inv-loop : tie.InvT-loop
-Inv-loop pack m operations operands first₀ w₀ first w =
-    (w ≤ m) × (first ≡ firstOf pack w) × (firstNo (workflowNo pack) m 0 ≡ firstNo (workflowNo pack) (m - w) w)
+Inv-loop pack m operations operands first₀ workflow₀ first workflow =
+    (workflow ≤ m) × (first ≡ firstOf pack workflow)
+    × (firstNo (workflowNo pack) m 0 ≡ firstNo (workflowNo pack) (m - workflow) workflow)
 
 abbrev μ-loop : tie.MeasureT-loop
-μ-loop pack m operations operands first₀ w₀ first w = m - w
+μ-loop pack m operations operands first₀ workflow₀ first workflow = m - workflow
 
 loop-holds : tie.Need-loop-holds Inv-loop μ-loop
 unfolding firstOf
@@ -29,28 +31,35 @@ loop-holds c =
     let p = c .before .before .before .before .args .pack .now in
     (omega arith, refl, ap (λ n. firstNo (workflowNo p) n 0) (omega arith))
 
--- the parts of workflow w are within the pack
+-- where the call began, and the pack that it was lent, from the loop on
+abbrev began : tie.At-loop Inv-loop μ-loop → tie.Start Inv-loop μ-loop
+began l = l .before .before .before .before .before
+
+abbrev lent : tie.At-loop Inv-loop μ-loop → List ℕ
+lent l = began l .args .pack .now
+
+-- the parts of a workflow are within the pack
 module _ (c : tie.After-size-at Inv-loop μ-loop) where
   few : c .before .before .loop .first + c .size-at .result ≤ 2048
   few =
       let l = c .before .before in
-      let s = l .before .before .before .before .before in
+      let s = began l in
       omega (
         arith,
-        few-instructions (s .args .pack .now) (s .pre) (l .loop .w) (c .before .loop-test .taken),
+        few-instructions (s .args .pack .now) (s .pre) (l .loop .workflow) (c .before .loop-test .taken),
         c .size-at .ensures,
         l .loop .inv .1,
       )
 
   operations-fit : let l = c .before .before in
       l .before .before .operations-begin .result + l .loop .first + c .size-at .result ≤ length
-      (l .before .before .before .before .before .args .pack .now)
+      (lent l)
   operations-fit =
       let l = c .before .before in
-      let s = l .before .before .before .before .before in
+      let s = began l in
       omega (
         arith,
-        operations-within (s .args .pack .now) (s .pre) (l .loop .w) (c .before .loop-test .taken),
+        operations-within (s .args .pack .now) (s .pre) (l .loop .workflow) (c .before .loop-test .taken),
         l .before .before .operations-begin .ensures,
         c .size-at .ensures,
         l .loop .inv .1,
@@ -58,26 +67,26 @@ module _ (c : tie.After-size-at Inv-loop μ-loop) where
 
   operands-fit : let l = c .before .before in
       l .before .operands-begin .result + 4 * l .loop .first + 4 * c .size-at .result ≤ length
-      (l .before .before .before .before .before .args .pack .now)
+      (lent l)
   operands-fit =
       let l = c .before .before in
-      let s = l .before .before .before .before .before in
+      let s = began l in
       omega (
         arith,
-        operands-within (s .args .pack .now) (s .pre) (l .loop .w) (c .before .loop-test .taken),
+        operands-within (s .args .pack .now) (s .pre) (l .loop .workflow) (c .before .loop-test .taken),
         l .before .operands-begin .ensures,
         c .size-at .ensures,
         l .loop .inv .1,
       )
 
   -- the pack is short
-  short : length (c .before .before .before .before .before .before .before .args .pack .now) ≤ 10273
-  short = let s = c .before .before .before .before .before .before .before in omega (arith, s .pre .whole, s .pre .few, s .pre .short)
+  short : length (lent (c .before .before)) ≤ 10273
+  short = let s = began (c .before .before) in omega (arith, s .pre .whole, s .pre .few, s .pre .short)
 
 -- the parts in hand are the workflow's
 module _ (c : tie.After-part2 Inv-loop μ-loop) where
   operations-here : let l = c .before .before .before .before in
-      c .before .part .result .now ≡ operationsOf (l .before .before .before .before .before .args .pack .now) (l .loop .w)
+      c .before .part .result .now ≡ operationsOf (lent l) (l .loop .workflow)
   operations-here =
       let z = c .before .before in
       let l = z .before .before in
@@ -85,30 +94,30 @@ module _ (c : tie.After-part2 Inv-loop μ-loop) where
       (c .before .part .ensures)
 
   operands-here : let l = c .before .before .before .before in
-      c .part2 .result .now ≡ operandsOf (l .before .before .before .before .before .args .pack .now) (l .loop .w)
+      c .part2 .result .now ≡ operandsOf (lent l) (l .loop .workflow)
   operands-here =
       let z = c .before .before in
       let l = z .before .before in
       operands-are _ _ _ _ (l .loop .inv .1) (z .size-at .ensures) _ _ (l .before .operands-begin .ensures) (c .part2 .ensures)
 
   workflow-here : let l = c .before .before .before .before in
-      codeNo (l .loop .w) (c .before .part .result .now) (c .part2 .result .now) ≡ workflowNo
-      (l .before .before .before .before .before .args .pack .now) (l .loop .w)
+      codeNo (l .loop .workflow) (c .before .part .result .now) (c .part2 .result .now) ≡ workflowNo
+      (lent l) (l .loop .workflow)
   workflow-here = parts-of _ _ _ _ operations-here operands-here
 
   sized : (1 ≤ length (c .before .part .result .now)) × (length (c .part2 .result .now) ≡ 4 * length (c .before .part .result .now))
   sized =
       let t = c .before .before .before in
       let l = t .before in
-      let s = l .before .before .before .before .before in
-      let a = ap length operations-here ∙ length-operations (s .args .pack .now) (s .pre) (l .loop .w) (t .loop-test .taken) in
-      let b = ap length operands-here ∙ length-operands (s .args .pack .now) (s .pre) (l .loop .w) (t .loop-test .taken) in
-      (omega (arith, a, s .pre .sizes (l .loop .w) (t .loop-test .taken) .0), omega (arith, a, b))
+      let s = began l in
+      let a = ap length operations-here ∙ length-operations (s .args .pack .now) (s .pre) (l .loop .workflow) (t .loop-test .taken) in
+      let b = ap length operands-here ∙ length-operands (s .args .pack .now) (s .pre) (l .loop .workflow) (t .loop-test .taken) in
+      (omega (arith, a, s .pre .sizes (l .loop .workflow) (t .loop-test .taken) .0), omega (arith, a, b))
 
--- the verdict on workflow w
+-- the verdict on a workflow
 told : (c : tie.After-check-workflow Inv-loop μ-loop) →
     let l = c .before .before .before .before .before in
-    c .check-workflow .result ≡ verdictOf (workflowNo (l .before .before .before .before .before .args .pack .now) (l .loop .w))
+    c .check-workflow .result ≡ verdictOf (workflowNo (lent l) (l .loop .workflow))
 told c = c .check-workflow .ensures ∙ ap verdictOf (workflow-here (c .before))
 
 pub check-workflows-spec : {M : Type 1} → statement M
@@ -122,7 +131,7 @@ check-workflows-spec =
     (λ c κs. search needs)
     (λ c κs. search needs)
     loop-holds
-    (λ c κs. (c .before .before .before .before .before .before .pre, c .loop-test .taken))
+    (λ c κs. (began (c .before) .pre, c .loop-test .taken))
     (λ c. omega (arith, operations-fit c, short c))
     (λ c κs. operations-fit c)
     (λ c. omega (arith, few (c .before)))
@@ -147,7 +156,7 @@ check-workflows-spec =
       omega arith,
       omega (
         arith,
-        first-next (l .before .before .before .before .before .args .pack .now) (l .loop .w),
+        first-next (lent l) (l .loop .workflow),
         l .loop .inv .1,
         z .size-at .ensures,
       ),

@@ -13,10 +13,10 @@ operands-at-spec =
     (λ c κs. let s = c .before .before in (omega (arith, s .pre .0 .few, s .pre .1), omega (arith, s .pre .0 .whole, s .pre .1)))
     (λ c.
     let s = c .before .before .before in
-    let f = few-instructions (s .args .pack .now) (s .pre .0) (s .args .w) (s .pre .1) in
+    let f = few-instructions (s .args .pack .now) (s .pre .0) (s .args .workflow) (s .pre .1) in
     omega (arith, f, c .first-of .ensures))
     (λ c.
     let s = c .before .before .before in
-    let f = few-instructions (s .args .pack .now) (s .pre .0) (s .args .w) (s .pre .1) in
+    let f = few-instructions (s .args .pack .now) (s .pre .0) (s .args .workflow) (s .pre .1) in
     omega (arith, f, s .pre .0 .few, s .pre .0 .short, c .before .operands-begin .ensures, c .first-of .ensures))
     (λ c. omega (arith, c .before .operands-begin .ensures, c .first-of .ensures)))

@@ -13,12 +13,12 @@ operands-part-spec =
     (tie.spec
     (λ c κs. search needs)
     (λ c κs. search needs)
-    (λ c. let s = c .before .before .before in omega (arith, s .pre .0 .sizes (s .args .w) (s .pre .1) .1, c .size-at .ensures))
+    (λ c. let s = c .before .before .before in omega (arith, s .pre .0 .sizes (s .args .workflow) (s .pre .1) .1, c .size-at .ensures))
     (λ c κs.
     let s = c .before .before .before in
     omega (
       arith,
-      operands-within (s .args .pack .now) (s .pre .0) (s .args .w) (s .pre .1),
+      operands-within (s .args .pack .now) (s .pre .0) (s .args .workflow) (s .pre .1),
       c .before .operands-at .ensures,
       c .size-at .ensures,
     ))

@@ -17,7 +17,7 @@ operations-part-spec =
     let s = c .before .before .before in
     omega (
       arith,
-      operations-within (s .args .pack .now) (s .pre .0) (s .args .w) (s .pre .1),
+      operations-within (s .args .pack .now) (s .pre .0) (s .args .workflow) (s .pre .1),
       c .before .operations-at .ensures,
       c .size-at .ensures,
     ))

@@ -12,10 +12,11 @@ use Rattle.pack.proofs.sizes_in_range.Statement.{statement}
 use Rattle.pack.proofs.sizes_in_range.Tie as tie
 
 abbrev Inv-loop : tie.InvT-loop
-Inv-loop pack m w₀ w = (w ≤ m) × (each m (sizeRight pack) ≡ eachFrom (sizeRight pack) (m - w) w)
+Inv-loop pack m workflow₀ workflow =
+    (workflow ≤ m) × (each m (sizeRight pack) ≡ eachFrom (sizeRight pack) (m - workflow) workflow)
 
 abbrev μ-loop : tie.MeasureT-loop
-μ-loop pack m w₀ w = m - w
+μ-loop pack m workflow₀ workflow = m - workflow
 
 pub sizes-in-range-spec : {M : Type 1} → statement M
 sizes-in-range-spec =
@@ -40,6 +41,7 @@ sizes-in-range-spec =
     let l = c .before .before .before in (
       omega arith,
       l .before .loop .inv .1
-          ∙ each-more _ _ _ (l .loop-test .taken) (size-in _ _ _ (c .before .before .read16 .ensures) (c .before .if1 .left) (c .if2 .left)),
+          ∙ each-more _ _ _ (l .loop-test .taken)
+          (size-in _ _ _ (c .before .before .read16 .ensures) (c .before .if1 .left) (c .if2 .left)),
     ))
     (λ c. sym (c .before .loop .inv .1 ∙ each-none _ _ _ (c .loop-test .left))))
