@@ -19,43 +19,43 @@ use Rattle.reader.specs.declared.Instruction.{Instruction}
 use Rattle.reader.specs.declared.Opening.{Opening}
 use Rattle.reader.specs.declared.Reader.{Reader}
 
--- the n bytes from a on; none where there are not so many
-unfoldable pub partOf : List ℕ → (a n : ℕ) → List ℕ
-partOf xs a n = if leb (a + n) (length xs) then take n (drop a xs) else []
+-- so many bytes from `start` on; none where there are not so many
+unfoldable pub partOf : (bytes : List ℕ) (start count : ℕ) → List ℕ
+partOf bytes start count = if leb (start + count) (length bytes) then take count (drop start bytes) else []
 
 -- a number that an opening hands out; a refusal comes with 0
 unfoldable pub openedNumber : Option No → ℕ → ℕ
 openedNumber none n = n
 openedNumber (some refusal) n = 0
 
--- What opening workflow w of a pack finds: the verdict of 1 to 8 and 17, where the workflow's operation bytes and operand bytes begin,
+-- What opening a workflow of a pack finds: the verdict of 1 to 8 and 17, where the workflow's operation bytes and operand bytes begin,
 -- and how many instructions it has.
-abbrev pub openingOf : List ℕ → (w : ℕ) → Opening
-openingOf p w =
+abbrev pub openingOf : (pack : List ℕ) (workflow : ℕ) → Opening
+openingOf pack workflow =
     record {
-      verdict = verdictOf (openRefusal p w);
-      operations = openedNumber (openRefusal p w) (operationsAt p w);
-      operands = openedNumber (openRefusal p w) (operandsAt p w);
-      size = openedNumber (openRefusal p w) (sizeOf p w);
+      verdict = verdictOf (openRefusal pack workflow);
+      operations = openedNumber (openRefusal pack workflow) (operationsAt pack workflow);
+      operands = openedNumber (openRefusal pack workflow) (operandsAt pack workflow);
+      size = openedNumber (openRefusal pack workflow) (sizeOf pack workflow);
     }
 
 -- the parts of the pack that it hands out
-abbrev pub operationsFrom : List ℕ → (w : ℕ) → List ℕ
-operationsFrom p w = opened (openRefusal p w) (operationsOf p w)
+abbrev pub operationsFrom : (pack : List ℕ) (workflow : ℕ) → List ℕ
+operationsFrom pack workflow = opened (openRefusal pack workflow) (operationsOf pack workflow)
 
-abbrev pub operandsFrom : List ℕ → (w : ℕ) → List ℕ
-operandsFrom p w = opened (openRefusal p w) (operandsOf p w)
+abbrev pub operandsFrom : (pack : List ℕ) (workflow : ℕ) → List ℕ
+operandsFrom pack workflow = opened (openRefusal pack workflow) (operandsOf pack workflow)
 
--- the reader of a lent pack that has workflow w open
-abbrev pub readerOf : RefT (List ℕ) → (w : ℕ) → Reader
-readerOf pack w =
+-- the reader of a lent pack that has a workflow open
+abbrev pub readerOf : (pack : RefT (List ℕ)) (workflow : ℕ) → Reader
+readerOf pack workflow =
     record {
       pack = pack;
-      workflow = w;
-      verdict = openingOf (now pack) w .verdict;
-      operations = openingOf (now pack) w .operations;
-      operands = openingOf (now pack) w .operands;
-      size = openingOf (now pack) w .size;
+      workflow = workflow;
+      verdict = openingOf (now pack) workflow .verdict;
+      operations = openingOf (now pack) workflow .operations;
+      operands = openingOf (now pack) workflow .operands;
+      size = openingOf (now pack) workflow .size;
     }
 
 -- a reader as its opening left it
@@ -73,12 +73,14 @@ operandsIn r = partOf (now (r .pack)) (r .operands) (4 * r .size)
 abbrev pub Beside : (ops ws : List ℕ) → Type 0
 Beside ops ws = 0 < length ops → 0 < length ws → length ws ≡ 4 * length ops
 
--- Operation byte and operand word of instruction i; past the end those of RETURN 0, as in the rules.
-unfoldable pub readAt : (ops ws : List ℕ) (i : ℕ) → Instruction
-readAt ops ws i =
-    if ltb i (length ops) then record { byte = getD ops i 0; word = wordAt ws i } else record { byte = 16 * opReturn; word = 0 }
+-- Operation byte and operand word of the instruction at an index; past the end those of RETURN 0, as in the rules.
+unfoldable pub readAt : (ops ws : List ℕ) (index : ℕ) → Instruction
+readAt ops ws index =
+    if ltb index (length ops) then record { byte = getD ops index 0; word = wordAt ws index }
+    else record { byte = 16 * opReturn; word = 0 }
 
--- What was read is instruction i of the workflow that has these bytes: by byte and word, and by the meaning that the rules give it.
-pub record Read (ops ws : List ℕ) (i : ℕ) (x : Instruction) : Type 0 where
-  pub bytes : x ≡ readAt ops ws i
-  pub meaning : instructionOf (x .byte) (x .word) ≡ instructionAt (codeOf ops ws) i
+-- What was read is the instruction at an index of the workflow that has these bytes: by byte and word, and by the meaning that the rules
+-- give it.
+pub record Read (ops ws : List ℕ) (index : ℕ) (x : Instruction) : Type 0 where
+  pub bytes : x ≡ readAt ops ws index
+  pub meaning : instructionOf (x .byte) (x .word) ≡ instructionAt (codeOf ops ws) index

@@ -32,28 +32,28 @@ pub struct Instruction {
     pub word: u32,
 }
 
-// The n bytes from a on; the empty part where the pack has not so many.
-fn part_or_none(pack: &[u8], a: usize, n: usize) -> &[u8]
-    ensures { λ r. ⌜ now r ≡ partOf (now (pack .entry)) a n ⌝ }
+// So many bytes from `start` on; the empty part where the pack has not so many.
+fn part_or_none(pack: &[u8], start: usize, count: usize) -> &[u8]
+    ensures { λ r. ⌜ now r ≡ partOf (now (pack .entry)) start count ⌝ }
 {
-    if pack.len() < a {
+    if pack.len() < start {
         return &pack[..0];
     }
-    if pack.len() - a < n {
+    if pack.len() - start < count {
         return &pack[..0];
     }
-    let end = a + n;
-    &pack[a..end]
+    let end = start + count;
+    &pack[start..end]
 }
 
-// The bytes of n words from a on, likewise.
-fn words_or_none(pack: &[u8], a: usize, n: usize) -> &[u8]
-    ensures { λ r. ⌜ now r ≡ partOf (now (pack .entry)) a (4 * n) ⌝ }
+// The bytes of so many words from `start` on, likewise.
+fn words_or_none(pack: &[u8], start: usize, count: usize) -> &[u8]
+    ensures { λ r. ⌜ now r ≡ partOf (now (pack .entry)) start (4 * count) ⌝ }
 {
-    if pack.len() / 4 < n {
+    if pack.len() / 4 < count {
         return &pack[..0];
     }
-    part_or_none(pack, a, 4 * n)
+    part_or_none(pack, start, 4 * count)
 }
 
 // Opening a workflow: questions 1 to 8 and 17, and where the workflow stands.
@@ -63,10 +63,10 @@ fn opening_of(pack: &[u8], workflow: u32) -> Opening
     let v = pack::open(pack, workflow);
     match v {
         Verdict::Accepted => {
-            let w = workflow as usize;
-            let operations = pack::operations_at(pack, w);
-            let operands = pack::operands_at(pack, w);
-            let size = pack::size_at(pack, w);
+            let number = workflow as usize;
+            let operations = pack::operations_at(pack, number);
+            let operands = pack::operands_at(pack, number);
+            let size = pack::size_at(pack, number);
             Opening {
                 verdict: v,
                 operations,
@@ -89,25 +89,25 @@ fn opening_of(pack: &[u8], workflow: u32) -> Opening
     }
 }
 
-// Instruction i of a reader's operation bytes and operand bytes.
-fn instruction_in<'a>(bytes: &'a [u8], words: &'a [u8], i: usize) -> Instruction
-    ensures { λ r. ⌜ (Beside (now (bytes .entry)) (now (words .entry)) → Read (now (bytes .entry)) (now (words .entry)) i r) ⌝ }
+// An instruction of a reader's operation bytes and operand bytes, by its index.
+fn instruction_in<'a>(bytes: &'a [u8], words: &'a [u8], index: usize) -> Instruction
+    ensures { λ r. ⌜ (Beside (now (bytes .entry)) (now (words .entry)) → Read (now (bytes .entry)) (now (words .entry)) index r) ⌝ }
 {
-    if bytes.len() <= i {
+    if bytes.len() <= index {
         return Instruction {
             byte: 0xB0,
             word: 0,
         };
     }
-    if words.len() / 4 <= i {
+    if words.len() / 4 <= index {
         return Instruction {
-            byte: bytes[i],
+            byte: bytes[index],
             word: 0,
         };
     }
     Instruction {
-        byte: bytes[i],
-        word: code::word_in(words, i),
+        byte: bytes[index],
+        word: code::word_in(words, index),
     }
 }
 
@@ -128,29 +128,33 @@ pub fn open<'a>(pack: &'a [u8], workflow: u32) -> Reader<'a>
 
 // Its operation bytes: a part of the pack, at the pack's own lifetime.
 pub fn operations<'a>(r: Reader<'a>) -> &'a [u8]
-    ensures { λ s. ⌜ (now s ≡ operationsIn (r .entry)) × (Opened (r .entry) → now s ≡ operationsFrom (now (r .entry .pack)) (r .entry .workflow)) ⌝ }
+    ensures { λ s. ⌜ (now s ≡ operationsIn (r .entry))
+        × (Opened (r .entry) → now s ≡ operationsFrom (now (r .entry .pack)) (r .entry .workflow)) ⌝ }
 {
     part_or_none(r.pack, r.operations, r.size)
 }
 
 // Its operand bytes, likewise.
 pub fn operands<'a>(r: Reader<'a>) -> &'a [u8]
-    ensures { λ s. ⌜ (now s ≡ operandsIn (r .entry)) × (Opened (r .entry) → now s ≡ operandsFrom (now (r .entry .pack)) (r .entry .workflow)) ⌝ }
+    ensures { λ s. ⌜ (now s ≡ operandsIn (r .entry))
+        × (Opened (r .entry) → now s ≡ operandsFrom (now (r .entry .pack)) (r .entry .workflow)) ⌝ }
 {
     words_or_none(r.pack, r.operands, r.size)
 }
 
-// Its instruction i; past the end RETURN 0.
-pub fn instruction_at<'a>(r: Reader<'a>, i: usize) -> Instruction
-    ensures { λ x. ⌜ Read (operationsIn (r .entry)) (operandsIn (r .entry)) i x × (Opened (r .entry) → Read (operationsFrom (now (r .entry .pack)) (r .entry .workflow)) (operandsFrom (now (r .entry .pack)) (r .entry .workflow)) i x) ⌝ }
+// Its instruction at an index; past the end RETURN 0.
+pub fn instruction_at<'a>(r: Reader<'a>, index: usize) -> Instruction
+    ensures { λ x. ⌜ Read (operationsIn (r .entry)) (operandsIn (r .entry)) index x
+        × (Opened (r .entry) → Read (operationsFrom (now (r .entry .pack)) (r .entry .workflow))
+        (operandsFrom (now (r .entry .pack)) (r .entry .workflow)) index x) ⌝ }
 {
-    instruction_in(operations(r), operands(r), i)
+    instruction_in(operations(r), operands(r), index)
 }
 
 // The same with plain parameters: whoever calls it is covered. The parts of a workflow come so from `pack::operations` and
 // `pack::operands`.
-pub fn instruction_of(pack: &[u8], workflow: u32, i: usize) -> Instruction
-    ensures { λ x. ⌜ Read (operationsFrom (now (pack .entry)) workflow) (operandsFrom (now (pack .entry)) workflow) i x ⌝ }
+pub fn instruction_of(pack: &[u8], workflow: u32, index: usize) -> Instruction
+    ensures { λ x. ⌜ Read (operationsFrom (now (pack .entry)) workflow) (operandsFrom (now (pack .entry)) workflow) index x ⌝ }
 {
-    instruction_at(open(pack, workflow), i)
+    instruction_at(open(pack, workflow), index)
 }

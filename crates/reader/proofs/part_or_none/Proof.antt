@@ -12,12 +12,13 @@ part-or-none-spec =
     tie.close
     (tie.spec
     (λ c. search needs)
-    (λ c. let a = c .before .before .args in sym (part-none (a .pack .now) (a .a) (a .n) (omega arith)))
+    (λ c. let a = c .before .before .args in sym (part-none (a .pack .now) (a .start) (a .count) (omega arith)))
     (λ c. search needs)
     (λ c. search needs)
-    (λ c. let a = c .before .before .before .args in sym (part-none (a .pack .now) (a .a) (a .n) (omega arith)))
+    (λ c. let a = c .before .before .before .args in sym (part-none (a .pack .now) (a .start) (a .count) (omega arith)))
     (λ c. search needs)
     (λ c. search needs)
     (λ c. search needs)
     (λ c. search needs)
-    (λ c. let a = c .before .before .before .args in rw (part-whole (a .pack .now) (a .a) (a .n) (omega arith), add-sub-cancel-left)))
+    (λ c. let a = c .before .before .before .args in
+    rw (part-whole (a .pack .now) (a .start) (a .count) (omega arith), add-sub-cancel-left)))

@@ -1,4 +1,4 @@
--- `reader::words_or_none` meets its contract: where a fourth of the pack is fewer than n, so is the pack fewer than 4n.
+-- `reader::words_or_none` meets its contract: where a fourth of the pack is fewer than the words, so is the pack fewer than their bytes.
 use Prim.Native.Nat.{_*_}
 use mathlib.Core.Path.{sym}
 use native.Mathlib.Omega.{arith}
@@ -12,7 +12,7 @@ words-or-none-spec =
     tie.close
     (tie.spec
     (λ c. search needs)
-    (λ c. let a = c .before .before .before .args in sym (part-none (a .pack .now) (a .a) (4 * a .n) (omega arith)))
+    (λ c. let a = c .before .before .before .args in sym (part-none (a .pack .now) (a .start) (4 * a .count) (omega arith)))
     (λ c. search needs)
     (λ c κs. search needs)
     (λ c. search needs))
