@@ -97,11 +97,7 @@ records-none = refl
 pub slots-none : slotsOf (replicate 8 noAgent) ≡ (λ slot. none)
 slots-none = ap slotsOf (sym records-none) ∙ slots-back (λ slot. none) (λ i h. refl)
 
--- what a slot holds, by its record
-pub slot-empty : (rs : List Agent) (slot : ℕ) → agentAt rs slot .«in_use» ≡ false → slotsOf rs slot ≡ none
-unfolding slotsOf agentOf
-slot-empty rs slot e = rw e refl
-
+-- what a slot in use holds, by its record
 pub slot-held : (rs : List Agent) (slot : ℕ) → agentAt rs slot .«in_use» ≡ true → slotsOf rs slot ≡ some (held (agentAt rs slot))
 unfolding slotsOf agentOf
 slot-held rs slot e = ap (λ b. if_then_else_ b (some (held (agentAt rs slot))) none) e

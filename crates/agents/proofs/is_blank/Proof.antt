@@ -15,6 +15,20 @@ Inv-loop registers i₀ i = (i ≤ 8) × (zeroFrom registers i ≡ zeroFrom regi
 abbrev μ-loop : tie.MeasureT-loop
 μ-loop registers i₀ i = 8 - i
 
+-- the three tests before the loop; behind them the registers have the answer
+module _ (l : tie.At-loop Inv-loop μ-loop) where
+  abbrev no-step : tie.Else3 Inv-loop μ-loop
+  no-step = l .before .before
+
+  abbrev no-position : tie.Else2 Inv-loop μ-loop
+  no-position = no-step .before .before
+
+  abbrev no-id : tie.Else1 Inv-loop μ-loop
+  no-id = no-position .before .before
+
+  answered : let a = no-id .before .before .args .a in zeroFrom (a .registers) 0 ≡ isBlank a
+  answered = blank-start (no-id .before .before .args .a) (no-id .if1 .left) (no-position .if2 .left) (no-step .if3 .left)
+
 pub is-blank-spec : {M : Type 1} → statement M
 unfolding isBlank
 is-blank-spec =
@@ -30,16 +44,10 @@ is-blank-spec =
     (λ c. search needs)
     (λ c.
     let l = c .before .before in
-    let e1 = c .before .before .before .before .before .before .before .before in let e2 =
-    c .before .before .before .before .before .before in let e3 = c .before .before .before .before in
-    sym (zero-no _ (l .loop .i) (omega arith) (c .if4 .taken)) ∙ l .loop .inv .1
-    ∙ blank-start (e1 .before .before .args .a) (e1 .if1 .left) (e2 .if2 .left) (e3 .if3 .left))
+    sym (zero-no _ (l .loop .i) (omega arith) (c .if4 .taken)) ∙ l .loop .inv .1 ∙ answered l)
     (λ c. search needs)
     (λ c. search needs)
     (λ c. (search needs, sym (zero-on _ (c .before .before .loop .i) (omega arith) (c .if4 .left)) ∙ c .before .before .loop .inv .1))
     (λ c.
     let l = c .before in
-    let e1 = c .before .before .before .before .before .before .before in let e2 = c .before .before .before .before .before in let e3 =
-    c .before .before .before in
-    sym (zero-done _ (l .loop .i) (omega arith)) ∙ l .loop .inv .1
-    ∙ blank-start (e1 .before .before .args .a) (e1 .if1 .left) (e2 .if2 .left) (e3 .if3 .left)))
+    sym (zero-done _ (l .loop .i) (omega arith)) ∙ l .loop .inv .1 ∙ answered l))
