@@ -2,7 +2,7 @@
 use mathlib.Core.Bool.{Bool, true, false, not}
 use mathlib.Core.List.{List}
 use mathlib.Core.Option.{Option, none, some}
-use mathlib.Core.Path.{_≡_, refl, sym}
+use mathlib.Core.Path.{_≡_, refl}
 use Prim.Native.Nat.{ℕ, _≤_, _<_}
 use borrow.Author.Tests.{lt-ltb, le-ltb, ltb-true}
 use lib.Dec.{eqb, ltb}
@@ -107,13 +107,6 @@ module _ (pack : List ℕ) (lent : Lent) (slot : ℕ) where
 
   pub begun-used : firstSixteen pack lent slot true ≡ none → agentAt (lent .records) slot .«in_use» ≡ true
   begun-used e = used-is true (wanted true e)
-
-  pub begun-empty : firstSixteen pack lent slot false ≡ none → agentAt (lent .records) slot .«in_use» ≡ false
-  begun-empty e = used-is false (none-there (isSome (slotsOf (lent .records) slot)) (wanted false e))
-    where
-      none-there : (b : Bool) → not b ≡ true → b ≡ false
-      none-there true e = sym e
-      none-there false e = refl
 
   -- ── a no among the sixteen is the call's ──
 

@@ -1,17 +1,16 @@
--- What a yes to questions 13 and 14 says in the rules: each block that an accepted pack opens is one of a partition below P; each agent is
--- sound; and sound agents pass question 14.
+-- What a yes to questions 13 and 14 says in the rules: each block that an accepted pack opens is one of a partition below P; a record that
+-- passes question 14 is sound; and a sound one passes it.
 use mathlib.Core.Bool.{Bool, true, false, not, _&&_}
 use mathlib.Core.List.{List, []}
 use mathlib.Core.Option.{Option, none, some}
 use mathlib.Core.Path.{_≡_, refl, sym, _∙_, ap, subst}
 use Prim.Native.Nat.{ℕ, _+_, _/_, _%_, _^_, _≤_, _<_}
 use native.Mathlib.Omega.{arith}
-use native.Mathlib.Decide.{decLt}
 use borrow.Author.Tests.{ltb-true, leb-true, not-true, lt-ltb, le-leb, eq-eqb}
 use lib.Dec.{ltb, leb}
 use lib.ListN.{length, getD}
-use Rattle.meaning.proofs.Tests.{workflow-below, booked-of-13, opens-of-13, slot-used}
-use Rattle.contents.specs.Contents.{contentsOf, valueIn, argumentsOf, requestOf, bookOf, bookRows}
+use Rattle.meaning.proofs.Tests.{workflow-below, opens-of-13}
+use Rattle.contents.specs.Contents.{valueIn, argumentsOf, requestOf, bookOf, bookRows}
 use Rattle.questions.specs.Basics.{if_then_else_}
 use Rattle.rules.specs.Instructions.{BEGIN, instructionAt}
 use Rattle.rules.specs.Shapes.{Side, outside, inside}
@@ -19,8 +18,7 @@ use Rattle.rules.specs.Checked.{sideAt}
 use Rattle.keys.specs.Keys.{bookKey}
 use Rattle.rules.specs.Store.{Request}
 use Rattle.rules.specs.Calls as Rules
-use Rattle.rules.specs.Demand3.{SoundAgent}
-use Rattle.questions.proofs.Updates.{none-some, false-true}
+use Rattle.questions.proofs.Updates.{none-some}
 use Rattle.words.specs.Words.{le}
 use Rattle.code.specs.Questions.{insideAt}
 use Rattle.code.proofs.Decoded.{decoded-begin, operation-known, side-known}
@@ -33,13 +31,8 @@ use Rattle.pack.proofs.Laws.{workflow-at, accepted-laid, accepted-workflow, len
 use Rattle.store.specs.Rows.{lookup}
 use Rattle.store.specs.Layout.{partsOf}
 use Rattle.agents.specs.declared.Agent.{Agent}
-use Rattle.agents.specs.Slots.{agentAt, slotsOf, held}
-use Rattle.agents.proofs.Slots.{slot-empty, slot-held, slots-past}
-use Rattle.meaning.specs.State.{stateOf, Lent}
-use Rattle.meaning.specs.Questions.{opensBelow, byteOf, wordOf, bookedRight, opensRight, isSound, slotRight, question13, question14}
-use Rattle.meaning.specs.Questions.{lentRefusal}
+use Rattle.meaning.specs.Questions.{opensBelow, byteOf, wordOf, bookedRight, opensRight, isSound, question13}
 use Rattle.questions.proofs.Each.{each-at}
-use Rattle.meaning.proofs.Asked.{lent-pack, lent-13, lent-14}
 
 -- ── question 13 ──
 
@@ -124,31 +117,3 @@ booked-workflow pack store b id q e = go (ltb id (2 ^ 32)) refl (lookup (bookKey
     go true l (some w) x y =
         let z : w ≡ q .workflow = cc in
         subst (λ k. k < count pack) z (workflow-below pack store id w (ltb-true id (2 ^ 32) l) b x)
-
--- In the rules, each agent is sound.
-module _ (pack : List ℕ) (lent : Lent) (e : lentRefusal pack lent ≡ none) (eight : length (lent .records) ≡ 8) where
-  pub sound-agent : (slot : ℕ) (a : Rules.Agent) → slotsOf (lent .records) slot ≡ some a → SoundAgent (packOf pack) (stateOf lent) a
-  unfolding question14 stateOf contentsOf
-  sound-agent slot a p = go (decLt slot 8) (agentAt (lent .records) slot .«in_use») refl
-    where
-      r : Agent
-      r = agentAt (lent .records) slot
-
-      sound : (o : Option Request) → bookOf (valueIn (bookRows (lent .store))) (r .id) ≡ o → isSound pack r o ≡ true →
-          SoundAgent (packOf pack) (stateOf lent) (held r)
-      sound none b t = unfold isSound in false-true refl t
-      sound (some q) b t =
-          let w = booked-workflow pack (lent .store) (booked-of-13 pack (lent .store) (lent-13 pack lent e)) (r .id) q b in
-          let m = sound-meant pack (lent-pack pack lent e) (q .workflow) w r q refl t in
-          record { request = q; booked = b; below = m .0; side = m .1; steps = m .2 }
-
-      go : Dec (slot < 8) → (b : Bool) → agentAt (lent .records) slot .«in_use» ≡ b → SoundAgent (packOf pack) (stateOf lent) a
-      go (no n) b u = none-some a (slots-past (lent .records) slot (omega arith)) p
-      go (yes l) false u = none-some a (slot-empty (lent .records) slot u) p
-      go (yes l) true u =
-          let t = each-at (λ i. slotRight pack (lent .store) (agentAt (lent .records) i)) 8 0 (lent-14 pack lent e) slot (omega arith)
-          (omega arith) in
-          let z : some (held r) ≡ some a = sym (slot-held (lent .records) slot u) ∙ p in
-          let z₁ : held r ≡ a = cc in
-          subst (SoundAgent (packOf pack) (stateOf lent)) z₁
-          (sound (bookOf (valueIn (bookRows (lent .store))) (r .id)) refl (sym (slot-used pack (lent .store) r u) ∙ t))
