@@ -19,7 +19,8 @@ use store::rows::Got;
 
 // Crash empties a slot.
 pub fn crash(pack: &[u8], store: &[u8], agents: [Agent; 8], slot: usize) -> Outcome
-    ensures { λ r. ⌜ Carried (now (pack .entry)) (record { store = now (store .entry); records = agents }) (Call.crash slot) (r .answer) (record { store = now (store .entry); records = r .agents }) ⌝ }
+    ensures { λ r. ⌜ Carried (now (pack .entry)) (record { store = now (store .entry); records = agents }) (Call.crash slot)
+        (r .answer) (record { store = now (store .entry); records = r .agents }) ⌝ }
 {
     let v = lent_check::check_to_16(pack, store, agents, slot, true);
     match v {
@@ -34,15 +35,17 @@ pub fn crash(pack: &[u8], store: &[u8], agents: [Agent; 8], slot: usize) -> Outc
 
 // Restart empties all slots; it asks nothing and never refuses.
 pub fn restart() -> Outcome
-    ensures { λ r. ⌜ ((pack store : List ℕ) (records : List Agent) → Carried pack (record { store = store; records = records }) Call.restart (r .answer) (record { store = store; records = r .agents })) ⌝ }
+    ensures { λ r. ⌜ ((pack store : List ℕ) (records : List Agent) → Carried pack (record { store = store; records = records })
+        Call.restart (r .answer) (record { store = store; records = r .agents })) ⌝ }
 {
     agents::done(agents::no_agents())
 }
 
-// Order puts the rows of an earlier store in order. It gets the store only: no pack is asked and no slot is looked at. `Carried` sees a store
-// by its contents, which order leaves; that the rows are in order afterwards is said beside it.
+// Order puts the rows of an earlier store in order. It gets the store only: no pack is asked and no slot is looked at. `Carried` sees a
+// store by its contents, which order leaves; that the rows are in order afterwards is said beside it.
 pub fn order(store: &mut [u8]) -> Answer
-    ensures { λ r. ⌜ ((pack : List ℕ) (records : List Agent) → Carried pack (record { store = now (store .entry); records = records }) Call.order r (record { store = now (store .exit); records = records }))
+    ensures { λ r. ⌜ ((pack : List ℕ) (records : List Agent) → Carried pack (record { store = now (store .entry); records = records })
+        Call.order r (record { store = now (store .exit); records = records }))
         × (accepted (answerOf r) ≡ true → InOrder (now (store .entry)) (now (store .exit))) ⌝ }
 {
     let v = ordering::order(store);
@@ -62,7 +65,8 @@ pub fn order(store: &mut [u8]) -> Answer
 
 // Retry starts an agent from the book.
 pub fn retry(pack: &[u8], store: &[u8], agents: [Agent; 8], slot: usize, id: u32) -> Outcome
-    ensures { λ r. ⌜ Carried (now (pack .entry)) (record { store = now (store .entry); records = agents }) (Call.retry slot id) (r .answer) (record { store = now (store .entry); records = r .agents }) ⌝ }
+    ensures { λ r. ⌜ Carried (now (pack .entry)) (record { store = now (store .entry); records = agents }) (Call.retry slot id)
+        (r .answer) (record { store = now (store .entry); records = r .agents }) ⌝ }
 {
     let v = lent_check::check_to_16(pack, store, agents, slot, false);
     match v {
@@ -93,7 +97,9 @@ pub fn arrival(
     id: u32,
     q: Request,
 ) -> Outcome
-    ensures { λ r. ⌜ Carried (now (pack .entry)) (record { store = now (store .entry); records = agents }) (Call.arrival slot id (q .workflow) (asked q .arguments)) (r .answer) (record { store = now (store .exit); records = r .agents }) ⌝ }
+    ensures { λ r. ⌜ Carried (now (pack .entry)) (record { store = now (store .entry); records = agents })
+        (Call.arrival slot id (q .workflow) (asked q .arguments))
+        (r .answer) (record { store = now (store .exit); records = r .agents }) ⌝ }
 {
     let v = lent_check::check_to_16(pack, store, agents, slot, false);
     match v {
@@ -126,7 +132,8 @@ pub fn arrival(
 
 // Turn: the agent in a slot does its next instruction, its whole block, or its reply.
 pub fn turn(pack: &[u8], store: &mut [u8], agents: [Agent; 8], slot: usize) -> Outcome
-    ensures { λ r. ⌜ Carried (now (pack .entry)) (record { store = now (store .entry); records = agents }) (Call.turn slot) (r .answer) (record { store = now (store .exit); records = r .agents }) ⌝ }
+    ensures { λ r. ⌜ Carried (now (pack .entry)) (record { store = now (store .entry); records = agents }) (Call.turn slot)
+        (r .answer) (record { store = now (store .exit); records = r .agents }) ⌝ }
 {
     let v = lent_check::check_to_16(pack, store, agents, slot, true);
     match v {

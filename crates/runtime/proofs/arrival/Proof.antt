@@ -27,37 +27,45 @@ use Rattle.meaning.proofs.Carry.{tidy-typed, is-refused, is-done}
 use Rattle.runtime.proofs.arrival.Statement.{statement}
 use Rattle.runtime.proofs.arrival.Tie as tie
 
+-- where the call began, from a yes to 1 to 16 on
+abbrev start : tie.After-enum-told → tie.Start
+start c = c .before .before .before .before .before .before
+
 -- 1 to 16 say yes
 begun : (c : tie.After-enum-told) →
-    let a = c .before .before .before .before .before .before .args in
+    let a = start c .args in
     firstSixteen (a .pack .now) (record { store = a .store .now; records = a .agents }) (a .slot) false ≡ none
 begun c = let k = c .before .before in accepted-none (k .check-to-16 .result) _ (k .check-to-16 .ensures) (c .enum-told .given .1)
 
 lent-yes : (c : tie.After-enum-told) →
-    let a = c .before .before .before .before .before .before .args in
+    let a = start c .args in
     lentRefusal (a .pack .now) (record { store = a .store .now; records = a .agents }) ≡ none
-lent-yes c = let a = c .before .before .before .before .before .before .args in begun-lent _ _ (a .slot) false (begun c)
+lent-yes c = let a = start c .args in begun-lent _ _ (a .slot) false (begun c)
 
-below : (c : tie.After-enum-told) → c .before .before .before .before .before .before .args .slot < 8
+below : (c : tie.After-enum-told) → start c .args .slot < 8
 below c = begun-below _ _ _ false (begun c)
 
-tidied : (c : tie.After-enum-told) → Tidy (c .before .before .before .before .before .before .args .agents)
+tidied : (c : tie.After-enum-told) → Tidy (start c .args .agents)
 tidied c =
-    let s = c .before .before .before .before .before .before in
+    let s = start c in
     tidy-typed (s .args .pack .now) (record { store = s .args .store .now; records = s .args .agents }) _ (s .good .1 .1 .0)
     (lent-14 _ _ (lent-yes c))
 
+-- that yes, from behind 17
+abbrev yes-16 : tie.Else2 → tie.After-enum-told
+yes-16 c = c .before .before .before .before
+
 -- behind 17 only 18 and 19 are left
 later : (c : tie.Else2) →
-    let a = c .before .before .before .before .before .before .before .before .before .before .args in
+    let a = start (yes-16 c) .args in
     refusalFor (a .pack .now) (record { store = a .store .now; records = a .agents })
     (Calls.arrival (a .slot) (a .id) (a .q .workflow) (asked (a .q) .arguments))
     ≡ bookRefusal (contentsOf (storeOf (a .store .now))) (a .id) (asked (a .q))
 unfolding bookRefusal
 later c =
     let m = c .before .before in
-    let t = m .before .before in
-    let s = t .before .before .before .before .before .before .args in
+    let t = yes-16 c in
+    let s = start t .args in
     arrival-left _ _ (s .slot) (s .id) (s .q .workflow) _ (begun t)
     ∙ booking-left (s .id) (s .q .workflow) (length (packOf (s .pack .now))) _ (m .before .if1 .left)
     (omega (arith, c .if2 .left, m .count-of .ensures, length-pack (s .pack .now)))
@@ -73,7 +81,7 @@ arrival-spec =
     (λ c. search needs)
     (λ c.
     let t = c .before .before in
-    let s = t .before .before .before .before .before .before .args in
+    let s = start t .args in
     is-refused _ _ _ _ 24 0 0
     (arrival-left _ _ (s .slot) (s .id) (s .q .workflow) _ (begun t)
     ∙ zero-no (s .id) (s .q .workflow) (length (packOf (s .pack .now))) _ (c .before .if1 .taken)) (c .refused .ensures))
@@ -83,7 +91,7 @@ arrival-spec =
     (λ c.
     let m = c .before .before .before in
     let t = m .before .before in
-    let s = t .before .before .before .before .before .before .args in
+    let s = start t .args in
     is-refused _ _ _ _ 17 0 0
     (arrival-left _ _ (s .slot) (s .id) (s .q .workflow) _ (begun t)
     ∙ workflow-no (s .id) (s .q .workflow) (length (packOf (s .pack .now))) _ (m .before .if1 .left)
@@ -92,7 +100,7 @@ arrival-spec =
     (λ c κs. lent-store _ _ (lent-yes (c .before .before .before .before .before)))
     (λ c. search needs)
     (λ c κs. search needs)
-    (λ c κs. below (c .before .before .before .before .before .before .before .before .before .before .before))
+    (λ c κs. let k = c .before .before .before .before .before in omega (arith, below (yes-16 (k .before .before))))
     (λ c κs. search needs)
     (λ c. search needs)
     (λ c κs. search needs)
@@ -104,8 +112,8 @@ arrival-spec =
     let y = w .before .before in
     let k = y .before .before .before .before in
     let e = k .before .before in
-    let t = e .before .before .before .before in
-    let s = t .before .before .before .before .before .before .args in
+    let t = yes-16 e in
+    let s = start t .args in
     let yes-both = accepted-none (k .book-request .result) _ (k .book-request .ensures .answer) (y .enum-told2 .given .1) in
     is-done _ _ _ _ _ (s .slot) (some (record { id = s .id; course = Calls.start (asked (s .q)); step = 0 })) _ _ (tidied t) (below t)
     (later e ∙ yes-both) (arrives (stateOf (record { store = s .store .now; records = s .agents })) (s .slot) (s .id) (asked (s .q)) _
@@ -118,7 +126,7 @@ arrival-spec =
     let b = c .before .before in
     let k = b .before .before .before .before in
     let e = k .before .before in
-    let s = e .before .before .before .before .before .before .before .before .before .before .args in
+    let s = start (yes-16 e) .args in
     is-unbooked _ _ _ _ _ (s .id) (asked (s .q)) (k .book-request .result) (k .book-request .ensures) (later e)
     _ _ _ (b .b .given .1) (c .refused3 .ensures))
     (λ c. search needs)

@@ -4,6 +4,7 @@ use mathlib.Core.Bool.{true}
 use mathlib.Core.Option.{none}
 use mathlib.Core.Path.{_≡_, refl, _∙_, ap}
 use Prim.Native.Nat.{_<_}
+use native.Mathlib.Omega.{arith}
 use lib.ListN.{set}
 use Rattle.rules.specs.Calls as Calls
 use Rattle.contents.proofs.Equal.{wrote-nothing}
@@ -19,23 +20,27 @@ use Rattle.meaning.proofs.Carry.{tidy-typed, is-refused, is-done}
 use Rattle.runtime.proofs.crash.Statement.{statement}
 use Rattle.runtime.proofs.crash.Tie as tie
 
+-- where the call began, from a yes to 1 to 16 on
+abbrev start : tie.After-enum-told → tie.Start
+start c = c .before .before .before .before .before
+
 -- 1 to 16 say yes
 begun : (c : tie.After-enum-told) →
-    let a = c .before .before .before .before .before .args in
+    let a = start c .args in
     firstSixteen (a .pack .now) (record { store = a .store .now; records = a .agents }) (a .slot) true ≡ none
 begun c = let k = c .before .before in accepted-none (k .check-to-16 .result) _ (k .check-to-16 .ensures) (c .enum-told .given .1)
 
 lent-yes : (c : tie.After-enum-told) →
-    let a = c .before .before .before .before .before .args in
+    let a = start c .args in
     lentRefusal (a .pack .now) (record { store = a .store .now; records = a .agents }) ≡ none
-lent-yes c = let a = c .before .before .before .before .before .args in begun-lent _ _ (a .slot) true (begun c)
+lent-yes c = let a = start c .args in begun-lent _ _ (a .slot) true (begun c)
 
-below : (c : tie.After-enum-told) → c .before .before .before .before .before .args .slot < 8
+below : (c : tie.After-enum-told) → start c .args .slot < 8
 below c = begun-below _ _ _ true (begun c)
 
-tidied : (c : tie.After-enum-told) → Tidy (c .before .before .before .before .before .args .agents)
+tidied : (c : tie.After-enum-told) → Tidy (start c .args .agents)
 tidied c =
-    let s = c .before .before .before .before .before in
+    let s = start c in
     tidy-typed (s .args .pack .now) (record { store = s .args .store .now; records = s .args .agents }) _ (s .good .1 .1 .0)
     (lent-14 _ _ (lent-yes c))
 
@@ -47,14 +52,14 @@ crash-spec =
     (λ c κs. search needs)
     (λ c. search needs)
     (λ c κs. search needs)
-    (λ c κs. below (c .before))
+    (λ c κs. omega (arith, below (c .before)))
     (λ c κs. search needs)
     (λ c. search needs)
     (λ c κs. search needs)
     (λ c.
     let w = c .before in
     let t = w .before .before in
-    let s = t .before .before .before .before .before .args in
+    let s = start t .args in
     is-done _ _ _ _ _ (s .slot) none _ _ (tidied t) (below t) (crash-left _ _ (s .slot) (begun t)) refl (wrote-nothing _)
     (ap (λ (o : Outcome). Answers.answerOf (o .answer)) (c .done .ensures))
     (ap (λ (o : Outcome). o .agents) (c .done .ensures) ∙ w .with-agent .ensures

@@ -4,6 +4,7 @@ use mathlib.Core.Bool.{false}
 use mathlib.Core.Option.{none, some}
 use mathlib.Core.Path.{_≡_, _∙_, ap}
 use Prim.Native.Nat.{_<_}
+use native.Mathlib.Omega.{arith}
 use lib.ListN.{set}
 use Rattle.rules.specs.Store.{Request}
 use Rattle.runtime.proofs.Rules.{known-yes, known-no, again-known}
@@ -25,27 +26,31 @@ use Rattle.meaning.proofs.Carry.{tidy-typed, is-refused, is-done}
 use Rattle.runtime.proofs.retry.Statement.{statement}
 use Rattle.runtime.proofs.retry.Tie as tie
 
+-- where the call began, from a yes to 1 to 16 on
+abbrev start : tie.After-enum-told → tie.Start
+start c = c .before .before .before .before .before
+
 -- 1 to 16 say yes
 begun : (c : tie.After-enum-told) →
-    let a = c .before .before .before .before .before .args in
+    let a = start c .args in
     firstSixteen (a .pack .now) (record { store = a .store .now; records = a .agents }) (a .slot) false ≡ none
 begun c = let k = c .before .before in accepted-none (k .check-to-16 .result) _ (k .check-to-16 .ensures) (c .enum-told .given .1)
 
 lent-yes : (c : tie.After-enum-told) →
-    let a = c .before .before .before .before .before .args in
+    let a = start c .args in
     lentRefusal (a .pack .now) (record { store = a .store .now; records = a .agents }) ≡ none
-lent-yes c = let a = c .before .before .before .before .before .args in begun-lent _ _ (a .slot) false (begun c)
+lent-yes c = let a = start c .args in begun-lent _ _ (a .slot) false (begun c)
 
-below : (c : tie.After-enum-told) → c .before .before .before .before .before .args .slot < 8
+below : (c : tie.After-enum-told) → start c .args .slot < 8
 below c = begun-below _ _ _ false (begun c)
 
-tidied : (c : tie.After-enum-told) → Tidy (c .before .before .before .before .before .args .agents)
+tidied : (c : tie.After-enum-told) → Tidy (start c .args .agents)
 tidied c =
-    let s = c .before .before .before .before .before in
+    let s = start c in
     tidy-typed (s .args .pack .now) (record { store = s .args .store .now; records = s .args .agents }) _ (s .good .1 .1 .0)
     (lent-14 _ _ (lent-yes c))
 
-sounds : (c : tie.After-enum-told) → Sound (c .before .before .before .before .before .args .store .now)
+sounds : (c : tie.After-enum-told) → Sound (start c .args .store .now)
 sounds c = store-ok _ (lent-store _ _ (lent-yes c)) .0
 
 pub retry-spec : {M : Type 1} → statement M
@@ -59,7 +64,7 @@ retry-spec =
     (λ c. search needs)
     (λ c κs. sounds (c .before .before .before .before))
     (λ c κs. search needs)
-    (λ c κs. below (c .before .before .before .before .before .before))
+    (λ c κs. let y = c .before .before .before in let k = y .before .before in omega (arith, below (k .before)))
     (λ c κs. search needs)
     (λ c. search needs)
     (λ c κs. search needs)
@@ -71,7 +76,7 @@ retry-spec =
     let y = r .before .before in
     let k = y .before .before in
     let t = k .before in
-    let s = t .before .before .before .before .before .args in
+    let s = start t .args in
     let q : Request = record { workflow = y .g .given .0 .0; arguments = argumentsOf (valueIn (bookRows (s .store .now))) (s .id) } in
     let known = booked-some (bookRows (s .store .now)) (s .id) (k .booked-workflow .ensures .1) (k .booked-workflow .result)
     (k .booked-workflow .ensures .0) _ (y .g .given .1) in
@@ -85,7 +90,7 @@ retry-spec =
     let y = c .before in
     let k = y .before .before in
     let t = k .before in
-    let s = t .before .before .before .before .before .args in
+    let s = start t .args in
     is-refused _ _ _ _ 20 0 0
     (retry-left _ _ (s .slot) (s .id) (begun t)
     ∙ known-no _ (booked-none (bookRows (s .store .now)) (s .id) (k .booked-workflow .ensures .1) (k .booked-workflow .result)

@@ -18,23 +18,27 @@ use Rattle.meaning.proofs.Carry.{tidy-typed, is-refused}
 use Rattle.runtime.proofs.turn.Statement.{statement}
 use Rattle.runtime.proofs.turn.Tie as tie
 
+-- where the call began, from a yes to 1 to 16 on
+abbrev start : tie.After-enum-told → tie.Start
+start c = c .before .before .before .before .before .before
+
 -- 1 to 16 say yes
 begun : (c : tie.After-enum-told) →
-    let a = c .before .before .before .before .before .before .args in
+    let a = start c .args in
     firstSixteen (a .pack .now) (record { store = a .store .now; records = a .t3 }) (a .slot) true ≡ none
 begun c = let k = c .before .before in accepted-none (k .check-to-16 .result) _ (k .check-to-16 .ensures) (c .enum-told .given .1)
 
 lent-yes : (c : tie.After-enum-told) →
-    let a = c .before .before .before .before .before .before .args in
+    let a = start c .args in
     lentRefusal (a .pack .now) (record { store = a .store .now; records = a .t3 }) ≡ none
-lent-yes c = let a = c .before .before .before .before .before .before .args in begun-lent _ _ (a .slot) true (begun c)
+lent-yes c = let a = start c .args in begun-lent _ _ (a .slot) true (begun c)
 
-below : (c : tie.After-enum-told) → c .before .before .before .before .before .before .args .slot < 8
+below : (c : tie.After-enum-told) → start c .args .slot < 8
 below c = begun-below _ _ _ true (begun c)
 
-tidied : (c : tie.After-enum-told) → Tidy (c .before .before .before .before .before .before .args .t3)
+tidied : (c : tie.After-enum-told) → Tidy (start c .args .t3)
 tidied c =
-    let s = c .before .before .before .before .before .before in
+    let s = start c in
     tidy-typed (s .args .pack .now) (record { store = s .args .store .now; records = s .args .t3 }) _ (s .good .1 .1 .0)
     (lent-14 _ _ (lent-yes c))
 
@@ -46,15 +50,15 @@ turn-spec =
     (λ c. search needs)
     (λ c. omega (arith, below c))
     (λ c. below c)
-    (λ c κs. let t = c .before .before in may-turn _ _ (t .before .before .before .before .before .before .args .slot) (begun t))
-    (λ c κs. below (c .before .before .before .before .before .before))
+    (λ c κs. let t = c .before .before in may-turn _ _ (start t .args .slot) (begun t))
+    (λ c κs. let g = c .before .before .before in omega (arith, below (g .before .before .before)))
     (λ c. search needs)
     (λ c κs. search needs)
     (λ c. search needs)
     (λ c.
     let g = c .before .before .before .before in
     let t = g .before .before .before in
-    is-turned _ _ (t .before .before .before .before .before .before .args .slot) (begun t) (tidied t) _ (g .turn-agent .result) _
+    is-turned _ _ (start t .args .slot) (begun t) (tidied t) _ (g .turn-agent .result) _
     (g .turn-agent .ensures)
     (ap (outcome (g .turn-agent .result .answer)) (c .with-agent .ensures)))
     (λ c. search needs)
