@@ -219,7 +219,8 @@ module _ {M : Type 1} (𝓤 : URA M) (H : Heap 𝓤) (A : Atoms 𝓤) (W : Given
         -- what pack owns is had twice; `turn_lent` is called
         move ! (7 ∷ []) $ use1 W (‵ Own₀ ⊛ ‵ Own₀) (shr-slice-copy 𝓤 H A W (named 0) κ₀ u8 .twice x₀ (v₀ ∷ [])) $ split ! $
         move ! (7 ∷ 5 ∷ 4 ∷ 0 ∷ 8 ∷ 2 ∷ []) $ group ! 6 $ use1 W (raw (Callee 𝓤 H A at-mem run .pre (to α l₄ δ))) (goes α l₄ δ) $
-        -- [what `turn_lent` asks; what pack owns; the lender's part; true; _9; …; _8; …; _7; …; _6; …; _5; …; the end of _4; _3; …; _2; …; _1; …]
+        -- [what `turn_lent` asks; what pack owns; the lender's part; true; _9; …; _8; …; _7; …; _6; …; _5; …; the end of _4; _3; …; _2; …;
+        -- _1; …]
         calls-at ! fm (Callee 𝓤 H A at-mem run) known (to α l₄ δ)
         (and-then ! (load ! (from ! (stop !)) (look ! 19 refl))
         (and-then ! (load ! (from ! (stop !)) (look ! 8 refl)) (and-then ! (load ! (from ! (stop !)) (look ! 6 refl)) (no-more !))))
@@ -235,7 +236,8 @@ module _ {M : Type 1} (𝓤 : URA M) (H : Heap 𝓤) (A : Atoms 𝓤) (W : Given
         split ! $ move ! (1 ∷ []) $ heard ! (Found r (ws .1 .1 .0) (ws .1 .0))
         (λ e. fsplit ! $ drop ! $ fsplit ! $ fsplit ! $ move ! (1 ∷ []) $ feqL ! (λ l. move ! (1 ∷ []) $ fsplit ! $
         move ! (3 ∷ []) $ split ! $ move ! (1 ∷ []) $ peeks ! E.the-row (Is E.the-row) (shows 𝓤 H A E.the-row) r (w ∷ []) (λ is.
-        -- [the answer; the tokens; the record's last value; true; the last list; what pack owns; the lender's part; true; _9; …; _8; …; _7; …; _6; …; _5; …]
+        -- [the answer; the tokens; the record's last value; true; the last list; what pack owns; the lender's part; true; _9; …; _8; …;
+        -- _7; …; _6; …; _5; …]
         land ! (from ! (stop !)) (init ! 16 refl (EL.lawful E.the-type E′.the-laws 𝓤 H A W tt .typed r _ is .0)) $ rewrite ! 16
         (λ (u : Val). ‵ (fat fullShare E′.mir l₅ 0 u)) (ap only (E′.lowers .val-is r _ is)) refl $ drop ! $
         -- the lifetime is ended, and the local is back at the last value
@@ -243,7 +245,8 @@ module _ {M : Type 1} (𝓤 : URA M) (H : Heap 𝓤) (A : Atoms 𝓤) (W : Given
         use3 W (later (‵ (partAt R fullShare (ws .1 .1 .0) l₄ 0))) (ref-back 𝓤 H A W R (α ∷ []) δ (ws .1 .1 .0) l₄ 0) $ await ! tt $
         use1 W (given (Is R (ws .1 .1 .0) (T′.lowered (ws .1 .1 .0) ∷ [])) (‵ (fat fullShare T′.mir l₄ 0 (T′.lowered (ws .1 .1 .0)))))
         (lies-out 𝓤 H A W (ws .1 .1 .0) l₄) $ learn ! (λ g′.
-        -- [_4; true; token 1; token 0; true; the last list; what pack owns; true; _9; …; _8; …; _7; …; _6; …; _5; …; the end of _4; _3; …; _2; …; _1; …; room for _0; …]
+        -- [_4; true; token 1; token 0; true; the last list; what pack owns; true; _9; …; _8; …; _7; …; _6; …; _5; …; the end of _4; _3; …;
+        -- _2; …; _1; …; room for _0; …]
         assigns ! (of-opd ! (load ! (from ! (stop !)) (look ! 0 refl))) (from ! (stop !))
         (init ! 8 refl (LL.lawful T.the-type T′.the-laws 𝓤 H A W .typed (ws .1 .1 .0) _ g′ .0)) $
         assigns ! (agg ! (and-then ! (load ! (from ! (stop !)) (look ! 16 refl))

@@ -176,7 +176,8 @@ module _ {M : Type 1} (𝓤 : URA M) (H : Heap 𝓤) (A : Atoms 𝓤) (W : Given
         opens ! tt R {h = h} b o (λ vs. spelt ! R (Is R) (shows 𝓤 H A R) (λ d. T′.lowered d ∷ []) (T′.lowers .val-is) fullShare h vs b o $
         use1 W (‵ (fat fullShare T′.mir b o (T′.lowered h))) (W .laws .raw-at fullShare T′.mir b o (T′.lowered h)) $
         move ! (1 ∷ []) $ peeks ! R (Is R) (shows 𝓤 H A R) h (T′.lowered h ∷ []) (λ g. move ! (1 ∷ 0 ∷ []) $
-        -- [the record's cell; what it owns; the open borrow; obs; auth; true; token 1; token 0; true; what the store owns; what pack owns; _7; …; _6; …; _5; …; _4; …; _3; …]
+        -- [the record's cell; what it owns; the open borrow; obs; auth; true; token 1; token 0; true; what the store owns; what pack owns;
+        -- _7; …; _6; …; _5; …; _4; …; _3; …]
         assigns ! (of-opd ! (load ! (from ! (hop ! (look ! 19 refl) (stop !))) (look ! 0 refl))) (from ! (stop !))
         (init ! 11 refl (LL.lawful T.the-type T′.the-laws 𝓤 H A W .typed h _ g .0)) $
         -- what pack owns is had twice; `turn_one` is called
@@ -197,7 +198,8 @@ module _ {M : Type 1} (𝓤 : URA M) (H : Heap 𝓤) (A : Atoms 𝓤) (W : Given
         split ! $ move ! (1 ∷ []) $ heard ! (Found r (zs .1 .0))
         (λ e. fsplit ! $ drop ! $ fsplit ! $ fsplit ! $ move ! (1 ∷ []) $ feqL ! (λ l.
         move ! (2 ∷ []) $ split ! $ move ! (1 ∷ []) $ peeks ! S.the-row (Is S.the-row) (shows 𝓤 H A S.the-row) r (w ∷ []) (λ is.
-        -- [the result; the tokens; the last list; true; what pack owns; the record's cell; what it owned; the open borrow; obs; auth; true; true; _7; …; _6; …; _5; …; _4; …; _3; …]
+        -- [the result; the tokens; the last list; true; what pack owns; the record's cell; what it owned; the open borrow; obs; auth; true;
+        -- true; _7; …; _6; …; _5; …; _4; …; _3; …]
         land ! (from ! (stop !)) (init ! 18 refl (LL.lawful S.the-type S′.the-laws 𝓤 H A W .typed r _ is .0)) $ rewrite ! 18
         (λ (u : Val). ‵ (fat fullShare S′.mir l₄ 0 u)) (ap only (S′.lowers .val-is r _ is)) refl $
         assigns ! (of-opd ! (load ! (from ! (fld ! refl (stop !))) (look-in ! 18 (sub ! 1 refl (whole !)))))
