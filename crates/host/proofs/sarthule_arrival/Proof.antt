@@ -17,9 +17,8 @@ sarthule-arrival-spec =
     (λ c. search needs)
     (λ c. search needs)
     (λ c.
-    let f = c .before .before .before .before .finish .ensures in
-    exported _ _ _ _ _ _ _ _ _ _ _
-    (c .before .before .before .before .before .before .before .before .before .before .before .before .before .before .if1 .left)
-    (c .before .before .before .before .before .before .before .before .before .before .before .before .before .if2 .left)
-    (c .before .before .before .before .before .before .before .before .before .before .before .read-slots .ensures)
-    (c .before .before .before .before .before .before .before .before .before .arrival .ensures) tt (f .0) (f .1 .0) (f .1 .1 .0) (f .1 .1 .1)))
+    let f = c .before .before .before .before in
+    let t = f .before .before .before .before .before in
+    let s = t .before .before in
+    exported _ _ _ _ _ _ _ _ _ _ _ (s .before .before .before .if1 .left) (s .before .before .if2 .left) (s .read-slots .ensures)
+    (t .arrival .ensures) tt (f .finish .ensures .0) (f .finish .ensures .1 .0) (f .finish .ensures .1 .1 .0) (f .finish .ensures .1 .1 .1)))

@@ -15,6 +15,8 @@ sarthule-check-spec =
     (λ c κs. search needs)
     (λ c κs. search needs)
     (λ c. search needs)
-    (λ c. told-judged _ (packRefusal _) _ _ _ (c .before .before .before .before .before .before .if1 .left) (pack-placed _)
-    (c .before .before .before .judge .ensures _ (c .before .before .before .before .check .ensures))
-    (c .before .before .write-answer .ensures .0)))
+    (λ c.
+    let w = c .before .before in
+    let k = w .before .before in
+    told-judged _ (packRefusal _) _ _ _ (k .before .before .if1 .left) (pack-placed _) (w .before .judge .ensures _ (k .check .ensures))
+    (w .write-answer .ensures .0)))

@@ -15,6 +15,7 @@ sarthule-create-spec =
     (λ c. search needs)
     (λ c. search needs)
     (λ c.
-    let m = c .before .before .before .before .before .before .before .create .ensures in
-    made _ _ _ _ _ _ _ _ _ (c .before .before .before .before .before .before .before .before .before .if1 .left) m
-    (c .before .before .before .judge .ensures _ (m .answer)) (c .before .before .write-answer .ensures .0)))
+    let w = c .before .before in
+    let m = w .before .before .before .before .before in
+    made _ _ _ _ _ _ _ _ _ (m .before .before .if1 .left) (m .create .ensures) (w .before .judge .ensures _ (m .create .ensures .answer))
+    (w .write-answer .ensures .0)))

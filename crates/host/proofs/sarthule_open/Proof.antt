@@ -41,21 +41,17 @@ sarthule-open-spec =
     (λ c κs. search needs)
     (λ c. search needs)
     (λ c.
-    told-open _ _ _ none _ _ _ _ _
-    (c .before .before .before .before .before .before .before .before .before .before .before .before .before .before .before .if1 .left) (opens (c .before .before .before .before .before .before .before)) (c .before .before .before .before .before .before .before .before .before .before .before .before .judge .ensures _ (c .before .before .before .before .before .before .before .before .before .before .before .before .before .before .open .ensures)) (c .before .before .before .before .before .before .before .before .before .before .before .write-answer .ensures .0)
-    (rw (
-      c .before .before .before .before .before .before .size-at .ensures,
-      c .before .before .before .before .operations-at .ensures,
-      c .before .before .before .operands-at .ensures,
-    ) refl)
-    (c .before .before .write-parts .ensures))
+    let o = c .before .before in
+    let k = o .before .before .before .before .before in
+    let w = k .before .before .before .before in
+    let v = w .before .before .before in
+    told-open _ _ _ none _ _ _ _ _ (v .before .if1 .left) (opens k) (w .before .judge .ensures _ (v .open .ensures)) (w .write-answer .ensures .0)
+    (rw (o .before .before .before .before .size-at .ensures, o .before .before .operations-at .ensures, o .before .operands-at .ensures) refl)
+    (o .write-parts .ensures))
     (λ c. search needs)
     (λ c.
-    told-open _ _ _ _ _ _ _ _ _
-    (c .before .before .before .before .before .before .before .before .before .before .before .before .if1 .left)
-    (refused-some _ _ _ _ _ (c .before .before .before .before .before .before .before .before .before .before .before .open .ensures)
-    (c .before .before .before .before .enum-told2 .given .1))
-    (c .before .before .before .before .before .before .before .before .before .judge .ensures _
-    (c .before .before .before .before .before .before .before .before .before .before .before .open .ensures))
-    (c .before .before .before .before .before .before .before .before .write-answer .ensures .0) refl
-    (c .before .before .write-parts2 .ensures)))
+    let o = c .before .before in
+    let w = o .before .before .before .before .before .before in
+    let v = w .before .before .before in
+    told-open _ _ _ _ _ _ _ _ _ (v .before .if1 .left) (refused-some _ _ _ _ _ (v .open .ensures) (o .before .before .enum-told2 .given .1))
+    (w .before .judge .ensures _ (v .open .ensures)) (w .write-answer .ensures .0) refl (o .write-parts2 .ensures)))

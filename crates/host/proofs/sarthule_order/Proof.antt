@@ -13,6 +13,7 @@ sarthule-order-spec =
     (λ c κs. search needs)
     (λ c. search needs)
     (λ c. search needs)
-    (λ c. let o = c .before .before .before .before .before .before in
-    in-order _ _ _ _ _ (o .order .result) (c .before .before .before .before .before .before .before .before .if1 .left)
-    (o .order .ensures) (c .before .before .write-answer .ensures)))
+    (λ c.
+    let w = c .before .before in
+    let o = w .before .before .before .before in
+    in-order _ _ _ _ _ (o .order .result) (o .before .before .if1 .left) (o .order .ensures) (w .write-answer .ensures)))

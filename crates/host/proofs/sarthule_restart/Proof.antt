@@ -16,7 +16,7 @@ sarthule-restart-spec =
     (λ c. search needs)
     (λ c. search needs)
     (λ c. λ pack store.
-    let f = c .before .before .before .before .finish .ensures in
-    exported pack store _ _ _ _ _ _ _ _ _ (c .before .before .before .before .before .before .before .before .before .if1 .left)
-    (c .before .before .before .before .before .before .before .before .if2 .left) refl
-    (c .before .before .before .before .before .restart .ensures pack store _) tt (f .0) (f .1 .0) (f .1 .1 .0) (f .1 .1 .1)))
+    let f = c .before .before .before .before in
+    let s = f .before .before .before .before in
+    exported pack store _ _ _ _ _ _ _ _ _ (s .before .if1 .left) (s .if2 .left) refl (f .before .restart .ensures pack store _) tt
+    (f .finish .ensures .0) (f .finish .ensures .1 .0) (f .finish .ensures .1 .1 .0) (f .finish .ensures .1 .1 .1)))
