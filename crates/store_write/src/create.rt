@@ -6,17 +6,17 @@ use store::head::store_size;
 ghost use Rattle.store.specs.Created.{Created};
 
 // Writes a fresh store of `parts` partitions and the book, of `cap` rows each. Refused, it leaves the bytes.
-pub fn create(s: &mut [u8], parts: usize, cap: usize) -> Verdict
-    ensures { λ r. ⌜ Created (now (s .entry)) (now (s .exit)) parts cap r ⌝ }
+pub fn create(store: &mut [u8], parts: usize, cap: usize) -> Verdict
+    ensures { λ r. ⌜ Created (now (store .entry)) (now (store .exit)) parts cap r ⌝ }
 {
     if !numbers_right(parts, cap) {
         return questions::refused(9, 0, 0);
     }
-    if s.len() != store_size(parts, cap) {
+    if store.len() != store_size(parts, cap) {
         return questions::refused(10, 0, 0);
     }
-    clear(s);
-    s[0] = parts as u8;
-    words::write16(s, 1, cap as u16);
+    clear(store);
+    store[0] = parts as u8;
+    words::write16(store, 1, cap as u16);
     questions::accepted()
 }

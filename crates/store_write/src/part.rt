@@ -13,36 +13,48 @@ ghost use Rattle.store.specs.Parts.{partSize, withPart, Holds};
 ghost use Rattle.store.specs.Rows.{Row, rowsOf};
 ghost use Rattle.store.specs.Sound.{Dimensions, Formed};
 
-// Copies `m` rows of partition `p` of a store, from row `i` on, behind the first `n` rows of the buffer.
-pub(crate) fn copy_rows(part: &mut [u8], n: usize, s: &[u8], p: usize, i: usize, m: usize)
-    requires { ⌜ Formed (now s) × (p ≤ partsOf (now s)) × (i + m ≤ length (rowsOf (now s) p)) × (n + m ≤ capOf (now s)) × (length (now part) ≡ partSize (capOf (now s))) ⌝ }
-    ensures { λ _. ⌜ ((rs : List Row) → Holds (capOf (now (s .entry))) (now (part .entry)) n rs → Holds (capOf (now (s .entry))) (now (part .exit)) (n + m) (rs ++ take m (drop i (rowsOf (now (s .entry)) p)))) ⌝ }
+// Copies `rows` rows of a partition of a store, from row `row` on, behind the first `held` rows of the buffer.
+pub(crate) fn copy_rows(
+    part: &mut [u8],
+    held: usize,
+    store: &[u8],
+    partition: usize,
+    row: usize,
+    rows: usize,
+)
+    requires { ⌜ Formed (now store) × (partition ≤ partsOf (now store)) × (row + rows ≤ length (rowsOf (now store) partition))
+        × (held + rows ≤ capOf (now store)) × (length (now part) ≡ partSize (capOf (now store))) ⌝ }
+    ensures { λ _. ⌜ ((rs : List Row) → Holds (capOf (now (store .entry))) (now (part .entry)) held rs →
+        Holds (capOf (now (store .entry))) (now (part .exit)) (held + rows)
+        (rs ++ take rows (drop row (rowsOf (now (store .entry)) partition)))) ⌝ }
 {
-    let cap = capacity(s);
-    let keys = key_place(s, p, i);
-    let values = value_place(s, p, i);
-    copy_bytes(part, 2 + 8 * n, s, keys, 8 * m);
-    copy_bytes(part, 2 + 8 * cap + 4 * n, s, values, 4 * m);
+    let cap = capacity(store);
+    let keys_at = key_place(store, partition, row);
+    let values_at = value_place(store, partition, row);
+    copy_bytes(part, 2 + 8 * held, store, keys_at, 8 * rows);
+    copy_bytes(part, 2 + 8 * cap + 4 * held, store, values_at, 4 * rows);
 }
 
-// Puts a row behind the first `n` rows of the buffer, which has room for `cap`.
-pub fn add_row(part: &mut [u8], cap: usize, n: usize, key: u64, value: u32)
-    requires { ⌜ (length (now part) ≡ partSize cap) × (n < cap) × (cap ≤ 256) ⌝ }
-    ensures { λ _. ⌜ ((rs : List Row) → Holds cap (now (part .entry)) n rs → Holds cap (now (part .exit)) (n + 1) (rs ++ (key, value) ∷ [])) ⌝ }
+// Puts a row behind the first `held` rows of the buffer, which has room for `cap`.
+pub fn add_row(part: &mut [u8], cap: usize, held: usize, key: u64, value: u32)
+    requires { ⌜ (length (now part) ≡ partSize cap) × (held < cap) × (cap ≤ 256) ⌝ }
+    ensures { λ _. ⌜ ((rs : List Row) → Holds cap (now (part .entry)) held rs →
+        Holds cap (now (part .exit)) (held + 1) (rs ++ (key, value) ∷ [])) ⌝ }
 {
-    words::write64(part, 2 + 8 * n, key);
-    words::write32(part, 2 + 8 * cap + 4 * n, value);
+    words::write64(part, 2 + 8 * held, key);
+    words::write32(part, 2 + 8 * cap + 4 * held, value);
 }
 
-// Writes the buffer to partition `p` of the store: its used count, all its keys, all its values. Every change of a row is written here.
-pub fn copy_back(s: &mut [u8], p: usize, part: &[u8])
-    requires { ⌜ Dimensions (now s) × (p ≤ partsOf (now s)) × (length (now part) ≡ partSize (capOf (now s))) ⌝ }
-    ensures { λ _. ⌜ now (s .exit) ≡ withPart (partsOf (now (s .entry))) (capOf (now (s .entry))) p (now (part .entry)) (now (s .entry)) ⌝ }
+// Writes the buffer to a partition of the store: its used count, all its keys, all its values. Every change of a row is written here.
+pub fn copy_back(store: &mut [u8], partition: usize, part: &[u8])
+    requires { ⌜ Dimensions (now store) × (partition ≤ partsOf (now store)) × (length (now part) ≡ partSize (capOf (now store))) ⌝ }
+    ensures { λ _. ⌜ now (store .exit)
+        ≡ withPart (partsOf (now (store .entry))) (capOf (now (store .entry))) partition (now (part .entry)) (now (store .entry)) ⌝ }
 {
-    let cap = capacity(s);
-    let keys = key_place(s, p, 0);
-    let values = value_place(s, p, 0);
-    copy_bytes(s, 3 + 2 * p, part, 0, 2);
-    copy_bytes(s, keys, part, 2, 8 * cap);
-    copy_bytes(s, values, part, 2 + 8 * cap, 4 * cap);
+    let cap = capacity(store);
+    let keys_at = key_place(store, partition, 0);
+    let values_at = value_place(store, partition, 0);
+    copy_bytes(store, 3 + 2 * partition, part, 0, 2);
+    copy_bytes(store, keys_at, part, 2, 8 * cap);
+    copy_bytes(store, values_at, part, 2 + 8 * cap, 4 * cap);
 }

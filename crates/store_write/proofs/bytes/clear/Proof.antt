@@ -1,4 +1,4 @@
--- `store_write::bytes::clear` meets its contract. The loop: the first i bytes are zero, the others are as they were.
+-- `store_write::bytes::clear` meets its contract. The loop: the bytes cleared are zero, the others are as they were.
 use borrow.Author.Needs.{needs}
 use mathlib.Core.List.{_++_, append-nil}
 use mathlib.Core.Path.{_≡_, refl, _∙_}
@@ -11,10 +11,11 @@ use Rattle.store_write.proofs.bytes.clear.Statement.{statement}
 use Rattle.store_write.proofs.bytes.clear.Tie as tie
 
 abbrev Inv-loop : tie.InvT-loop
-Inv-loop s₀ i₀ s i = (i ≤ length s) × (length s ≡ length s₀) × (s ≡ replicate i 0 ++ drop i s₀)
+Inv-loop bytes₀ cleared₀ bytes cleared =
+    (cleared ≤ length bytes) × (length bytes ≡ length bytes₀) × (bytes ≡ replicate cleared 0 ++ drop cleared bytes₀)
 
 abbrev μ-loop : tie.MeasureT-loop
-μ-loop s₀ i₀ s i = length s - i
+μ-loop bytes₀ cleared₀ bytes cleared = length bytes - cleared
 
 pub clear-spec : {M : Type 1} → statement M
 clear-spec =
@@ -29,9 +30,9 @@ clear-spec =
     (λ c. let lp = c .before in (
       simp length-set (omega arith),
       simp length-set (lp .loop .inv .1),
-      rw (lp .loop .inv .2) (fill-more (lp .loop .i) 0 (lp .before .args .s .now) (omega arith)),
+      rw (lp .loop .inv .2) (fill-more (lp .loop .cleared) 0 (lp .before .args .bytes .now) (omega arith)),
     ))
     (λ c. c .before .loop .inv .1)
     (λ c. let lp = c .before in
-    let e : lp .loop .i ≡ length (lp .before .args .s .now) = omega arith in
-    lp .loop .inv .2 ∙ rw (e, drop-length) (append-nil (replicate (length (lp .before .args .s .now)) 0))))
+    let e : lp .loop .cleared ≡ length (lp .before .args .bytes .now) = omega arith in
+    lp .loop .inv .2 ∙ rw (e, drop-length) (append-nil (replicate (length (lp .before .args .bytes .now)) 0))))

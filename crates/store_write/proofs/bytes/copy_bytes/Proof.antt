@@ -1,4 +1,4 @@
--- `store_write::bytes::copy_bytes` meets its contract. The loop: the first i bytes are copied.
+-- `store_write::bytes::copy_bytes` meets its contract. The loop: as many bytes as are counted are copied.
 use borrow.Author.Needs.{needs}
 use mathlib.Core.Path.{_≡_, refl, ap, _∙_}
 use Prim.Native.Nat.{ℕ, _-_, _≤_}
@@ -11,10 +11,11 @@ use Rattle.store_write.proofs.bytes.copy_bytes.Statement.{statement}
 use Rattle.store_write.proofs.bytes.copy_bytes.Tie as tie
 
 abbrev Inv-loop : tie.InvT-loop
-Inv-loop to₀ at from start n i₀ to i = (i ≤ n) × (length to ≡ length to₀) × (to ≡ sets to₀ at (piece i start from))
+Inv-loop to₀ to-at from from-at count copied₀ to copied =
+    (copied ≤ count) × (length to ≡ length to₀) × (to ≡ sets to₀ to-at (piece copied from-at from))
 
 abbrev μ-loop : tie.MeasureT-loop
-μ-loop to₀ at from start n i₀ to i = n - i
+μ-loop to₀ to-at from from-at count copied₀ to copied = count - copied
 
 pub copy-bytes-spec : {M : Type 1} → statement M
 copy-bytes-spec =
@@ -33,10 +34,10 @@ copy-bytes-spec =
     let a = lp .before .args in (
       omega arith,
       simp length-set (lp .loop .inv .1),
-      rw (lp .loop .inv .2) (copy-more (a .to .now) (a .from .now) (a .at) (a .start) (lp .loop .i) (omega arith)),
+      rw (lp .loop .inv .2) (copy-more (a .to .now) (a .from .now) (a .to-at) (a .from-at) (lp .loop .copied) (omega arith)),
     ))
     (λ c. c .before .loop .inv .1)
     (λ c. let lp = c .before in
     let a = lp .before .args in
-    let e : lp .loop .i ≡ a .n = omega arith in
-    lp .loop .inv .2 ∙ ap (λ (k : ℕ). sets (a .to .now) (a .at) (piece k (a .start) (a .from .now))) e))
+    let e : lp .loop .copied ≡ a .count = omega arith in
+    lp .loop .inv .2 ∙ ap (λ (k : ℕ). sets (a .to .now) (a .to-at) (piece k (a .from-at) (a .from .now))) e))

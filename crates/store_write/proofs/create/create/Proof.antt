@@ -19,6 +19,10 @@ right c =
     let a = n .before .before .args in
     numbers-mean (a .parts) (a .cap) (sym (n .numbers-right .ensures) ∙ not-false _ (c .if1 .left))
 
+-- where it was, from where the bytes are cleared
+abbrev asked : tie.After-clear → tie.Else1
+asked c = c .before .before .before .before
+
 pub create-spec : {M : Type 1} → statement M
 create-spec =
     tie.close
@@ -27,20 +31,20 @@ create-spec =
     (λ c κs. search needs)
     (λ c. let n = c .before .before in
     let a = n .before .before .args in
-    created-9 (a .s .now) (a .parts) (a .cap) (c .refused .result) (sym (n .numbers-right .ensures) ∙ not-true _ (c .before .if1 .taken))
-    (c .refused .ensures))
+    created-9 (a .store .now) (a .parts) (a .cap) (c .refused .result)
+    (sym (n .numbers-right .ensures) ∙ not-true _ (c .before .if1 .taken)) (c .refused .ensures))
     (λ c κs. (omega (arith, right c), omega (arith, right c)))
     (λ c κs. search needs)
     (λ c. let z = c .before .before in
     let n = z .before .before in
     let a = n .before .before .args in
-    created-10 (a .s .now) (a .parts) (a .cap) (c .refused2 .result)
+    created-10 (a .store .now) (a .parts) (a .cap) (c .refused2 .result)
     (sym (n .numbers-right .ensures) ∙ not-false _ (z .before .if1 .left))
     (λ e. c .before .if2 .taken (e ∙ sym (z .store-size .ensures))) (c .refused2 .ensures))
     (λ c κs. search needs)
-    (λ c. omega (arith, right (c .before .before .before .before .before .before)))
+    (λ c. omega (arith, right (asked (c .before .before))))
     (λ c. search needs)
-    (λ c. omega (arith, right (c .before .before .before .before .before .before .before)))
+    (λ c. omega (arith, right (asked (c .before .before .before))))
     (λ c κs. simp length-set (omega (arith, c .before .before .before .clear .kept)))
     (λ c κs. search needs)
     (λ c. let w = c .before .before .before in
@@ -53,7 +57,7 @@ create-spec =
     let n = e .before in
     let a = n .before .before .args in
     let long = z .if2 .left ∙ z .before .store-size .ensures in
-    created-fresh (a .s .now) (a .parts) (a .cap) (c .accepted .result) (w .write16 .last .0)
+    created-fresh (a .store .now) (a .parts) (a .cap) (c .accepted .result) (w .write16 .last .0)
     (sym (n .numbers-right .ensures) ∙ not-false _ (e .if1 .left)) long
-    (w .write16 .ensures ∙ rw (cl .clear .ensures) (fresh-written (a .parts) (a .cap) (length (a .s .now)) long (right e .3)))
+    (w .write16 .ensures ∙ rw (cl .clear .ensures) (fresh-written (a .parts) (a .cap) (length (a .store .now)) long (right e .3)))
     (c .accepted .ensures)))

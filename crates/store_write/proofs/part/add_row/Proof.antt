@@ -27,6 +27,6 @@ add-row-spec =
     let w1 = w2 .before .before .before .before in
     let st = w1 .before .before .before in
     let a = st .args in
-    subst (λ (bs : List ℕ). Holds (a .cap) bs (a .n + 1) (rs ++ (a .key, a .value) ∷ []))
-    (sym (w2 .write32 .ensures ∙ ap (λ (bs : List ℕ). put 4 bs (2 + 8 * a .cap + 4 * a .n) (a .value)) (w1 .write64 .ensures)))
-    (added-row (a .cap) (a .part .now) (a .n) (a .key) (a .value) rs h (st .pre .1) (omega arith) (omega arith))))
+    subst (λ (bs : List ℕ). Holds (a .cap) bs (a .held + 1) (rs ++ (a .key, a .value) ∷ []))
+    (sym (w2 .write32 .ensures ∙ ap (λ (bs : List ℕ). put 4 bs (2 + 8 * a .cap + 4 * a .held) (a .value)) (w1 .write64 .ensures)))
+    (added-row (a .cap) (a .part .now) (a .held) (a .key) (a .value) rs h (st .pre .1) (omega arith) (omega arith))))

@@ -30,7 +30,7 @@ copy-back-spec =
         w .copy-bytes .kept .0,
         k .key-place .ensures,
         cp .capacity .ensures,
-        keys-within (a .s .now) (st .pre .0) (a .p) (st .pre .1) (capOf (a .s .now)) (omega arith),
+        keys-within (a .store .now) (st .pre .0) (a .partition) (st .pre .1) (capOf (a .store .now)) (omega arith),
       ),
       omega
           (arith, cp .capacity .ensures, st .pre .2),
@@ -51,7 +51,7 @@ copy-back-spec =
         v .value-place .ensures,
         cp .capacity .ensures,
         st .pre .0 .size,
-        values-fit (partsOf (a .s .now)) (capOf (a .s .now)) (a .p) (st .pre .1),
+        values-fit (partsOf (a .store .now)) (capOf (a .store .now)) (a .partition) (st .pre .1),
       ),
       omega (arith, cp .capacity .ensures, st .pre .2),
     ))
@@ -65,6 +65,6 @@ copy-back-spec =
     let st = cp .before .before .before .before in
     let a = st .args in
     rw (w3 .copy-bytes3 .ensures, w2 .copy-bytes2 .ensures, w1 .copy-bytes .ensures)
-    (part-copied (partsOf (a .s .now)) (capOf (a .s .now)) (a .p) (a .part .now) (a .s .now) (cp .capacity .result) (3 + 2 * a .p)
-    (k .key-place .result) (v .value-place .result) (2 + 8 * cp .capacity .result)
+    (part-copied (partsOf (a .store .now)) (capOf (a .store .now)) (a .partition) (a .part .now) (a .store .now) (cp .capacity .result)
+    (3 + 2 * a .partition) (k .key-place .result) (v .value-place .result) (2 + 8 * cp .capacity .result)
     (cp .capacity .ensures) refl (omega (arith, k .key-place .ensures)) (omega (arith, v .value-place .ensures)) refl)))

@@ -18,10 +18,26 @@ copy-rows-spec =
     tie.close
     (tie.spec
     (λ c κs. search needs)
-    (λ c κs. let st = c .before .before .before in
-    (st .pre .0 .shape, st .pre .1, omega (arith, st .pre .2, used-le (st .args .s .now) (st .pre .0) (st .args .p) (st .pre .1))))
-    (λ c κs. let st = c .before .before .before .before in
-    (st .pre .0 .shape, st .pre .1, omega (arith, st .pre .2, used-le (st .args .s .now) (st .pre .0) (st .args .p) (st .pre .1))))
+    (λ c κs. let st = c .before .before .before in (
+      st .pre .0 .shape,
+      st .pre .1,
+      omega (
+        arith,
+        st .pre .2,
+        used-le (st .args .store .now) (st .pre .0) (st .args .partition)
+            (st .pre .1),
+      ),
+    ))
+    (λ c κs. let st = c .before .before .before .before in (
+      st .pre .0 .shape,
+      st .pre .1,
+      omega (
+        arith,
+        st .pre .2,
+        used-le (st .args .store .now) (st .pre .0) (st .args .partition)
+            (st .pre .1),
+      ),
+    ))
     (λ c. search needs)
     (λ c. search needs)
     (λ c. search needs)
@@ -30,7 +46,12 @@ copy-rows-spec =
     let st = k .before .before .before .before in
     let a = st .args in (
       omega (arith, st .pre .3, st .pre .4),
-      omega (arith, k .key-place .ensures, rows-within (a .s .now) (st .pre .0) (a .p) (st .pre .1) (a .i) (a .m) (st .pre .2) .0),
+      omega (
+        arith,
+        k .key-place .ensures,
+        rows-within (a .store .now) (st .pre .0) (a .partition) (st .pre .1) (a .row) (a .rows)
+            (st .pre .2) .0,
+      ),
     ))
     (λ c. search needs)
     (λ c. search needs)
@@ -43,7 +64,12 @@ copy-rows-spec =
     let st = cp .before .before .before in
     let a = st .args in (
       omega (arith, w .copy-bytes .kept .0, cp .capacity .ensures, st .pre .3, st .pre .4),
-      omega (arith, v .value-place .ensures, rows-within (a .s .now) (st .pre .0) (a .p) (st .pre .1) (a .i) (a .m) (st .pre .2) .1),
+      omega (
+        arith,
+        v .value-place .ensures,
+        rows-within (a .store .now) (st .pre .0) (a .partition) (st .pre .1) (a .row) (a .rows)
+            (st .pre .2) .1,
+      ),
     ))
     (λ c. search needs)
     (λ c rs h. let w2 = c .before .before in
@@ -53,9 +79,10 @@ copy-rows-spec =
     let cp = k .before in
     let st = cp .before .before .before in
     let a = st .args in
-    let fits = rows-within (a .s .now) (st .pre .0) (a .p) (st .pre .1) (a .i) (a .m) (st .pre .2) in
-    subst (λ (bs : List ℕ). Holds (capOf (a .s .now)) bs (a .n + a .m) (rs ++ take (a .m) (drop (a .i) (rowsOf (a .s .now) (a .p)))))
+    let fits = rows-within (a .store .now) (st .pre .0) (a .partition) (st .pre .1) (a .row) (a .rows) (st .pre .2) in
+    subst (λ (bs : List ℕ). Holds (capOf (a .store .now)) bs (a .held + a .rows)
+    (rs ++ take (a .rows) (drop (a .row) (rowsOf (a .store .now) (a .partition)))))
     (sym (rw (w2 .copy-bytes2 .ensures, w1 .copy-bytes .ensures, cp .capacity .ensures, k .key-place .ensures, v .value-place .ensures)
     refl))
-    (copied-rows (capOf (a .s .now)) (a .part .now) (a .s .now) (a .n) (a .p) (a .i) (a .m) rs h (st .pre .3) (fits .0) (fits .1)
-    (st .pre .2))))
+    (copied-rows (capOf (a .store .now)) (a .part .now) (a .store .now) (a .held) (a .partition) (a .row) (a .rows) rs h (st .pre .3)
+    (fits .0) (fits .1) (st .pre .2))))
