@@ -9,7 +9,8 @@ use native.Mathlib.Omega.{arith}
 use borrow.Author.Tests.{lt-ltb, le-leb, lt-leb, leb-true, ltb-true, le-ltb, eq-eqb}
 use lib.Dec.{eqb, ltb, leb, ltb→lt, lt→ltb, nltb→le}
 use Rattle.questions.specs.Basics.{if_then_else_, update}
-use Rattle.keys.specs.Keys.{dataKey, logKey, bookKey, isDataKey, isLogKey, isBookKey, tableOf, logOf, isForm, isWorkflowKey, bookRow}
+use Rattle.keys.specs.Keys.{dataKey, isDataKey, dataOf, logKey, isLogKey, idOf, stepOf, isForm, tableOf, logOf}
+use Rattle.keys.specs.Keys.{bookKey, isBookKey, bookedId, bookRow, isWorkflowKey}
 use Rattle.questions.proofs.Tests.{and-left, and-right, no-yes}
 use Rattle.questions.proofs.Updates.{eqb-cases, T-true, true-T, update-same, update-other}
 
@@ -44,6 +45,39 @@ log-bounds k e = ltb-true k (2 ^ 48) e
 pub book-bounds : (k : ℕ) → isBookKey k ≡ true → (k < 2 ^ 35) × (k % 8 ≤ 4)
 unfolding isBookKey
 book-bounds k e = (ltb-true k (2 ^ 35) (and-left (ltb k (2 ^ 35)) _ e), leb-true (k % 8) 4 (and-right (ltb k (2 ^ 35)) _ e))
+
+-- every key of a form lies below this, so that there is one above it
+abbrev pub keyBound : ℕ
+keyBound = dataKey (2 ^ 32)
+
+pub form-bound : (b : Bool) (k : ℕ) → isForm b k ≡ true → k < keyBound
+unfolding isForm
+form-bound true k e = omega (arith, book-bounds k e)
+form-bound false k e = go (isDataKey k) refl
+  where
+    go : (t : Bool) → isDataKey k ≡ t → k < keyBound
+    go true d = data-bounds k d .1
+    go false d = omega (arith, log-bounds k (rw d at e))
+
+-- ── What is taken apart is put together again ──
+
+pub data-again : (k : ℕ) → isDataKey k ≡ true → (dataOf k < 2 ^ 32) × (dataKey (dataOf k) ≡ k)
+data-again k e = let b = data-bounds k e in (omega arith, omega arith)
+
+pub log-again : (k : ℕ) → isLogKey k ≡ true → (idOf k < 2 ^ 32) × (stepOf k < 65536) × (logKey (idOf k) (stepOf k) ≡ k)
+log-again k e = let b = log-bounds k e in (omega arith, omega arith, omega arith)
+
+pub book-again : (k : ℕ) → isBookKey k ≡ true → (bookedId k < 2 ^ 32) × (bookRow k ≤ 4) × (bookKey (bookedId k) (bookRow k) ≡ k)
+book-again k e = let b = book-bounds k e in (omega arith, b .1, omega arith)
+
+-- ── What the table and the log say of a stored key is what the rows say ──
+
+module _ (f : ℕ → Option ℕ) (k : ℕ) where
+  pub data-said : isDataKey k ≡ true → tableOf f (dataOf k) ≡ f k
+  data-said e = let b = data-again k e in rw (lt-ltb (dataOf k) (2 ^ 32) (b .0)) (ap f (b .1))
+
+  pub log-said : isLogKey k ≡ true → logOf f (idOf k) (stepOf k) ≡ f k
+  log-said e = let b = log-again k e in rw (lt-ltb (idOf k) (2 ^ 32) (b .0), lt-ltb (stepOf k) 65536 (b .1)) (ap f (b .2))
 
 -- ── Data keys and log keys never meet ──
 
@@ -92,39 +126,39 @@ not-below j n e = nltb→le j n (rw e tt)
 module _ (f : ℕ → Option ℕ) (v : ℕ) where
   -- a data row put is a change of the table
   module _ (k : ℕ) (h : k < 2 ^ 32) where
-    pub data-put : (j : ℕ) → tableOf (update f (2 ^ 63 + k) (some v)) j ≡ update (tableOf f) k (some v) j
+    pub data-put : (j : ℕ) → tableOf (update f (dataKey k) (some v)) j ≡ update (tableOf f) k (some v) j
     data-put j = go (ltb j (2 ^ 32)) refl (eqb-cases j k)
       where
         go : (b : Bool) → ltb j (2 ^ 32) ≡ b → EqbCases j k →
-            if_then_else_ b (update f (2 ^ 63 + k) (some v) (2 ^ 63 + j)) none ≡ if_then_else_ (eqb j k) (some v)
-            (if_then_else_ b (f (2 ^ 63 + j)) none)
+            if_then_else_ b (update f (dataKey k) (some v) (dataKey j)) none ≡ if_then_else_ (eqb j k) (some v)
+            (if_then_else_ b (f (dataKey j)) none)
         go true e (inl c) =
-            ap (λ i. update f (2 ^ 63 + k) (some v) (2 ^ 63 + i)) (c .0) ∙ update-same f (2 ^ 63 + k) (some v)
-            ∙ ap (λ b. if_then_else_ b (some v) (f (2 ^ 63 + j))) (sym (c .1))
+            ap (λ i. update f (dataKey k) (some v) (dataKey i)) (c .0) ∙ update-same f (dataKey k) (some v)
+            ∙ ap (λ b. if_then_else_ b (some v) (f (dataKey j))) (sym (c .1))
         go true e (inr c) =
-            update-other f (2 ^ 63 + k) (some v) (2 ^ 63 + j) (λ p. c .0 (omega arith))
-            ∙ ap (λ b. if_then_else_ b (some v) (f (2 ^ 63 + j))) (sym (c .1))
+            update-other f (dataKey k) (some v) (dataKey j) (λ p. c .0 (omega arith))
+            ∙ ap (λ b. if_then_else_ b (some v) (f (dataKey j))) (sym (c .1))
         go false e (inl c) = absurd (let l = not-below j (2 ^ 32) e in omega arith)
         go false e (inr c) = rw (c .1) refl
 
   -- a log row put is a change of the log, and none of the table
   module _ (id t : ℕ) (h : id < 2 ^ 32) (h′ : t < 65536) where
-    log-same : logOf (update f (id * 65536 + t) (some v)) id t ≡ some v
-    log-same = rw (below id (2 ^ 32) h, below t 65536 h′) (update-same f (id * 65536 + t) (some v))
+    log-same : logOf (update f (logKey id t) (some v)) id t ≡ some v
+    log-same = rw (below id (2 ^ 32) h, below t 65536 h′) (update-same f (logKey id t) (some v))
 
-    log-other : (i u : ℕ) → (i ≡ id → u ≡ t → ⊥) → logOf (update f (id * 65536 + t) (some v)) i u ≡ logOf f i u
+    log-other : (i u : ℕ) → (i ≡ id → u ≡ t → ⊥) → logOf (update f (logKey id t) (some v)) i u ≡ logOf f i u
     log-other i u n = go (ltb i (2 ^ 32)) (ltb u 65536) refl
       where
         go : (b c : Bool) → ltb u 65536 ≡ c →
-            if_then_else_ b (if_then_else_ c (update f (id * 65536 + t) (some v) (i * 65536 + u)) none) none ≡
-            if_then_else_ b (if_then_else_ c (f (i * 65536 + u)) none) none
+            if_then_else_ b (if_then_else_ c (update f (logKey id t) (some v) (logKey i u)) none) none ≡
+            if_then_else_ b (if_then_else_ c (f (logKey i u)) none) none
         go true true e =
-            update-other f (id * 65536 + t) (some v) (i * 65536 + u)
+            update-other f (logKey id t) (some v) (logKey i u)
             (λ p. let l = less u 65536 e in let q : i ≡ id = omega arith in n q (omega arith))
         go true false e = refl
         go false c e = refl
 
-    pub log-put : (i u : ℕ) → logOf (update f (id * 65536 + t) (some v)) i u ≡ update (logOf f) id (update (logOf f id) t (some v)) i u
+    pub log-put : (i u : ℕ) → logOf (update f (logKey id t) (some v)) i u ≡ update (logOf f) id (update (logOf f id) t (some v)) i u
     log-put i u = go (eqb-cases i id) (eqb-cases u t)
       where
         row : ℕ → Option ℕ
@@ -133,9 +167,9 @@ module _ (f : ℕ → Option ℕ) (v : ℕ) where
         at-id : i ≡ id → update (logOf f) id row i u ≡ row u
         at-id p = ap (λ x. update (logOf f) id row x u) p ∙ ap (λ g. g u) (update-same (logOf f) id row)
 
-        go : EqbCases i id → EqbCases u t → logOf (update f (id * 65536 + t) (some v)) i u ≡ update (logOf f) id row i u
+        go : EqbCases i id → EqbCases u t → logOf (update f (logKey id t) (some v)) i u ≡ update (logOf f) id row i u
         go (inl a) (inl b) =
-            ap (λ x. logOf (update f (id * 65536 + t) (some v)) x u) (a .0) ∙ ap (logOf (update f (id * 65536 + t) (some v)) id) (b .0)
+            ap (λ x. logOf (update f (logKey id t) (some v)) x u) (a .0) ∙ ap (logOf (update f (logKey id t) (some v)) id) (b .0)
             ∙ log-same
             ∙ sym (at-id (a .0) ∙ ap row (b .0) ∙ update-same (logOf f id) t (some v))
         go (inl a) (inr b) =
@@ -143,9 +177,9 @@ module _ (f : ℕ → Option ℕ) (v : ℕ) where
             ∙ sym (at-id (a .0) ∙ update-other (logOf f id) t (some v) u (b .0) ∙ ap (λ x. logOf f x u) (sym (a .0)))
         go (inr a) b = log-other i u (λ p q. a .0 p) ∙ sym (ap (λ g. g u) (update-other (logOf f) id row i (a .0)))
 
-    pub log-put-data : (k : ℕ) → tableOf (update f (id * 65536 + t) (some v)) k ≡ tableOf f k
+    pub log-put-data : (k : ℕ) → tableOf (update f (logKey id t) (some v)) k ≡ tableOf f k
     log-put-data k = go (ltb k (2 ^ 32))
       where
-        go : (b : Bool) → if_then_else_ b (update f (id * 65536 + t) (some v) (2 ^ 63 + k)) none ≡ if_then_else_ b (f (2 ^ 63 + k)) none
-        go true = update-other f (id * 65536 + t) (some v) (2 ^ 63 + k) (λ p. omega arith)
+        go : (b : Bool) → if_then_else_ b (update f (logKey id t) (some v) (dataKey k)) none ≡ if_then_else_ b (f (dataKey k)) none
+        go true = update-other f (logKey id t) (some v) (dataKey k) (λ p. omega arith)
         go false = refl

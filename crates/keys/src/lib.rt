@@ -2,14 +2,14 @@
 ghost use mathlib.Core.Bool.{true};
 ghost use mathlib.Core.Path.{_≡_};
 ghost use Prim.Native.Nat.{_^_, _≤_, _<_};
-ghost use Rattle.keys.specs.Keys.{dataKey, isDataKey, dataOf, logKey, isLogKey, idOf, stepOf, bookKey, isBookKey, bookedId, bookRow, bookKeys};
-ghost use Rattle.keys.specs.Keys.{isWorkflowKey, lastOfFive, isForm};
+ghost use Rattle.keys.specs.Keys.{dataKey, isDataKey, dataOf, logKey, isLogKey, idOf, stepOf, isForm};
+ghost use Rattle.keys.specs.Keys.{bookKey, isBookKey, bookedId, bookRow, bookKeys, isWorkflowKey, lastOfFive};
 
 // The stored key of a data key.
-pub fn data_key(k: u32) -> u64
-    ensures { λ r. ⌜ (r ≡ dataKey k) × (k < 2 ^ 32) ⌝ }
+pub fn data_key(key: u32) -> u64
+    ensures { λ r. ⌜ (r ≡ dataKey key) × (key < 2 ^ 32) ⌝ }
 {
-    9_223_372_036_854_775_808 + k as u64
+    9_223_372_036_854_775_808 + key as u64
 }
 
 // Is it the key of a data row?
@@ -58,12 +58,12 @@ pub fn step_of(stored: u64) -> u64
     stored % 65_536
 }
 
-// The stored key of row j of a request in the book: 0 its workflow, 1 to 4 its arguments.
-pub fn book_key(id: u32, j: u64) -> u64
-    requires { ⌜ j ≤ 4 ⌝ }
-    ensures { λ r. ⌜ (r ≡ bookKey id j) × (id < 2 ^ 32) ⌝ }
+// The stored key of a row of a request in the book: 0 its workflow, 1 to 4 its arguments.
+pub fn book_key(id: u32, row: u64) -> u64
+    requires { ⌜ row ≤ 4 ⌝ }
+    ensures { λ r. ⌜ (r ≡ bookKey id row) × (id < 2 ^ 32) ⌝ }
 {
-    id as u64 * 8 + j
+    id as u64 * 8 + row
 }
 
 // The stored keys of a request's five rows.
@@ -91,12 +91,12 @@ pub fn book_row(stored: u64) -> u64
     stored % 8
 }
 
-// The key of row j of the request that a book row is of.
-pub fn beside(stored: u64, j: u64) -> u64
-    requires { ⌜ j ≤ 4 ⌝ }
-    ensures { λ r. ⌜ r ≡ bookKey (bookedId stored) j ⌝ }
+// The key of another row of the request that a book row is of.
+pub fn beside(stored: u64, row: u64) -> u64
+    requires { ⌜ row ≤ 4 ⌝ }
+    ensures { λ r. ⌜ r ≡ bookKey (bookedId stored) row ⌝ }
 {
-    stored / 8 * 8 + j
+    stored / 8 * 8 + row
 }
 
 // Has a row of the book a workflow number?
