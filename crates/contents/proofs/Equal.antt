@@ -19,11 +19,9 @@ use Rattle.rules.specs.Store.{Request}
 use Rattle.rules.specs.Store as Rules
 use Rattle.questions.proofs.Tests.{no-yes, and-left, and-right}
 use Rattle.questions.proofs.Updates.{none-some}
-use Rattle.words.specs.Words as Words
 use Rattle.store.specs.Layout.{AllBytes, partsOf}
 use Rattle.store.specs.Ordered.{InOrder}
 use Rattle.store.specs.Rows.{Row, keysIn, lookup, rowsOf, storeOf}
-use Rattle.store.specs.Rows as Rows
 use Rattle.store.specs.Questions.{member, keysApart, keysOk, bookOk, question12, storeRefusal}
 use Rattle.store.specs.Questions as Questions
 use Rattle.store.specs.Sound.{Sound}

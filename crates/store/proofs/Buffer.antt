@@ -13,7 +13,6 @@ use Rattle.words.specs.Words.{le, put, fields, Apart}
 use Rattle.words.proofs.Laws.{le-same, le-zero, le-put, le-put-other, length-put, getD-put, length-fields, fields-part}
 use Rattle.store.specs.Layout.{partsOf, capOf, keyAt, valueAt, usedOf}
 use Rattle.store.specs.Rows.{Row, pairs, rowsOf}
-use Rattle.store.specs.Rows as Rows
 use Rattle.store.specs.Parts.{piece, partSize, usedHeld, firstRows, Holds}
 use Rattle.store.specs.Sound.{Formed}
 use Rattle.store.proofs.Lists.{before}
@@ -57,7 +56,7 @@ pairs-take (suc m) (k ∷ ks) [] = refl
 pairs-take (suc m) (k ∷ ks) (v ∷ vs) = ap (_∷_ (k, v)) (pairs-take m ks vs)
 
 -- m rows of a partition, from row i on
-pub rows-part : (xs : List ℕ) (p i m : ℕ) → i + m ≤ length (rowsOf xs p) →
+rows-part : (xs : List ℕ) (p i m : ℕ) → i + m ≤ length (rowsOf xs p) →
     pairs (fields 8 xs (keyAt xs p i) m) (fields 4 xs (valueAt xs p i) m) ≡ take m (drop i (rowsOf xs p))
 unfolding rowsOf
 rows-part xs p i m h =

@@ -151,7 +151,7 @@ module _ (xs ys : List ℕ) (f : Formed xs) (g : Formed ys) (bx : AllBytes xs) (
       ∙ sym (getD-fields 4 ys (valuesFrom (partsOf xs) (capOf xs)) all q (valueAt xs (s .0) (s .1)) l (omega (arith, s .4))))
 
   -- stores that hold the same have the same bytes
-  pub same-bytes : xs ≡ ys
+  same-bytes : xs ≡ ys
   same-bytes =
       ext-getD 0 xs ys (f .shape .size ∙ ap₂ storeLength parts-same cap-same ∙ sym (g .shape .size))
       (λ j h. go j h (decLt j 1) (decLt j 3) (decLt j (keysFrom (partsOf xs))) (decLt j (valuesFrom (partsOf xs) (capOf xs))))

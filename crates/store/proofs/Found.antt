@@ -77,15 +77,15 @@ all-greater k x (y ∷ ks) l u =
 -- ---- the search agrees with it
 
 module _ (k x : ℕ) (ks : List ℕ) where
-  pub sought-more : x < k → sought k (x ∷ ks) ≡ shift 1 (sought k ks)
+  sought-more : x < k → sought k (x ∷ ks) ≡ shift 1 (sought k ks)
   unfolding sought
   sought-more l = rw (lt-ltb x k l) refl
 
-  pub sought-here : x ≡ k → sought k (x ∷ ks) ≡ At 0
+  sought-here : x ≡ k → sought k (x ∷ ks) ≡ At 0
   unfolding sought
   sought-here e = rw (le-ltb x k (omega arith), eq-eqb x k e) refl
 
-  pub sought-first : k < x → sought k (x ∷ ks) ≡ Belongs 0
+  sought-first : k < x → sought k (x ∷ ks) ≡ Belongs 0
   unfolding sought
   sought-first l = rw (le-ltb x k (omega arith), ne-eqb x k (omega arith)) refl
 

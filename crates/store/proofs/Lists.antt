@@ -94,7 +94,7 @@ pub index-none : (k : ℕ) (w : ℕ) (xs : List ℕ) (o m : ℕ) → m ≡ 0 →
 unfolding indexOf fields
 index-none k w xs o m e = rw e refl
 
-pub rank-keys : (k : ℕ) (rs : List Row) → rankOf k rs ≡ rankIn k (keysIn rs)
+rank-keys : (k : ℕ) (rs : List Row) → rankOf k rs ≡ rankIn k (keysIn rs)
 unfolding rankOf rankIn keysIn
 rank-keys k [] = refl
 rank-keys k (r ∷ rs) = ap (λ (n : ℕ). if_then_else_ (ltb (r .0) k) (suc n) 0) (rank-keys k rs)
@@ -150,7 +150,7 @@ missed-lookup k (r ∷ rs) h = go (missed-lookup k rs) (eqb (r .0) k) refl
     go ih false e = rw e (ih (le-of-suc-le-suc (rw e at h)))
 
 -- the keys behind a key are greater
-pub rises-below : (k x : ℕ) (rs : List Row) → rising (x ∷ keysIn rs) ≡ true → rowPlace k rs < length rs → x < k
+rises-below : (k x : ℕ) (rs : List Row) → rising (x ∷ keysIn rs) ≡ true → rowPlace k rs < length rs → x < k
 unfolding rising ahead keysIn rowPlace
 rises-below k x [] u h = absurd (omega arith)
 rises-below k x (r ∷ rs) u h = go (rises-below k (r .0) rs (and-right (ltb x (r .0)) _ u)) (eqb (r .0) k) refl

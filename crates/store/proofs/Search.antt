@@ -32,7 +32,7 @@ member-lookup k (r ∷ rs) m = go (member-lookup k rs) (eqb (r .0) k) refl
     go ih true e = rw e (omega arith, refl)
     go ih false e = let h = ih (rw e at m) in rw e (omega (arith, h .0), h .1)
 
-pub no-member : (k : ℕ) (rs : List Row) → member k (keysIn rs) ≡ false → lookup k rs ≡ none
+no-member : (k : ℕ) (rs : List Row) → member k (keysIn rs) ≡ false → lookup k rs ≡ none
 unfolding member keysIn lookup
 no-member k [] m = refl
 no-member k (r ∷ rs) m = go (no-member k rs) (eqb (r .0) k) refl

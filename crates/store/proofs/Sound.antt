@@ -39,7 +39,7 @@ numbers-mean P C e =
       leb-true C 256 (and-right (leb 1 P && leb P 8 && leb 5 C) (leb C 256) e),
     )
 
-pub numbers-pass : (P C : ℕ) → 1 ≤ P → P ≤ 8 → 5 ≤ C → C ≤ 256 → numbersRight P C ≡ true
+numbers-pass : (P C : ℕ) → 1 ≤ P → P ≤ 8 → 5 ≤ C → C ≤ 256 → numbersRight P C ≡ true
 unfolding numbersRight
 numbers-pass P C a b c d = rw (le-leb 1 P a, le-leb P 8 b, le-leb 5 C c, le-leb C 256 d) refl
 
@@ -83,24 +83,24 @@ module _ (keys : Bool → List ℕ → Bool) (b : Bool) (xs : List ℕ) (C n k v
     unfolding partOkAt
     fits = and-left _ (eachFrom (blankRow xs k v) (C - n) n) e
 
-    pub at-fit : n ≤ C
+    at-fit : n ≤ C
     at-fit = leb-true n C (and-left (leb n C) _ fits)
 
-    pub at-keys : keys b (fields 8 xs k n) ≡ true
+    at-keys : keys b (fields 8 xs k n) ≡ true
     at-keys = and-right (leb n C) _ fits
 
     blank : (i : ℕ) → n ≤ i → i < C → blankRow xs k v i ≡ true
     unfolding partOkAt
     blank i l h = each-at (blankRow xs k v) (C - n) n (and-right (leb n C && keys b (fields 8 xs k n)) _ e) i l (omega arith)
 
-    pub at-blank : (i : ℕ) → n ≤ i → i < C → (le 8 xs (k + 8 * i) ≡ 0) × (le 4 xs (v + 4 * i) ≡ 0)
+    at-blank : (i : ℕ) → n ≤ i → i < C → (le 8 xs (k + 8 * i) ≡ 0) × (le 4 xs (v + 4 * i) ≡ 0)
     unfolding blankRow
     at-blank i l h = (
       eqb-true (le 8 xs (k + 8 * i)) 0 (and-left (eqb (le 8 xs (k + 8 * i)) 0) _ (blank i l h)),
       eqb-true (le 4 xs (v + 4 * i)) 0 (and-right (eqb (le 8 xs (k + 8 * i)) 0) _ (blank i l h)),
     )
 
-  pub at-passes : n ≤ C → keys b (fields 8 xs k n) ≡ true
+  at-passes : n ≤ C → keys b (fields 8 xs k n) ≡ true
       → ((i : ℕ) → n ≤ i → i < C → (le 8 xs (k + 8 * i) ≡ 0) × (le 4 xs (v + 4 * i) ≡ 0)) → partOkAt keys b xs C n k v ≡ true
   unfolding partOkAt blankRow
   at-passes f g z =
@@ -157,7 +157,7 @@ sound-of xs s e =
       keys = λ p l. part-keys keysOk xs p (one p l);
     }
 
-pub rows-pass : (xs : List ℕ) → Sound xs → question11 xs ≡ true
+rows-pass : (xs : List ℕ) → Sound xs → question11 xs ≡ true
 unfolding question11 KeysGood
 rows-pass xs s = each-all (partOk xs) (partsOf xs + 1) 0
     (λ p a b. part-passes keysOk xs p (s .formed .filled p (omega arith)) (s .keys p (omega arith)))
@@ -273,7 +273,7 @@ rising-put k v (r ∷ rs) u = go (rising-put k v rs (and-right (ahead (r .0) (ke
         ih)
 
 -- the keys after a put
-pub keys-put : (b : Bool) (k v : ℕ) (rs : List Row) → isForm b k ≡ true → keysOk b (keysIn rs) ≡ true →
+keys-put : (b : Bool) (k v : ℕ) (rs : List Row) → isForm b k ≡ true → keysOk b (keysIn rs) ≡ true →
     keysOk b (keysIn (putRow k v rs)) ≡ true
 keys-put b k v rs f h =
     keys-rise b (keysIn (putRow k v rs)) (all-put (isForm b) k v rs f (apart-forms b (keysIn rs) (keys-apart b (keysIn rs) h)))

@@ -33,8 +33,8 @@ pub record Searched (k : ℕ) (ks : List ℕ) (found : Found) : Type 0 where
   pub all : rising ks ≡ true → found ≡ foundIn k ks
   -- it is that of the keys up to the first that isn't smaller, in whatever order the others stand
   pub read : found ≡ foundIn k (upTo k ks)
-  -- what stands behind a greater key g changes nothing in it: whatever `more` is, rising or not, the answer is that of a reading of all where
-  -- rising keys, `other`, stand in its place
+  -- what stands behind a greater key g changes nothing in it: whatever `more` is, rising or not, the answer is that of a reading of all
+  -- where rising keys, `other`, stand in its place
   pub behind : (low more other : List ℕ) (g : ℕ) → k < g → ks ≡ low ++ g ∷ more → rising (low ++ g ∷ other) ≡ true →
       found ≡ foundIn k (low ++ g ∷ other)
 

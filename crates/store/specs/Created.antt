@@ -14,10 +14,10 @@ use Rattle.store.specs.Sound.{Sound}
 unfoldable pub freshBytes : (P C : ℕ) → List ℕ
 freshBytes P C = P ∷ C % 256 ∷ C / 256 ∷ replicate (2 * (P + 1) + 12 * ((P + 1) * C)) 0
 
--- Create on the buffer xs leaves ys and answers r: accepted, every byte is that of a fresh store, which is sound and has no row; refused, no
--- byte is changed.
-pub record Created (xs ys : List ℕ) (P C : ℕ) (r : Verdict) : Type 0 where
-  pub answer : r ≡ verdictOf (createRefusal P C (length xs))
-  pub bytes : r ≡ Accepted → ys ≡ freshBytes P C
-  pub made : r ≡ Accepted → Sound ys × (storeOf ys ≡ emptyStore P C)
-  pub kept : (r ≡ Accepted → ⊥) → ys ≡ xs
+-- Create on the buffer `store` leaves store′ and answers r: accepted, every byte is that of a fresh store, which is sound and has no row;
+-- refused, no byte is changed.
+pub record Created (store store′ : List ℕ) (P C : ℕ) (r : Verdict) : Type 0 where
+  pub answer : r ≡ verdictOf (createRefusal P C (length store))
+  pub bytes : r ≡ Accepted → store′ ≡ freshBytes P C
+  pub made : r ≡ Accepted → Sound store′ × (storeOf store′ ≡ emptyStore P C)
+  pub kept : (r ≡ Accepted → ⊥) → store′ ≡ store

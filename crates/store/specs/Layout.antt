@@ -9,15 +9,15 @@ use Rattle.questions.specs.Basics.{if_then_else_}
 
 -- each is a byte, as in every lent buffer
 abbrev pub AllBytes : List ℕ → Type 0
-AllBytes xs = (j : ℕ) → getD xs j 0 < 256
+AllBytes bytes = (at : ℕ) → getD bytes at 0 < 256
 
 -- P
-abbrev pub partsOf : (xs : List ℕ) → ℕ
-partsOf xs = le 1 xs 0
+abbrev pub partsOf : (store : List ℕ) → ℕ
+partsOf store = le 1 store 0
 
 -- C
-abbrev pub capOf : (xs : List ℕ) → ℕ
-capOf xs = le 2 xs 1
+abbrev pub capOf : (store : List ℕ) → ℕ
+capOf store = le 2 store 1
 
 -- where the keys begin, and where the values begin
 abbrev pub keysFrom : (P : ℕ) → ℕ
@@ -30,17 +30,17 @@ valuesFrom P C = 3 + 2 * (P + 1) + 8 * ((P + 1) * C)
 abbrev pub storeLength : (P C : ℕ) → ℕ
 storeLength P C = 3 + 2 * (P + 1) + 12 * ((P + 1) * C)
 
--- where the used count of partition p is
-abbrev pub usedAt : (p : ℕ) → ℕ
-usedAt p = 3 + 2 * p
+-- where the used count of a partition is
+abbrev pub usedAt : (partition : ℕ) → ℕ
+usedAt partition = 3 + 2 * partition
 
--- where the key and the value of row i of partition p are
-abbrev pub keyAt : (xs : List ℕ) (p i : ℕ) → ℕ
-keyAt xs p i = keysFrom (partsOf xs) + 8 * (p * capOf xs + i)
+-- where the key and the value of a row of a partition are
+abbrev pub keyAt : (store : List ℕ) (partition row : ℕ) → ℕ
+keyAt store partition row = keysFrom (partsOf store) + 8 * (partition * capOf store + row)
 
-abbrev pub valueAt : (xs : List ℕ) (p i : ℕ) → ℕ
-valueAt xs p i = valuesFrom (partsOf xs) (capOf xs) + 4 * (p * capOf xs + i)
+abbrev pub valueAt : (store : List ℕ) (partition row : ℕ) → ℕ
+valueAt store partition row = valuesFrom (partsOf store) (capOf store) + 4 * (partition * capOf store + row)
 
--- the used count of partition p: past P there is none
-unfoldable pub usedOf : (xs : List ℕ) (p : ℕ) → ℕ
-usedOf xs p = if leb p (partsOf xs) then le 2 xs (usedAt p) else 0
+-- the used count of a partition: past P there is none
+unfoldable pub usedOf : (store : List ℕ) (partition : ℕ) → ℕ
+usedOf store partition = if leb partition (partsOf store) then le 2 store (usedAt partition) else 0

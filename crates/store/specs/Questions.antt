@@ -17,12 +17,12 @@ unfoldable pub numbersRight : (P C : ℕ) → Bool
 numbersRight P C = leb 1 P && leb P 8 && leb 5 C && leb C 256
 
 -- 9. Are there three bytes, P 1 to 8, C 5 to 256?
-unfoldable pub question9 : (xs : List ℕ) → Bool
-question9 xs = leb 3 (length xs) && numbersRight (partsOf xs) (capOf xs)
+unfoldable pub question9 : (store : List ℕ) → Bool
+question9 store = leb 3 (length store) && numbersRight (partsOf store) (capOf store)
 
 -- 10. Is the store's length right?
-unfoldable pub question10 : (xs : List ℕ) → Bool
-question10 xs = eqb (length xs) (storeLength (partsOf xs) (capOf xs))
+unfoldable pub question10 : (store : List ℕ) → Bool
+question10 store = eqb (length store) (storeLength (partsOf store) (capOf store))
 
 -- k is one of ks
 unfoldable pub member : (k : ℕ) → List ℕ → Bool
@@ -53,34 +53,37 @@ rising (k ∷ ks) = ahead k ks && rising ks
 unfoldable pub keysOk : (book : Bool) → List ℕ → Bool
 keysOk b ks = keysApart b ks && rising ks
 
--- row i is zero, its key and its value, where the keys stand from byte k on and the values from byte v on
-unfoldable pub blankRow : (xs : List ℕ) (k v i : ℕ) → Bool
-blankRow xs k v i = eqb (le 8 xs (k + 8 * i)) 0 && eqb (le 4 xs (v + 4 * i)) 0
+-- a row is zero, its key and its value, where the first key begins at byte `keys-at` and the first value at byte `values-at`
+unfoldable pub blankRow : (store : List ℕ) (keys-at values-at row : ℕ) → Bool
+blankRow store keys-at values-at row = eqb (le 8 store (keys-at + 8 * row)) 0 && eqb (le 4 store (values-at + 4 * row)) 0
 
--- 11 of a partition wherever it lies, by what it asks of the keys: its used count is n, its C keys stand from byte k on, its C values from
--- byte v on
-unfoldable pub partOkAt : (keys : (book : Bool) → List ℕ → Bool) → (book : Bool) → (xs : List ℕ) → (C n k v : ℕ) → Bool
-partOkAt keys b xs C n k v =
-    leb n C
-    && keys b (fields 8 xs k n)
-    && eachFrom (blankRow xs k v) (C - n) n
+-- 11 of a partition wherever it lies, by what it asks of the keys: so many rows are used, the first of its C keys begins at byte `keys-at`,
+-- and the first of its C values at byte `values-at`
+unfoldable pub partOkAt : (keys : (book : Bool) → List ℕ → Bool) → (book : Bool) → (store : List ℕ) → (C used keys-at values-at : ℕ) →
+    Bool
+partOkAt keys book store C used keys-at values-at =
+    leb used C
+    && keys book (fields 8 store keys-at used)
+    && eachFrom (blankRow store keys-at values-at) (C - used) used
 
--- 11 of partition p, by what it asks of the keys: the book is partition P
-unfoldable pub partOkBy : (keys : (book : Bool) → List ℕ → Bool) → (xs : List ℕ) (p : ℕ) → Bool
-partOkBy keys xs p = partOkAt keys (eqb p (partsOf xs)) xs (capOf xs) (usedOf xs p) (keyAt xs p 0) (valueAt xs p 0)
+-- 11 of a partition, by what it asks of the keys: the book is partition P
+unfoldable pub partOkBy : (keys : (book : Bool) → List ℕ → Bool) → (store : List ℕ) (partition : ℕ) → Bool
+partOkBy keys store partition =
+    partOkAt keys (eqb partition (partsOf store)) store (capOf store) (usedOf store partition) (keyAt store partition 0)
+    (valueAt store partition 0)
 
--- 11 of partition p
-abbrev pub partOk : (xs : List ℕ) (p : ℕ) → Bool
-partOk xs p = partOkBy keysOk xs p
+-- 11 of a partition
+abbrev pub partOk : (store : List ℕ) (partition : ℕ) → Bool
+partOk store partition = partOkBy keysOk store partition
 
 -- 11. Is each used count at most C, each used key of a form of its partition and unlike the others there, each unused row zero, and are the
 -- used keys rising?
-unfoldable pub question11 : (xs : List ℕ) → Bool
-question11 xs = each (partsOf xs + 1) (partOk xs)
+unfoldable pub question11 : (store : List ℕ) → Bool
+question11 store = each (partsOf store + 1) (partOk store)
 
 -- all of 11 but the rising keys, as order asks it
-unfoldable pub question11InAnyOrder : (xs : List ℕ) → Bool
-question11InAnyOrder xs = each (partsOf xs + 1) (partOkBy keysApart xs)
+unfoldable pub question11InAnyOrder : (store : List ℕ) → Bool
+question11InAnyOrder store = each (partsOf store + 1) (partOkBy keysApart store)
 
 -- f holds at each of ks
 unfoldable pub allIn : (ℕ → Bool) → (ks : List ℕ) → Bool
@@ -96,30 +99,30 @@ unfoldable pub bookOk : (ks : List ℕ) → Bool
 bookOk ks = allIn (λ k. five ks (bookedId k)) ks
 
 -- 12. Has each booked id all five rows? An id is booked as soon as it has any row in the book, which is partition P.
-unfoldable pub question12 : (xs : List ℕ) → Bool
-question12 xs = bookOk (keysIn (rowsOf xs (partsOf xs)))
+unfoldable pub question12 : (store : List ℕ) → Bool
+question12 store = bookOk (keysIn (rowsOf store (partsOf store)))
 
 -- the first no among 9 to 12
-unfoldable pub storeRefusal : (xs : List ℕ) → Option No
-storeRefusal xs =
-    ask (number 9) (question9 xs)
-    (ask (number 10) (question10 xs)
-    (ask (number 11) (question11 xs)
-    (ask (number 12) (question12 xs)
+unfoldable pub storeRefusal : (store : List ℕ) → Option No
+storeRefusal store =
+    ask (number 9) (question9 store)
+    (ask (number 10) (question10 store)
+    (ask (number 11) (question11 store)
+    (ask (number 12) (question12 store)
     none)))
 
 -- Order puts 9 to 12, of 11 all but the rising keys.
-unfoldable pub orderRefusal : (xs : List ℕ) → Option No
-orderRefusal xs =
-    ask (number 9) (question9 xs)
-    (ask (number 10) (question10 xs)
-    (ask (number 11) (question11InAnyOrder xs)
-    (ask (number 12) (question12 xs)
+unfoldable pub orderRefusal : (store : List ℕ) → Option No
+orderRefusal store =
+    ask (number 9) (question9 store)
+    (ask (number 10) (question10 store)
+    (ask (number 11) (question11InAnyOrder store)
+    (ask (number 12) (question12 store)
     none)))
 
 -- Create puts 9 to the numbers given and 10 to the lent buffer, by its length.
-unfoldable pub createRefusal : (P C length : ℕ) → Option No
-createRefusal P C n =
+unfoldable pub createRefusal : (P C bytes : ℕ) → Option No
+createRefusal P C bytes =
     ask (number 9) (numbersRight P C)
-    (ask (number 10) (eqb n (storeLength P C))
+    (ask (number 10) (eqb bytes (storeLength P C))
     none)

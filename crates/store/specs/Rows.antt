@@ -27,21 +27,24 @@ pub record Store : Type 0 where
   pub cap : ℕ
   pub rows : ℕ → List Row
 
--- what the bytes hold in partition p: its used rows, which come first
-unfoldable pub rowsOf : (xs : List ℕ) (p : ℕ) → List Row
-rowsOf xs p = pairs (fields 8 xs (keyAt xs p 0) (usedOf xs p)) (fields 4 xs (valueAt xs p 0) (usedOf xs p))
+-- what the bytes hold in a partition: its used rows, which come first
+unfoldable pub rowsOf : (store : List ℕ) (partition : ℕ) → List Row
+rowsOf store partition =
+    pairs (fields 8 store (keyAt store partition 0) (usedOf store partition))
+    (fields 4 store (valueAt store partition 0) (usedOf store partition))
 
 -- what the bytes hold
-abbrev pub storeOf : (xs : List ℕ) → Store
-storeOf xs = record { parts = partsOf xs; cap = capOf xs; rows = rowsOf xs }
+abbrev pub storeOf : (store : List ℕ) → Store
+storeOf store = record { parts = partsOf store; cap = capOf store; rows = rowsOf store }
 
 -- a store with no row
 abbrev pub emptyStore : (P C : ℕ) → Store
 emptyStore P C = record { parts = P; cap = C; rows = λ p. [] }
 
--- the store with partition p's rows changed by f
-unfoldable pub alter : (p : ℕ) → (List Row → List Row) → Store → Store
-alter p f st = record { parts = st .parts; cap = st .cap; rows = λ q. if eqb q p then f (st .rows q) else st .rows q }
+-- the store with a partition's rows changed by f
+unfoldable pub alter : (partition : ℕ) → (List Row → List Row) → Store → Store
+alter partition f st =
+    record { parts = st .parts; cap = st .cap; rows = λ p. if eqb p partition then f (st .rows p) else st .rows p }
 
 -- the value at key k, if it has a row
 unfoldable pub lookup : (k : ℕ) → List Row → Option ℕ
@@ -78,11 +81,11 @@ unfoldable pub indexOf : (k : ℕ) → List ℕ → ℕ
 indexOf k [] = 0
 indexOf k (x ∷ xs) = if eqb x k then 0 else suc (indexOf k xs)
 
--- the rows with value v in row i
-unfoldable pub setValue : List Row → (i v : ℕ) → List Row
-setValue [] i v = []
+-- the rows with another value in one of them
+unfoldable pub setValue : List Row → (row value : ℕ) → List Row
+setValue [] row v = []
 setValue (r ∷ rs) zero v = (r .0, v) ∷ rs
-setValue (r ∷ rs) (suc i) v = r ∷ setValue rs i v
+setValue (r ∷ rs) (suc row) v = r ∷ setValue rs row v
 
 -- the place where key k belongs: ahead of the first key that isn't smaller
 unfoldable pub rankOf : (k : ℕ) → List Row → ℕ

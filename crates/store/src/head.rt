@@ -24,35 +24,35 @@ pub fn numbers_right(parts: usize, cap: usize) -> bool
 }
 
 // P.
-pub fn partition_count(s: &[u8]) -> usize
-    requires { ⌜ 3 ≤ length (now s) ⌝ }
-    ensures { λ r. ⌜ r ≡ partsOf (now (s .entry)) ⌝ }
+pub fn partition_count(store: &[u8]) -> usize
+    requires { ⌜ 3 ≤ length (now store) ⌝ }
+    ensures { λ r. ⌜ r ≡ partsOf (now (store .entry)) ⌝ }
 {
-    s[0] as usize
+    store[0] as usize
 }
 
 // C.
-pub fn capacity(s: &[u8]) -> usize
-    requires { ⌜ 3 ≤ length (now s) ⌝ }
-    ensures { λ r. ⌜ r ≡ capOf (now (s .entry)) ⌝ }
+pub fn capacity(store: &[u8]) -> usize
+    requires { ⌜ 3 ≤ length (now store) ⌝ }
+    ensures { λ r. ⌜ r ≡ capOf (now (store .entry)) ⌝ }
 {
-    words::read16(s, 1) as usize
+    words::read16(store, 1) as usize
 }
 
-// How many rows partition `p` has.
-pub fn used_count(s: &[u8], p: usize) -> usize
-    requires { ⌜ Dimensions (now s) × (p ≤ partsOf (now s)) ⌝ }
-    ensures { λ r. ⌜ r ≡ length (rowsOf (now (s .entry)) p) ⌝ }
+// How many rows a partition has.
+pub fn used_count(store: &[u8], partition: usize) -> usize
+    requires { ⌜ Dimensions (now store) × (partition ≤ partsOf (now store)) ⌝ }
+    ensures { λ r. ⌜ r ≡ length (rowsOf (now (store .entry)) partition) ⌝ }
 {
-    words::read16(s, 3 + 2 * p) as usize
+    words::read16(store, 3 + 2 * partition) as usize
 }
 
-// A product of small numbers.
-fn times(a: usize, b: usize) -> usize
-    requires { ⌜ (a ≤ 9) × (b ≤ 256) ⌝ }
-    ensures { λ r. ⌜ (r ≡ a * b) × (r ≤ 2304) ⌝ }
+// How many rows there is room for in so many partitions.
+fn times(partitions: usize, cap: usize) -> usize
+    requires { ⌜ (partitions ≤ 9) × (cap ≤ 256) ⌝ }
+    ensures { λ r. ⌜ (r ≡ partitions * cap) × (r ≤ 2304) ⌝ }
 {
-    a * b
+    partitions * cap
 }
 
 // The length of a store.
@@ -63,22 +63,22 @@ pub fn store_size(parts: usize, cap: usize) -> usize
     3 + 2 * (parts + 1) + 12 * times(parts + 1, cap)
 }
 
-// Where the key of row `i` of partition `p` begins.
-pub fn key_place(s: &[u8], p: usize, i: usize) -> usize
-    requires { ⌜ Dimensions (now s) × (p ≤ partsOf (now s)) × (i ≤ capOf (now s)) ⌝ }
-    ensures { λ r. ⌜ r ≡ keyAt (now (s .entry)) p i ⌝ }
+// The byte at which the key of a row begins.
+pub fn key_place(store: &[u8], partition: usize, row: usize) -> usize
+    requires { ⌜ Dimensions (now store) × (partition ≤ partsOf (now store)) × (row ≤ capOf (now store)) ⌝ }
+    ensures { λ r. ⌜ r ≡ keyAt (now (store .entry)) partition row ⌝ }
 {
-    let parts = partition_count(s);
-    let cap = capacity(s);
-    3 + 2 * (parts + 1) + 8 * (times(p, cap) + i)
+    let parts = partition_count(store);
+    let cap = capacity(store);
+    3 + 2 * (parts + 1) + 8 * (times(partition, cap) + row)
 }
 
-// Where the value of row `i` of partition `p` begins.
-pub fn value_place(s: &[u8], p: usize, i: usize) -> usize
-    requires { ⌜ Dimensions (now s) × (p ≤ partsOf (now s)) × (i ≤ capOf (now s)) ⌝ }
-    ensures { λ r. ⌜ r ≡ valueAt (now (s .entry)) p i ⌝ }
+// The byte at which the value of a row begins.
+pub fn value_place(store: &[u8], partition: usize, row: usize) -> usize
+    requires { ⌜ Dimensions (now store) × (partition ≤ partsOf (now store)) × (row ≤ capOf (now store)) ⌝ }
+    ensures { λ r. ⌜ r ≡ valueAt (now (store .entry)) partition row ⌝ }
 {
-    let parts = partition_count(s);
-    let cap = capacity(s);
-    3 + 2 * (parts + 1) + 8 * times(parts + 1, cap) + 4 * (times(p, cap) + i)
+    let parts = partition_count(store);
+    let cap = capacity(store);
+    3 + 2 * (parts + 1) + 8 * times(parts + 1, cap) + 4 * (times(partition, cap) + row)
 }

@@ -23,78 +23,78 @@ pub enum Got {
     Absent,
 }
 
-// The place of `key` among the `n` keys from byte `from` on, or where it belongs. The first key that isn't smaller ends the search: `i` keys
-// are passed, and `left` are still to be read.
-fn search(s: &[u8], from: usize, n: usize, key: u64) -> Found
-    requires { ⌜ from + 8 * n ≤ length (now s) ⌝ }
-    ensures { λ r. ⌜ Searched key (fields 8 (now (s .entry)) from n) r ⌝ }
+// The place of `key` among `count` keys, the first of which begins at byte `keys_at`, or where it belongs. The first key that isn't smaller
+// ends the search: `passed` keys are passed, and `left` are still to be read.
+fn search(store: &[u8], keys_at: usize, count: usize, key: u64) -> Found
+    requires { ⌜ «keys_at» + 8 * count ≤ length (now store) ⌝ }
+    ensures { λ r. ⌜ Searched key (fields 8 (now (store .entry)) «keys_at» count) r ⌝ }
 {
-    let mut at = from;
-    let mut i = 0;
-    let mut left = n;
+    let mut key_at = keys_at;
+    let mut passed = 0;
+    let mut left = count;
     while 0 < left {
-        let next = words::read64(s, at);
+        let next = words::read64(store, key_at);
         if key <= next {
             if key == next {
-                return Found::At(i);
+                return Found::At(passed);
             }
-            return Found::Belongs(i);
+            return Found::Belongs(passed);
         }
-        at += 8;
-        i += 1;
+        key_at += 8;
+        passed += 1;
         left -= 1;
     }
-    Found::Belongs(i)
+    Found::Belongs(passed)
 }
 
-// The row of `key` among those of partition `p` from row `i` on, or the place where it belongs among them. Places count from row `i`. The
+// The row of `key` among those of a partition from row `row` on, or the place where it belongs among them. Places count from row `row`. The
 // byte at which that row's key begins is worked out here, once for a search; the loop steps on by 8 bytes, the width of a key.
-pub fn find(s: &[u8], p: usize, i: usize, key: u64) -> Found
-    requires { ⌜ Formed (now s) × (p ≤ partsOf (now s)) × (i ≤ length (rowsOf (now s) p)) ⌝ }
-    ensures { λ r. ⌜ Searched key (keysIn (drop i (rowsOf (now (s .entry)) p))) r ⌝ }
+pub fn find(store: &[u8], partition: usize, row: usize, key: u64) -> Found
+    requires { ⌜ Formed (now store) × (partition ≤ partsOf (now store)) × (row ≤ length (rowsOf (now store) partition)) ⌝ }
+    ensures { λ r. ⌜ Searched key (keysIn (drop row (rowsOf (now (store .entry)) partition))) r ⌝ }
 {
-    let n = used_count(s, p);
-    let from = key_place(s, p, i);
-    search(s, from, n - i, key)
+    let used = used_count(store, partition);
+    let keys_at = key_place(store, partition, row);
+    search(store, keys_at, used - row, key)
 }
 
 // Where a search ended.
-pub fn ended_at(f: Found) -> usize
-    ensures { λ r. ⌜ r ≡ endedAt f ⌝ }
+pub fn ended_at(found: Found) -> usize
+    ensures { λ r. ⌜ r ≡ endedAt found ⌝ }
 {
-    match f {
-        Found::At(i) => i,
-        Found::Belongs(i) => i,
+    match found {
+        Found::At(place) => place,
+        Found::Belongs(place) => place,
     }
 }
 
 // 1 where the key's row was found, else 0.
-pub fn rows_found(f: Found) -> usize
-    ensures { λ r. ⌜ r ≡ rowsFound f ⌝ }
+pub fn rows_found(found: Found) -> usize
+    ensures { λ r. ⌜ r ≡ rowsFound found ⌝ }
 {
-    match f {
+    match found {
         Found::At(_) => 1,
         Found::Belongs(_) => 0,
     }
 }
 
-// The value of row `i` of partition `p`.
-pub fn value_at(s: &[u8], p: usize, i: usize) -> u32
-    requires { ⌜ Sound (now s) × (p ≤ partsOf (now s)) × (i < length (rowsOf (now s) p)) ⌝ }
-    ensures { λ r. ⌜ r ≡ getD (rowsOf (now (s .entry)) p) i (0, 0) .1 ⌝ }
+// The value of a row.
+pub fn value_at(store: &[u8], partition: usize, row: usize) -> u32
+    requires { ⌜ Sound (now store) × (partition ≤ partsOf (now store)) × (row < length (rowsOf (now store) partition)) ⌝ }
+    ensures { λ r. ⌜ r ≡ getD (rowsOf (now (store .entry)) partition) row (0, 0) .1 ⌝ }
 {
-    let at = value_place(s, p, i);
-    words::read32(s, at)
+    let place = value_place(store, partition, row);
+    words::read32(store, place)
 }
 
-// The value at `key` in partition `p`.
-pub fn get(s: &[u8], p: usize, key: u64) -> Got
-    requires { ⌜ Sound (now s) × (p ≤ partsOf (now s)) ⌝ }
-    ensures { λ r. ⌜ r ≡ gotOf (lookup key (rowsOf (now (s .entry)) p)) ⌝ }
+// The value at `key` in a partition.
+pub fn get(store: &[u8], partition: usize, key: u64) -> Got
+    requires { ⌜ Sound (now store) × (partition ≤ partsOf (now store)) ⌝ }
+    ensures { λ r. ⌜ r ≡ gotOf (lookup key (rowsOf (now (store .entry)) partition)) ⌝ }
 {
-    let f = find(s, p, 0, key);
-    match f {
-        Found::At(i) => Got::Value(value_at(s, p, i)),
+    let found = find(store, partition, 0, key);
+    match found {
+        Found::At(row) => Got::Value(value_at(store, partition, row)),
         Found::Belongs(_) => Got::Absent,
     }
 }

@@ -14,4 +14,4 @@ used-count-spec =
     (λ c κs. search needs)
     (λ c. search needs)
     (λ c. let st = c .before .before in let a = st .args in
-    c .read16 .ensures ∙ sym (count-is (a .s .now) (a .p) ∙ used-here (a .s .now) (a .p) (st .pre .1))))
+    c .read16 .ensures ∙ sym (count-is (a .store .now) (a .partition) ∙ used-here (a .store .now) (a .partition) (st .pre .1))))

@@ -26,6 +26,6 @@ value-place-spec =
     (λ c. let a = c .before .before .before .before .before .args in
     omega (
       arith,
-      ap (λ (n : ℕ). a .p * n) (c .before .before .capacity .ensures),
+      ap (λ (n : ℕ). a .partition * n) (c .before .before .capacity .ensures),
       ap₂ (λ (m n : ℕ). (m + 1) * n) (c .before .before .before .partition-count .ensures) (c .before .before .capacity .ensures),
     )))

@@ -8,5 +8,5 @@ use Rattle.store.proofs.rows.ended_at.Tie as tie
 pub ended-at-spec : {M : Type 1} → statement M
 unfolding endedAt
 ended-at-spec = tie.close
-    (tie.spec (λ c. search needs) (λ c. search needs) (λ c. sym (ap endedAt (c .before .f .given .1)))
-    (λ c. sym (ap endedAt (c .before .f2 .given .1))))
+    (tie.spec (λ c. search needs) (λ c. search needs) (λ c. sym (ap endedAt (c .before .found .given .1)))
+    (λ c. sym (ap endedAt (c .before .found2 .given .1))))

@@ -29,17 +29,17 @@ find-spec =
     (λ c κs. search needs)
     (λ c κs. let st = c .before .before in
     let h = st .pre .0 in
-    (h .shape, st .pre .1, omega (arith, st .pre .2, h .shape .cap-low, used-le (st .args .s .now) h (st .args .p) (st .pre .1))))
+    (h .shape, st .pre .1, omega (arith, st .pre .2, h .shape .cap-low, used-le (st .args .store .now) h (st .args .partition) (st .pre .1))))
     (λ c. search needs)
     (λ c κs. let used = c .before .used-count in
     let st = c .before .before .before in
-    let xs = st .args .s .now in
+    let xs = st .args .store .now in
     let h = st .pre .0 .shape in
-    let fit = used-le xs (st .pre .0) (st .args .p) (st .pre .1) in
-    let below = before (capOf xs) {p = st .args .p} {q = partsOf xs + 1} (omega (arith, st .pre .1)) in
+    let fit = used-le xs (st .pre .0) (st .args .partition) (st .pre .1) in
+    let below = before (capOf xs) {p = st .args .partition} {q = partsOf xs + 1} (omega (arith, st .pre .1)) in
     omega (arith, used .ensures, st .pre .2, fit, below, h .size, h .cap-low))
     (λ c. let used = c .before .before .used-count in
     let st = c .before .before .before .before in
     let a = st .args in
-    searched-from (a .s .now) (a .p) (a .i) (used .result - a .i) _ (a .key) (c .search .result)
+    searched-from (a .store .now) (a .partition) (a .row) (used .result - a .row) _ (a .key) (c .search .result)
     (c .search .ensures) (omega (arith, used .ensures, st .pre .2)) (omega arith)))

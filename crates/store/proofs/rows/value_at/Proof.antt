@@ -13,14 +13,14 @@ value-at-spec =
     (λ c κs. let st = c .before in (
       st .pre .0 .formed .shape,
       st .pre .1,
-      omega (arith, row-below (st .args .s .now) (st .pre .0 .formed) (st .args .p) (st .pre .1) (st .args .i) (st .pre .2)),
+      omega (arith, row-below (st .args .store .now) (st .pre .0 .formed) (st .args .partition) (st .pre .1) (st .args .row) (st .pre .2)),
     ))
     (λ c κs. let st = c .before .before in
     omega (
       arith,
-      value-within (st .args .s .now) (st .pre .0 .formed .shape) (st .args .p) (st .pre .1) (st .args .i)
-          (row-below (st .args .s .now) (st .pre .0 .formed) (st .args .p) (st .pre .1) (st .args .i) (st .pre .2)),
+      value-within (st .args .store .now) (st .pre .0 .formed .shape) (st .args .partition) (st .pre .1) (st .args .row)
+          (row-below (st .args .store .now) (st .pre .0 .formed) (st .args .partition) (st .pre .1) (st .args .row) (st .pre .2)),
     ))
     (λ c. let st = c .before .before .before in
-    c .read32 .ensures ∙ ap (le 4 (st .args .s .now)) (c .before .value-place .ensures)
-    ∙ sym (value-is (st .args .s .now) (st .args .p) (st .args .i) (st .pre .2))))
+    c .read32 .ensures ∙ ap (le 4 (st .args .store .now)) (c .before .value-place .ensures)
+    ∙ sym (value-is (st .args .store .now) (st .args .partition) (st .args .row) (st .pre .2))))
