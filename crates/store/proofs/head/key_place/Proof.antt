@@ -19,4 +19,5 @@ key-place-spec =
     (λ c. search needs)
     (λ c. search needs)
     (λ c. search needs)
-    (λ c. let a = c .before .before .before .before .args in omega (arith, ap (λ (n : ℕ). a .partition * n) (c .before .capacity .ensures))))
+    (λ c. let a = c .before .before .before .before .args in
+    omega (arith, ap (λ (n : ℕ). a .partition * n) (c .before .capacity .ensures))))

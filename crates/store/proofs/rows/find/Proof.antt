@@ -28,8 +28,17 @@ find-spec =
     (tie.spec
     (λ c κs. search needs)
     (λ c κs. let st = c .before .before in
-    let h = st .pre .0 in
-    (h .shape, st .pre .1, omega (arith, st .pre .2, h .shape .cap-low, used-le (st .args .store .now) h (st .args .partition) (st .pre .1))))
+    let h = st .pre .0 in (
+      h .shape,
+      st .pre .1,
+      omega (
+        arith,
+        st .pre .2,
+        h .shape .cap-low,
+        used-le (st .args .store .now) h (st .args .partition)
+            (st .pre .1),
+      ),
+    ))
     (λ c. search needs)
     (λ c κs. let used = c .before .used-count in
     let st = c .before .before .before in

@@ -10,8 +10,12 @@ use Rattle.store.proofs.rows.get.Statement.{statement}
 use Rattle.store.proofs.rows.get.Tie as tie
 
 -- what the search found, by a reading of all rows
-found : (c : tie.After-find) → let a = c .before .before .args in foundIn (a .key) (keysIn (rowsOf (a .store .now) (a .partition))) ≡ c .find .result
-found c = let st = c .before .before in sym (c .find .ensures .all (rows-rise (st .args .store .now) (st .pre .0) (st .args .partition) (st .pre .1)))
+found : (c : tie.After-find) →
+    let a = c .before .before .args in
+    foundIn (a .key) (keysIn (rowsOf (a .store .now) (a .partition))) ≡ c .find .result
+found c =
+    let st = c .before .before in
+    sym (c .find .ensures .all (rows-rise (st .args .store .now) (st .pre .0) (st .args .partition) (st .pre .1)))
 
 pub get-spec : {M : Type 1} → statement M
 unfolding gotOf
@@ -24,7 +28,8 @@ get-spec =
     let st = d .before .before in (
       st .pre .0,
       st .pre .1,
-      at-row (st .args .key) (rowsOf (st .args .store .now) (st .args .partition)) (c .before .found .given .0 .0) (found d ∙ c .before .found .given .1),
+      at-row (st .args .key) (rowsOf (st .args .store .now) (st .args .partition)) (c .before .found .given .0 .0)
+          (found d ∙ c .before .found .given .1),
     ))
     (λ c. search needs)
     (λ c. let m = c .before .before in

@@ -24,7 +24,8 @@ search-spec =
     (tie.spec
     Inv-loop
     μ-loop
-    (λ c. let a = c .before .args in (omega arith, omega arith, sym (shift-none (sought (a .key) (fields 8 (a .store .now) (a .keys-at) (a .count))))))
+    (λ c. let a = c .before .args in
+    (omega arith, omega arith, sym (shift-none (sought (a .key) (fields 8 (a .store .now) (a .keys-at) (a .count))))))
     (λ c κs. omega arith)
     (λ c. let rd = c .before .before in
     let lp = rd .before .before in
@@ -57,5 +58,6 @@ search-spec =
     (λ c. let lp = c .before in
     let a = lp .before .before .args in
     searched (a .key) (fields 8 (a .store .now) (a .keys-at) (a .count)) (Belongs (lp .loop .passed))
-    (sym (lp .loop .inv .2 ∙ ap (shift (lp .loop .passed)) (none-left (a .key) 8 (a .store .now) (lp .loop .key-at) (lp .loop .left) (omega arith))
+    (sym (lp .loop .inv .2 ∙ ap (shift (lp .loop .passed))
+    (none-left (a .key) 8 (a .store .now) (lp .loop .key-at) (lp .loop .left) (omega arith))
     ∙ shift-belongs (lp .loop .passed)))))
