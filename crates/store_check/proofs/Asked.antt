@@ -15,11 +15,11 @@ use Rattle.store.specs.Sound.{Dimensions}
 use Rattle.store.proofs.Sound.{shape-ok, shape-passes}
 
 -- the first no of 9 and 10
-abbrev pub shapeNo : (xs : List ℕ) → Option No
+abbrev shapeNo : (xs : List ℕ) → Option No
 shapeNo xs = ask (number 9) (question9 xs) (ask (number 10) (question10 xs) none)
 
 -- the first no of 9 to 12, by the answer to 11
-abbrev pub storeNo : (xs : List ℕ) (rows : Bool) → Option No
+abbrev storeNo : (xs : List ℕ) (rows : Bool) → Option No
 storeNo xs rows =
     ask (number 9) (question9 xs)
     (ask (number 10) (question10 xs)

@@ -1,9 +1,9 @@
--- The book by rising key: the five rows of an id stand side by side, so the fifth key is 4 more than the first; all else is forced, since
--- each is a book key.
+-- The book by rising key: the five rows of an id stand side by side, so the fifth key is the last of the first one's five; all else is
+-- forced, since each is a book key.
 use mathlib.Core.Bool.{Bool, true, false, _&&_}
 use mathlib.Core.List.{List, [], _∷_}
 use mathlib.Core.Path.{_≡_, refl, sym, ap, ap₂, subst, _∙_, fun-ext}
-use Prim.Native.Nat.{ℕ, zero, suc, _+_, _/_, _%_, _^_, _≤_, _<_}
+use Prim.Native.Nat.{ℕ, zero, suc, _+_, _≤_, _<_}
 use native.Mathlib.Nat.{add-zero}
 use native.Mathlib.Omega.{arith}
 use borrow.Author.Tests.{ltb-true, eqb-true, eqb-false, eq-eqb, ne-eqb}
@@ -12,8 +12,8 @@ use lib.ListN.{length, getD}
 use Rattle.words.specs.Words.{le, fields}
 use Rattle.words.proofs.Laws.{length-fields}
 use Rattle.questions.specs.Basics.{each}
-use Rattle.keys.specs.Keys.{bookKey, isBookKey, lastOfFive, isForm}
-use Rattle.keys.proofs.Keys.{book-bounds}
+use Rattle.keys.specs.Keys.{bookKey, isBookKey, bookedId, bookRow, lastOfFive, isForm}
+use Rattle.keys.proofs.Keys.{book-again}
 use Rattle.questions.proofs.Tests.{no-yes, and-left, and-right}
 use Rattle.store.specs.Questions.{member, ahead, rising, keysOk, allIn, five, bookOk}
 use Rattle.store.proofs.Sound.{keys-rise, apart-forms, keys-apart, keys-rising, all-at, in-all, book-five, five-all}
@@ -46,9 +46,9 @@ keys-behind k ks g =
     keys-rise true ks (and-right (isForm true k) (allIn (isForm true) ks) (forms (k ∷ ks) g))
     (rising-behind k ks (keys-rising true (k ∷ ks) g))
 
-bounds : (k : ℕ) → isForm true k ≡ true → (k < 2 ^ 35) × (k % 8 ≤ 4)
+row-low : (k : ℕ) → isForm true k ≡ true → bookRow k ≤ 4
 unfolding isForm
-bounds k f = book-bounds k f
+row-low k f = book-again k f .1
 
 -- the keys behind a key are greater
 greater : (k x : ℕ) (ks : List ℕ) → rising (k ∷ ks) ≡ true → member x ks ≡ true → k < x
@@ -83,10 +83,10 @@ side (suc m) k (x ∷ ks) u h =
 -- ---- a book that has all five rows of the first key's id
 
 module _ (k : ℕ) (ks : List ℕ) (u : rising (k ∷ ks) ≡ true) (b : bookOk (k ∷ ks) ≡ true) where
-  first-is : k % 8 ≡ 0
-  first-is = omega (arith, least k (bookKey (k / 8) 0) ks u (book-five (k ∷ ks) k 0 b (here k ks) (omega arith)))
+  first-is : bookRow k ≡ 0
+  first-is = omega (arith, least k (bookKey (bookedId k) 0) ks u (book-five (k ∷ ks) k 0 b (here k ks) (omega arith)))
 
-  fifth-is : (4 < length (k ∷ ks)) × (getD (k ∷ ks) 4 0 ≡ k + 4)
+  fifth-is : (4 < length (k ∷ ks)) × (getD (k ∷ ks) 4 0 ≡ lastOfFive k)
   fifth-is =
       side 4 k ks u
       (λ j l. subst (λ (y : ℕ). member y (k ∷ ks) ≡ true) (omega (arith, first-is)) (book-five (k ∷ ks) k j b (here k ks) (omega arith)))
@@ -115,10 +115,10 @@ module _ (k k1 k2 k3 k4 : ℕ) (ks : List ℕ) (g : keysOk true (k ∷ k1 ∷ k2
   u : rising all ≡ true
   u = keys-rising true all g
 
-  number-at : (i : ℕ) → i < 5 → getD all i 0 % 8 ≤ 4
-  number-at i h = bounds (getD all i 0) (all-at (isForm true) all i (forms all g) (omega arith)) .1
+  number-at : (i : ℕ) → i < 5 → bookRow (getD all i 0) ≤ 4
+  number-at i h = row-low (getD all i 0) (all-at (isForm true) all i (forms all g) (omega arith))
 
-  module _ (e : k4 ≡ k + 4) where
+  module _ (e : k4 ≡ lastOfFive k) where
     between : (k1 ≡ k + 1) × (k2 ≡ k + 2) × (k3 ≡ k + 3)
     between =
         let u1 = rising-behind k (k1 ∷ k2 ∷ k3 ∷ k4 ∷ ks) u in
@@ -129,19 +129,19 @@ module _ (k k1 k2 k3 k4 : ℕ) (ks : List ℕ) (g : keysOk true (k ∷ k1 ∷ k2
         let l3 = rising-next k3 k4 ks (rising-behind k2 (k3 ∷ k4 ∷ ks) u2) in
         (omega arith, omega arith, omega arith)
 
-    -- five numbers in a row, each a book key: the first is a multiple of 8
-    first : k % 8 ≡ 0
+    -- five numbers in a row, each a book key: the first is row 0 of its id
+    first : bookRow k ≡ 0
     first =
         let b = between in
-        let f0 : k % 8 ≤ 4 = number-at 0 (omega arith) in
-        let f1 : k1 % 8 ≤ 4 = number-at 1 (omega arith) in
-        let f2 : k2 % 8 ≤ 4 = number-at 2 (omega arith) in
-        let f3 : k3 % 8 ≤ 4 = number-at 3 (omega arith) in
-        let f4 : k4 % 8 ≤ 4 = number-at 4 (omega arith) in
+        let f0 : bookRow k ≤ 4 = number-at 0 (omega arith) in
+        let f1 : bookRow k1 ≤ 4 = number-at 1 (omega arith) in
+        let f2 : bookRow k2 ≤ 4 = number-at 2 (omega arith) in
+        let f3 : bookRow k3 ≤ 4 = number-at 3 (omega arith) in
+        let f4 : bookRow k4 ≤ 4 = number-at 4 (omega arith) in
         omega arith
 
     -- their id has all its rows
-    place : (j : ℕ) → j < 5 → getD all j 0 ≡ bookKey (k / 8) j
+    place : (j : ℕ) → j < 5 → getD all j 0 ≡ bookKey (bookedId k) j
     place zero h = omega (arith, first)
     place (suc zero) h = omega (arith, first, between)
     place (suc (suc zero)) h = omega (arith, first, between)
@@ -149,8 +149,8 @@ module _ (k k1 k2 k3 k4 : ℕ) (ks : List ℕ) (g : keysOk true (k ∷ k1 ∷ k2
     place (suc (suc (suc (suc zero)))) h = omega (arith, first)
     place (suc (suc (suc (suc (suc j))))) h = absurd (omega arith)
 
-    own : (x : ℕ) → x / 8 ≡ k / 8 → five all (x / 8) ≡ true
-    own x q = rw q (five-all all (k / 8) (λ j h. member-in (bookKey (k / 8) j) all j (omega arith) (place j h)))
+    own : (x : ℕ) → bookedId x ≡ bookedId k → five all (bookedId x) ≡ true
+    own x q = rw q (five-all all (bookedId k) (λ j h. member-in (bookKey (bookedId k) j) all j (omega arith) (place j h)))
 
     -- a key behind is of another id, whose rows are behind
     past : (x : ℕ) → k4 < x → member x all ≡ member x ks
@@ -160,15 +160,15 @@ module _ (k k1 k2 k3 k4 : ℕ) (ks : List ℕ) (g : keysOk true (k ∷ k1 ∷ k2
         let less : (y : ℕ) → y ≤ k4 → eqb y x ≡ false = λ y h. ne-eqb y x (λ q. omega arith) in
         rw (less k (omega arith), less k1 (omega arith), less k2 (omega arith), less k3 (omega arith), less k4 (omega arith)) refl
 
-    later : (x : ℕ) → member x ks ≡ true → five all (x / 8) ≡ five ks (x / 8)
+    later : (x : ℕ) → member x ks ≡ true → five all (bookedId x) ≡ five ks (bookedId x)
     unfolding five
     later x m =
         let z = first in
         let l = greater k4 x ks (keys-rising true (k4 ∷ ks) keys-fifth) m in
-        let b = bounds x (in-all (isForm true) ks x (forms ks keys-past) m) in
+        let b = row-low x (in-all (isForm true) ks x (forms ks keys-past) m) in
         ap (each 5)
-        (fun-ext {f = λ (j : ℕ). member (bookKey (x / 8) j) all} {g = λ (j : ℕ). member (bookKey (x / 8) j) ks}
-        (λ j. past (bookKey (x / 8) j) (omega arith)))
+        (fun-ext {f = λ (j : ℕ). member (bookKey (bookedId x) j) all} {g = λ (j : ℕ). member (bookKey (bookedId x) j) ks}
+        (λ j. past (bookKey (bookedId x) j) (omega arith)))
 
     whole : bookOk all ≡ bookOk ks
     unfolding bookOk allIn
@@ -176,15 +176,15 @@ module _ (k k1 k2 k3 k4 : ℕ) (ks : List ℕ) (g : keysOk true (k ∷ k1 ∷ k2
         let z = first in
         let b = between in
         rw (own k refl, own k1 (omega arith), own k2 (omega arith), own k3 (omega arith), own k4 (omega arith))
-        (all-same (λ (x : ℕ). five all (x / 8)) (λ (x : ℕ). five ks (x / 8)) ks later)
+        (all-same (λ (x : ℕ). five all (bookedId x)) (λ (x : ℕ). five ks (bookedId x)) ks later)
 
   -- The first five keys are those of one id, and the rest have all five rows of each of theirs.
-  pub five-first : bookOk all ≡ (eqb k4 (lastOfFive k) && bookOk ks)
+  five-first : bookOk all ≡ (eqb k4 (lastOfFive k) && bookOk ks)
   five-first = go (eqb k4 (lastOfFive k)) refl (bookOk all) refl
     where
-      go : (b : Bool) → eqb k4 (k + 4) ≡ b → (t : Bool) → bookOk all ≡ t → bookOk all ≡ (eqb k4 (k + 4) && bookOk ks)
-      go true eb t et = rw eb (whole (eqb-true k4 (k + 4) eb))
-      go false eb true et = absurd (eqb-false k4 (k + 4) eb (fifth-is k (k1 ∷ k2 ∷ k3 ∷ k4 ∷ ks) u et .1))
+      go : (b : Bool) → eqb k4 (lastOfFive k) ≡ b → (t : Bool) → bookOk all ≡ t → bookOk all ≡ (eqb k4 (lastOfFive k) && bookOk ks)
+      go true eb t et = rw eb (whole (eqb-true k4 (lastOfFive k) eb))
+      go false eb true et = absurd (eqb-false k4 (lastOfFive k) eb (fifth-is k (k1 ∷ k2 ∷ k3 ∷ k4 ∷ ks) u et .1))
       go false eb false et = rw eb et
 
 -- Of fewer than five keys each is one of an id that lacks a row.

@@ -2,14 +2,12 @@
 use mathlib.Core.Bool.{Bool, true, false, not, _&&_, and-true}
 use mathlib.Core.List.{List, [], _∷_}
 use mathlib.Core.Path.{_≡_, refl, sym, ap, _∙_}
-use Prim.Native.Nat.{ℕ, suc, _+_, _^_, _≤_, _<_}
+use Prim.Native.Nat.{ℕ, suc, _+_, _≤_, _<_}
 use native.Mathlib.Numerals.{add-one}
-use native.Mathlib.Omega.{arith}
 use borrow.Author.Tests.{le-leb, lt-leb}
 use lib.Dec.{leb, leb·zero}
 use Rattle.words.specs.Words.{le, fields}
-use Rattle.keys.specs.Keys.{isDataKey, isForm}
-use Rattle.keys.proofs.Keys.{data-bounds, log-bounds, book-bounds}
+use Rattle.keys.specs.Keys.{isForm}
 use Rattle.questions.proofs.Tests.{and-false}
 use Rattle.store.specs.Questions.{member, keysApart, ahead, rising, keysOk}
 use Rattle.store.proofs.Sound.{rises-unlike}
@@ -59,16 +57,6 @@ rises-all b ks = rises-is b 0 ks ∙ ap (λ (t : Bool). t && keysOk b ks) (any k
     any : (ks : List ℕ) → from 0 ks ≡ true
     any [] = unfold from in refl
     any (k ∷ ks) = unfold from in leb·zero k
-
--- a key of a form is less than 2^63 + 2^32
-pub form-small : (b : Bool) (k : ℕ) → isForm b k ≡ true → k < 2 ^ 63 + 2 ^ 32
-unfolding isForm
-form-small true k e = omega (arith, book-bounds k e)
-form-small false k e = go (isDataKey k) refl
-  where
-    go : (t : Bool) → isDataKey k ≡ t → k < 2 ^ 63 + 2 ^ 32
-    go true d = data-bounds k d .1
-    go false d = omega (arith, log-bounds k (rw d at e))
 
 -- ---- keys still to be read, the first of which is k
 

@@ -19,57 +19,64 @@ ghost use Rattle.store.specs.Rows.{indexOf};
 ghost use Rattle.store.specs.Questions.{member, keysApart, partOkAt, allIn, five, bookOk, question11InAnyOrder, question12, orderRefusal};
 ghost use Rattle.store.specs.Sound.{Dimensions, Formed};
 
-// The place of `key` among the `n` keys from byte `from` on, in whatever order they stand, or `n`. All may have to be read.
-fn index_of(s: &[u8], from: usize, n: usize, key: u64) -> usize
-    requires { ⌜ from + 8 * n ≤ length (now s) ⌝ }
-    ensures { λ r. ⌜ r ≡ indexOf key (fields 8 (now (s .entry)) from n) ⌝ }
+// The place of `key` among the `count` keys from byte `keys_at` on, in whatever order they stand, or `count`. All may have to be read.
+fn index_of(store: &[u8], keys_at: usize, count: usize, key: u64) -> usize
+    requires { ⌜ «keys_at» + 8 * count ≤ length (now store) ⌝ }
+    ensures { λ r. ⌜ r ≡ indexOf key (fields 8 (now (store .entry)) «keys_at» count) ⌝ }
 {
-    let mut at = from;
-    let mut i = 0;
-    while i < n {
-        if words::read64(s, at) == key {
-            return i;
+    let mut key_at = keys_at;
+    let mut place = 0;
+    while place < count {
+        if words::read64(store, key_at) == key {
+            return place;
         }
-        at += 8;
-        i += 1;
+        key_at += 8;
+        place += 1;
     }
-    i
+    place
 }
 
-// Is `key` among the `left` keys from byte `at` on? Each of them has `mark` at its place in `marks`, so a key whose place has no such mark
-// is not among them, and nothing is sought. 65,536 leaves 104 by 8,179: the log keys of ids in a row have places of their own.
-fn seen(s: &[u8], at: usize, left: usize, key: u64, marks: &[u8], mark: u8) -> bool
-    requires { ⌜ (at + 8 * left ≤ length (now s)) × (8179 ≤ length (now marks)) ⌝ }
-    requires { ⌜ allIn (λ k. eqb (getD (now marks) (k % 8179) 0) mark) (fields 8 (now s) at left) ≡ true ⌝ }
-    ensures { λ r. ⌜ r ≡ member key (fields 8 (now (s .entry)) at left) ⌝ }
+// Is `key` among the `left` keys from byte `keys_at` on? Each of them has `mark` at its place in `marks`, so a key whose place has no such
+// mark is not among them, and nothing is sought. 65,536 leaves 104 by 8,179: the log keys of ids in a row have places of their own.
+fn seen(store: &[u8], keys_at: usize, left: usize, key: u64, marks: &[u8], mark: u8) -> bool
+    requires { ⌜ («keys_at» + 8 * left ≤ length (now store)) × (8179 ≤ length (now marks)) ⌝ }
+    requires { ⌜ allIn (λ k. eqb (getD (now marks) (k % 8179) 0) mark) (fields 8 (now store) «keys_at» left) ≡ true ⌝ }
+    ensures { λ r. ⌜ r ≡ member key (fields 8 (now (store .entry)) «keys_at» left) ⌝ }
 {
     let place = (key % 8179) as usize;
     if marks[place] != mark {
         return false;
     }
-    index_of(s, at, left, key) < left
+    index_of(store, keys_at, left, key) < left
 }
 
-// Are the `n` keys from byte `from` on of a form, and each unlike the others? The walk goes from the last key to the first, and each key
-// that is passed leaves `mark` at its place in `marks`. What stood there is free: an equal mark costs a search, and no more.
-fn keys_apart(s: &[u8], from: usize, n: usize, book: bool, marks: &mut [u8], mark: u8) -> bool
-    requires { ⌜ (from + 8 * n ≤ length (now s)) × (8179 ≤ length (now marks)) ⌝ }
-    ensures { λ r. ⌜ r ≡ keysApart book (fields 8 (now (s .entry)) from n) ⌝ }
+// Are the `used` keys from byte `keys_at` on of a form, and each unlike the others? The walk goes from the last key to the first, and each
+// key that is passed leaves `mark` at its place in `marks`. What stood there is free: an equal mark costs a search, and no more.
+fn keys_apart(
+    store: &[u8],
+    keys_at: usize,
+    used: usize,
+    book: bool,
+    marks: &mut [u8],
+    mark: u8,
+) -> bool
+    requires { ⌜ («keys_at» + 8 * used ≤ length (now store)) × (8179 ≤ length (now marks)) ⌝ }
+    ensures { λ r. ⌜ r ≡ keysApart book (fields 8 (now (store .entry)) «keys_at» used) ⌝ }
 {
-    let mut at = from + 8 * n;
-    let mut i = n;
-    while 0 < i {
-        let key = words::read64(s, at - 8);
+    let mut key_at = keys_at + 8 * used;
+    let mut row = used;
+    while 0 < row {
+        let key = words::read64(store, key_at - 8);
         if !keys::of_form(book, key) {
             return false;
         }
-        if seen(s, at, n - i, key, marks, mark) {
+        if seen(store, key_at, used - row, key, marks, mark) {
             return false;
         }
-        let to = (key % 8179) as usize;
-        marks[to] = mark;
-        at -= 8;
-        i -= 1;
+        let mark_at = (key % 8179) as usize;
+        marks[mark_at] = mark;
+        key_at -= 8;
+        row -= 1;
     }
     true
 }
@@ -77,129 +84,145 @@ fn keys_apart(s: &[u8], from: usize, n: usize, book: bool, marks: &mut [u8], mar
 // Question 11 of one partition, wherever it lies, but not whether its keys rise. Its places are given as to `partition_ok`; each key
 // leaves `mark` in `marks`.
 fn partition_apart(
-    s: &[u8],
+    store: &[u8],
     cap: usize,
-    n: usize,
-    k: usize,
-    v: usize,
+    used: usize,
+    keys_at: usize,
+    values_at: usize,
     book: bool,
     marks: &mut [u8],
     mark: u8,
 ) -> bool
-    requires { ⌜ (k + 8 * cap ≤ length (now s)) × (v + 4 * cap ≤ length (now s)) × (8179 ≤ length (now marks)) ⌝ }
-    ensures { λ r. ⌜ r ≡ partOkAt keysApart book (now (s .entry)) cap n k v ⌝ }
+    requires { ⌜ («keys_at» + 8 * cap ≤ length (now store)) × («values_at» + 4 * cap ≤ length (now store))
+        × (8179 ≤ length (now marks)) ⌝ }
+    ensures { λ r. ⌜ r ≡ partOkAt keysApart book (now (store .entry)) cap used «keys_at» «values_at» ⌝ }
 {
-    if !filled(s, cap, n, k, v) {
+    if !filled(store, cap, used, keys_at, values_at) {
         return false;
     }
-    keys_apart(s, k, n, book, marks, mark)
+    keys_apart(store, keys_at, used, book, marks, mark)
 }
 
-// The same of each partition. One table of marks serves them all: the mark of partition p is p + 1.
-fn check_each(s: &[u8], marks: &mut [u8]) -> bool
-    requires { ⌜ Dimensions (now s) × (8179 ≤ length (now marks)) ⌝ }
-    ensures { λ r. ⌜ r ≡ question11InAnyOrder (now (s .entry)) ⌝ }
+// The same of each partition. One table of marks serves them all: the mark of a partition is its number and 1.
+fn check_each(store: &[u8], marks: &mut [u8]) -> bool
+    requires { ⌜ Dimensions (now store) × (8179 ≤ length (now marks)) ⌝ }
+    ensures { λ r. ⌜ r ≡ question11InAnyOrder (now (store .entry)) ⌝ }
 {
-    let parts = partition_count(s);
-    let cap = capacity(s);
-    let mut p = 0;
-    while p <= parts {
-        let n = used_count(s, p);
-        let k = key_place(s, p, 0);
-        let v = value_place(s, p, 0);
-        if !partition_apart(s, cap, n, k, v, p == parts, marks, (p + 1) as u8) {
+    let parts = partition_count(store);
+    let cap = capacity(store);
+    let mut partition = 0;
+    while partition <= parts {
+        let used = used_count(store, partition);
+        let keys_at = key_place(store, partition, 0);
+        let values_at = value_place(store, partition, 0);
+        if !partition_apart(
+            store,
+            cap,
+            used,
+            keys_at,
+            values_at,
+            partition == parts,
+            marks,
+            (partition + 1) as u8,
+        ) {
             return false;
         }
-        p += 1;
+        partition += 1;
     }
     true
 }
 
 // Question 11, but not whether the keys rise.
-fn check_partitions(s: &[u8]) -> bool
-    requires { ⌜ Dimensions (now s) ⌝ }
-    ensures { λ r. ⌜ r ≡ question11InAnyOrder (now (s .entry)) ⌝ }
+fn check_partitions(store: &[u8]) -> bool
+    requires { ⌜ Dimensions (now store) ⌝ }
+    ensures { λ r. ⌜ r ≡ question11InAnyOrder (now (store .entry)) ⌝ }
 {
     let mut marks = [0u8; 8179];
-    check_each(s, &mut marks)
+    check_each(store, &mut marks)
 }
 
-// Is `key` among the `n` keys from byte `from` on? Row `near` is looked at first: where five rows stand together, no search is made.
-fn has(s: &[u8], from: usize, n: usize, near: usize, key: u64) -> bool
-    requires { ⌜ from + 8 * n ≤ length (now s) ⌝ }
-    ensures { λ r. ⌜ r ≡ member key (fields 8 (now (s .entry)) from n) ⌝ }
+// Is `key` among the `used` keys from byte `keys_at` on? Row `near` is looked at first: where five rows stand together, no search is made.
+fn has(store: &[u8], keys_at: usize, used: usize, near: usize, key: u64) -> bool
+    requires { ⌜ «keys_at» + 8 * used ≤ length (now store) ⌝ }
+    ensures { λ r. ⌜ r ≡ member key (fields 8 (now (store .entry)) «keys_at» used) ⌝ }
 {
-    if near < n {
-        if words::read64(s, from + 8 * near) == key {
+    if near < used {
+        if words::read64(store, keys_at + 8 * near) == key {
             return true;
         }
     }
-    index_of(s, from, n, key) < n
+    index_of(store, keys_at, used, key) < used
 }
 
-// Are all five book keys of the id of `key` among the `n` keys from byte `from` on? They are likely to stand from row `first` on.
-fn five_rows(s: &[u8], from: usize, n: usize, first: usize, key: u64) -> bool
-    requires { ⌜ (from + 8 * n ≤ length (now s)) × (first ≤ n) ⌝ }
-    ensures { λ r. ⌜ r ≡ five (fields 8 (now (s .entry)) from n) (bookedId key) ⌝ }
+// Are all five book keys of the id of `key` among the `used` keys from byte `keys_at` on? They are likely to stand from row `first` on.
+fn five_rows(store: &[u8], keys_at: usize, used: usize, first: usize, key: u64) -> bool
+    requires { ⌜ («keys_at» + 8 * used ≤ length (now store)) × (first ≤ used) ⌝ }
+    ensures { λ r. ⌜ r ≡ five (fields 8 (now (store .entry)) «keys_at» used) (bookedId key) ⌝ }
 {
-    let mut j: usize = 0;
-    while j < 5 {
-        if !has(s, from, n, first + j, keys::beside(key, j as u64)) {
+    let mut row: usize = 0;
+    while row < 5 {
+        if !has(
+            store,
+            keys_at,
+            used,
+            first + row,
+            keys::beside(key, row as u64),
+        ) {
             return false;
         }
-        j += 1;
+        row += 1;
     }
     true
 }
 
-// Where five rows that stand together begin, if row `i` is number `j` of them.
-fn first_of(i: usize, j: usize) -> usize
-    ensures { λ r. ⌜ r ≡ i - j ⌝ }
+// Where five rows that stand together begin, if row `row` is number `number` of them.
+fn first_of(row: usize, number: usize) -> usize
+    ensures { λ r. ⌜ r ≡ row - number ⌝ }
 {
-    if j < i { i - j } else { 0 }
+    if number < row { row - number } else { 0 }
 }
 
-// Has each id of the `n` keys from byte `from` on all five rows, wherever they stand?
-fn book_whole(s: &[u8], from: usize, n: usize) -> bool
-    requires { ⌜ from + 8 * n ≤ length (now s) ⌝ }
-    ensures { λ r. ⌜ r ≡ bookOk (fields 8 (now (s .entry)) from n) ⌝ }
+// Has each id of the `used` keys from byte `keys_at` on all five rows, wherever they stand?
+fn book_whole(store: &[u8], keys_at: usize, used: usize) -> bool
+    requires { ⌜ «keys_at» + 8 * used ≤ length (now store) ⌝ }
+    ensures { λ r. ⌜ r ≡ bookOk (fields 8 (now (store .entry)) «keys_at» used) ⌝ }
 {
-    let mut at = from;
-    let mut i = 0;
-    while i < n {
-        let key = words::read64(s, at);
-        let first = first_of(i, keys::book_row(key) as usize);
-        if !five_rows(s, from, n, first, key) {
+    let mut key_at = keys_at;
+    let mut row = 0;
+    while row < used {
+        let key = words::read64(store, key_at);
+        let first = first_of(row, keys::book_row(key) as usize);
+        if !five_rows(store, keys_at, used, first, key) {
             return false;
         }
-        at += 8;
-        i += 1;
+        key_at += 8;
+        row += 1;
     }
     true
 }
 
 // Question 12 of a book in any order.
-fn check_book(s: &[u8]) -> bool
-    requires { ⌜ Formed (now s) ⌝ }
-    ensures { λ r. ⌜ r ≡ question12 (now (s .entry)) ⌝ }
+fn check_book(store: &[u8]) -> bool
+    requires { ⌜ Formed (now store) ⌝ }
+    ensures { λ r. ⌜ r ≡ question12 (now (store .entry)) ⌝ }
 {
-    let p = partition_count(s);
-    let n = used_count(s, p);
-    let from = key_place(s, p, 0);
-    book_whole(s, from, n)
+    let book = partition_count(store);
+    let used = used_count(store, book);
+    let keys_at = key_place(store, book, 0);
+    book_whole(store, keys_at, used)
 }
 
 // The first no among questions 9 to 12, of 11 all but the rising keys.
-pub fn check_in_any_order(s: &[u8]) -> Verdict
-    ensures { λ r. ⌜ r ≡ verdictOf (orderRefusal (now (s .entry))) ⌝ }
+pub fn check_in_any_order(store: &[u8]) -> Verdict
+    ensures { λ r. ⌜ r ≡ verdictOf (orderRefusal (now (store .entry))) ⌝ }
 {
-    let v = check_shape(s);
+    let v = check_shape(store);
     match v {
         Verdict::Accepted => {
-            if !check_partitions(s) {
+            if !check_partitions(store) {
                 return questions::refused(11, 0, 0);
             }
-            if !check_book(s) {
+            if !check_book(store) {
                 return questions::refused(12, 0, 0);
             }
             v

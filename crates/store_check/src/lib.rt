@@ -25,67 +25,69 @@ ghost use Rattle.store.specs.Questions.{question9, question10, question11, ques
 ghost use Rattle.store.specs.Sound.{Dimensions, Sound};
 
 // Questions 9 and 10: the first no among them.
-fn check_shape(s: &[u8]) -> Verdict
-    ensures { λ r. ⌜ r ≡ verdictOf (ask (number 9) (question9 (now (s .entry))) (ask (number 10) (question10 (now (s .entry))) none)) ⌝ }
+fn check_shape(store: &[u8]) -> Verdict
+    ensures { λ r. ⌜ r
+        ≡ verdictOf (ask (number 9) (question9 (now (store .entry))) (ask (number 10) (question10 (now (store .entry))) none)) ⌝ }
 {
-    if s.len() < 3 {
+    if store.len() < 3 {
         return questions::refused(9, 0, 0);
     }
-    let parts = partition_count(s);
-    let cap = capacity(s);
+    let parts = partition_count(store);
+    let cap = capacity(store);
     if !numbers_right(parts, cap) {
         return questions::refused(9, 0, 0);
     }
-    if s.len() != store_size(parts, cap) {
+    if store.len() != store_size(parts, cap) {
         return questions::refused(10, 0, 0);
     }
     questions::accepted()
 }
 
-// Are the rows from row `n` on zero, of `cap` rows whose keys stand from byte `k` on and whose values from byte `v` on? The loop steps on
-// by 8 bytes, the width of a key, and by 4, that of a value.
-fn blank_rows(s: &[u8], cap: usize, n: usize, k: usize, v: usize) -> bool
-    requires { ⌜ (n ≤ cap) × (k + 8 * cap ≤ length (now s)) × (v + 4 * cap ≤ length (now s)) ⌝ }
-    ensures { λ r. ⌜ r ≡ eachFrom (blankRow (now (s .entry)) k v) (cap - n) n ⌝ }
+// Are the rows from row `used` on zero, of `cap` rows whose keys stand from byte `keys_at` on and whose values from byte `values_at` on?
+// The loop steps on by 8 bytes, the width of a key, and by 4, that of a value.
+fn blank_rows(store: &[u8], cap: usize, used: usize, keys_at: usize, values_at: usize) -> bool
+    requires { ⌜ (used ≤ cap) × («keys_at» + 8 * cap ≤ length (now store)) × («values_at» + 4 * cap ≤ length (now store)) ⌝ }
+    ensures { λ r. ⌜ r ≡ eachFrom (blankRow (now (store .entry)) «keys_at» «values_at») (cap - used) used ⌝ }
 {
-    let mut key_from = k + 8 * n;
-    let mut value_from = v + 4 * n;
-    let mut i = n;
-    while i < cap {
-        if words::read64(s, key_from) != 0 {
+    let mut key_at = keys_at + 8 * used;
+    let mut value_at = values_at + 4 * used;
+    let mut row = used;
+    while row < cap {
+        if words::read64(store, key_at) != 0 {
             return false;
         }
-        if words::read32(s, value_from) != 0 {
+        if words::read32(store, value_at) != 0 {
             return false;
         }
-        key_from += 8;
-        value_from += 4;
-        i += 1;
+        key_at += 8;
+        value_at += 4;
+        row += 1;
     }
     true
 }
 
-// Is the used count `n` at most `cap`, and is each unused row zero, of a partition that lies at these places?
-fn filled(s: &[u8], cap: usize, n: usize, k: usize, v: usize) -> bool
-    requires { ⌜ (k + 8 * cap ≤ length (now s)) × (v + 4 * cap ≤ length (now s)) ⌝ }
-    ensures { λ r. ⌜ r ≡ (leb n cap && eachFrom (blankRow (now (s .entry)) k v) (cap - n) n) ⌝ }
+// Is the used count at most `cap`, and is each unused row zero, of a partition that lies at these places?
+fn filled(store: &[u8], cap: usize, used: usize, keys_at: usize, values_at: usize) -> bool
+    requires { ⌜ («keys_at» + 8 * cap ≤ length (now store)) × («values_at» + 4 * cap ≤ length (now store)) ⌝ }
+    ensures { λ r. ⌜ r ≡ (leb used cap && eachFrom (blankRow (now (store .entry)) «keys_at» «values_at») (cap - used) used) ⌝ }
 {
-    if cap < n {
+    if cap < used {
         return false;
     }
-    blank_rows(s, cap, n, k, v)
+    blank_rows(store, cap, used, keys_at, values_at)
 }
 
-// Are the `n` keys from byte `from` on of a form, and do they rise? Then each is unlike the others. `low` is the least that may come next.
-fn keys_ok(s: &[u8], from: usize, n: usize, book: bool) -> bool
-    requires { ⌜ from + 8 * n ≤ length (now s) ⌝ }
-    ensures { λ r. ⌜ r ≡ keysOk book (fields 8 (now (s .entry)) from n) ⌝ }
+// Are the `used` keys from byte `keys_at` on of a form, and do they rise? Then each is unlike the others. `low` is the least that may come
+// next.
+fn keys_ok(store: &[u8], keys_at: usize, used: usize, book: bool) -> bool
+    requires { ⌜ «keys_at» + 8 * used ≤ length (now store) ⌝ }
+    ensures { λ r. ⌜ r ≡ keysOk book (fields 8 (now (store .entry)) «keys_at» used) ⌝ }
 {
     let mut low = 0;
-    let mut at = from;
-    let mut i = 0;
-    while i < n {
-        let key = words::read64(s, at);
+    let mut key_at = keys_at;
+    let mut row = 0;
+    while row < used {
+        let key = words::read64(store, key_at);
         if key < low {
             return false;
         }
@@ -93,85 +95,92 @@ fn keys_ok(s: &[u8], from: usize, n: usize, book: bool) -> bool
             return false;
         }
         low = key + 1;
-        at += 8;
-        i += 1;
+        key_at += 8;
+        row += 1;
     }
     true
 }
 
-// Question 11 of one partition, wherever it lies: its used count is `n`, its `cap` keys stand from byte `k` on and its `cap` values from
-// byte `v` on, and `book` says whether it is the book.
-pub fn partition_ok(s: &[u8], cap: usize, n: usize, k: usize, v: usize, book: bool) -> bool
-    requires { ⌜ (k + 8 * cap ≤ length (now s)) × (v + 4 * cap ≤ length (now s)) ⌝ }
-    ensures { λ r. ⌜ r ≡ partOkAt keysOk book (now (s .entry)) cap n k v ⌝ }
+// Question 11 of one partition, wherever it lies: `used` rows are used, its `cap` keys stand from byte `keys_at` on and its `cap` values
+// from byte `values_at` on, and `book` says whether it is the book.
+fn partition_ok(
+    store: &[u8],
+    cap: usize,
+    used: usize,
+    keys_at: usize,
+    values_at: usize,
+    book: bool,
+) -> bool
+    requires { ⌜ («keys_at» + 8 * cap ≤ length (now store)) × («values_at» + 4 * cap ≤ length (now store)) ⌝ }
+    ensures { λ r. ⌜ r ≡ partOkAt keysOk book (now (store .entry)) cap used «keys_at» «values_at» ⌝ }
 {
-    if !filled(s, cap, n, k, v) {
+    if !filled(store, cap, used, keys_at, values_at) {
         return false;
     }
-    keys_ok(s, k, n, book)
+    keys_ok(store, keys_at, used, book)
 }
 
 // Question 11. The places of each partition are worked out once.
-fn check_partitions(s: &[u8]) -> bool
-    requires { ⌜ Dimensions (now s) ⌝ }
-    ensures { λ r. ⌜ r ≡ question11 (now (s .entry)) ⌝ }
+fn check_partitions(store: &[u8]) -> bool
+    requires { ⌜ Dimensions (now store) ⌝ }
+    ensures { λ r. ⌜ r ≡ question11 (now (store .entry)) ⌝ }
 {
-    let parts = partition_count(s);
-    let cap = capacity(s);
-    let mut p = 0;
-    while p <= parts {
-        let n = used_count(s, p);
-        let k = key_place(s, p, 0);
-        let v = value_place(s, p, 0);
-        if !partition_ok(s, cap, n, k, v, p == parts) {
+    let parts = partition_count(store);
+    let cap = capacity(store);
+    let mut partition = 0;
+    while partition <= parts {
+        let used = used_count(store, partition);
+        let keys_at = key_place(store, partition, 0);
+        let values_at = value_place(store, partition, 0);
+        if !partition_ok(store, cap, used, keys_at, values_at, partition == parts) {
             return false;
         }
-        p += 1;
+        partition += 1;
     }
     true
 }
 
-// Question 12 of a book, wherever it lies: its `n` keys stand from byte `from` on, and question 11 passes them. Has each booked id all
-// five rows? Rising keys have them side by side, so that the fifth key is the last of the first one's five.
-pub fn book_ok(s: &[u8], from: usize, n: usize) -> bool
-    requires { ⌜ (from + 8 * n ≤ length (now s)) × (keysOk true (fields 8 (now s) from n) ≡ true) ⌝ }
-    ensures { λ r. ⌜ r ≡ bookOk (fields 8 (now (s .entry)) from n) ⌝ }
+// Question 12 of a book, wherever it lies: its `used` keys stand from byte `keys_at` on, and question 11 passes them. Has each booked id
+// all five rows? Rising keys have them side by side, so that the fifth key is the last of the first one's five.
+fn book_ok(store: &[u8], keys_at: usize, used: usize) -> bool
+    requires { ⌜ («keys_at» + 8 * used ≤ length (now store)) × (keysOk true (fields 8 (now store) «keys_at» used) ≡ true) ⌝ }
+    ensures { λ r. ⌜ r ≡ bookOk (fields 8 (now (store .entry)) «keys_at» used) ⌝ }
 {
-    let mut at = from;
-    let mut left = n;
+    let mut key_at = keys_at;
+    let mut left = used;
     while 5 <= left {
-        let key = words::read64(s, at);
-        if words::read64(s, at + 32) != keys::last_of_five(key) {
+        let key = words::read64(store, key_at);
+        if words::read64(store, key_at + 32) != keys::last_of_five(key) {
             return false;
         }
-        at += 40;
+        key_at += 40;
         left -= 5;
     }
     left == 0
 }
 
 // Question 12.
-fn check_book(s: &[u8]) -> bool
-    requires { ⌜ Sound (now s) ⌝ }
-    ensures { λ r. ⌜ r ≡ question12 (now (s .entry)) ⌝ }
+fn check_book(store: &[u8]) -> bool
+    requires { ⌜ Sound (now store) ⌝ }
+    ensures { λ r. ⌜ r ≡ question12 (now (store .entry)) ⌝ }
 {
-    let p = partition_count(s);
-    let n = used_count(s, p);
-    let from = key_place(s, p, 0);
-    book_ok(s, from, n)
+    let book = partition_count(store);
+    let used = used_count(store, book);
+    let keys_at = key_place(store, book, 0);
+    book_ok(store, keys_at, used)
 }
 
 // Questions 9 to 12: the first no among them.
-pub fn check_store(s: &[u8]) -> Verdict
-    ensures { λ r. ⌜ r ≡ verdictOf (storeRefusal (now (s .entry))) ⌝ }
+pub fn check_store(store: &[u8]) -> Verdict
+    ensures { λ r. ⌜ r ≡ verdictOf (storeRefusal (now (store .entry))) ⌝ }
 {
-    let v = check_shape(s);
+    let v = check_shape(store);
     match v {
         Verdict::Accepted => {
-            if !check_partitions(s) {
+            if !check_partitions(store) {
                 return questions::refused(11, 0, 0);
             }
-            if !check_book(s) {
+            if !check_book(store) {
                 return questions::refused(12, 0, 0);
             }
             v

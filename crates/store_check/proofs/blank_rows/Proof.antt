@@ -11,12 +11,12 @@ use Rattle.store_check.proofs.blank_rows.Statement.{statement}
 use Rattle.store_check.proofs.blank_rows.Tie as tie
 
 abbrev Inv-loop : tie.InvT-loop
-Inv-loop s C n k v key-from₀ value-from₀ i₀ key-from value-from i =
-    (n ≤ i) × (i ≤ C) × (key-from ≡ k + 8 * i) × (value-from ≡ v + 4 * i)
-    × (eachFrom (blankRow s k v) (C - i) i ≡ eachFrom (blankRow s k v) (C - n) n)
+Inv-loop store cap used keys-at values-at key-at₀ value-at₀ row₀ key-at value-at row =
+    (used ≤ row) × (row ≤ cap) × (key-at ≡ keys-at + 8 * row) × (value-at ≡ values-at + 4 * row)
+    × (eachFrom (blankRow store keys-at values-at) (cap - row) row ≡ eachFrom (blankRow store keys-at values-at) (cap - used) used)
 
 abbrev μ-loop : tie.MeasureT-loop
-μ-loop s C n k v key-from₀ value-from₀ i₀ key-from value-from i = C - i
+μ-loop store cap used keys-at values-at key-at₀ value-at₀ row₀ key-at value-at row = cap - row
 
 pub blank-rows-spec : {M : Type 1} → statement M
 blank-rows-spec =
@@ -32,14 +32,14 @@ blank-rows-spec =
     (λ c κs. omega arith)
     (λ c. let lp = c .before .before .before in
     let a = lp .before .before .args in
-    sym (each-fails (blankRow (a .s .now) (a .k) (a .v)) (a .cap) (lp .loop .i) (c .before .before .loop-test .taken)
+    sym (each-fails (blankRow (a .store .now) (a .keys-at) (a .values-at)) (a .cap) (lp .loop .row) (c .before .before .loop-test .taken)
     (blank-no-key _ _ _ _ _ _ (c .before .read64 .ensures) (lp .loop .inv .2) (c .if1 .taken)))
     ∙ lp .loop .inv .4)
     (λ c κs. omega arith)
     (λ c. let e = c .before .before in
     let lp = e .before .before .before in
     let a = lp .before .before .args in
-    sym (each-fails (blankRow (a .s .now) (a .k) (a .v)) (a .cap) (lp .loop .i) (e .before .before .loop-test .taken)
+    sym (each-fails (blankRow (a .store .now) (a .keys-at) (a .values-at)) (a .cap) (lp .loop .row) (e .before .before .loop-test .taken)
     (blank-no-value _ _ _ _ _ _ (e .before .read64 .ensures) (lp .loop .inv .2) (e .if1 .left) _ _
     (c .before .read32 .ensures) (lp .loop .inv .3) (c .if2 .taken)))
     ∙ lp .loop .inv .4)
@@ -54,11 +54,12 @@ blank-rows-spec =
       omega arith,
       omega arith,
       omega arith,
-      sym (each-more (blankRow (a .s .now) (a .k) (a .v)) (a .cap) (lp .loop .i) (e .before .before .loop-test .taken)
+      sym (each-more (blankRow (a .store .now) (a .keys-at) (a .values-at)) (a .cap) (lp .loop .row) (e .before .before .loop-test .taken)
           (blank-yes _ _ _ _ _ _ (e .before .read64 .ensures) (lp .loop .inv .2) (e .if1 .left) _ _
           (c .before .read32 .ensures) (lp .loop .inv .3) (c .if2 .left)))
           ∙ lp .loop .inv .4,
     ))
     (λ c. let lp = c .before in
     let a = lp .before .before .args in
-    sym (each-none (blankRow (a .s .now) (a .k) (a .v)) (a .cap) (lp .loop .i) (c .loop-test .left)) ∙ lp .loop .inv .4))
+    sym (each-none (blankRow (a .store .now) (a .keys-at) (a .values-at)) (a .cap) (lp .loop .row) (c .loop-test .left))
+    ∙ lp .loop .inv .4))

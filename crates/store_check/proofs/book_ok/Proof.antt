@@ -10,11 +10,12 @@ use Rattle.store_check.proofs.book_ok.Statement.{statement}
 use Rattle.store_check.proofs.book_ok.Tie as tie
 
 abbrev Inv-loop : tie.InvT-loop
-Inv-loop s from n at₀ left₀ at left =
-    (at + 8 * left ≡ from + 8 * n) × (keysOk true (fields 8 s at left) ≡ true) × (bookOk (fields 8 s at left) ≡ bookOk (fields 8 s from n))
+Inv-loop store keys-at used key-at₀ left₀ key-at left =
+    (key-at + 8 * left ≡ keys-at + 8 * used) × (keysOk true (fields 8 store key-at left) ≡ true)
+    × (bookOk (fields 8 store key-at left) ≡ bookOk (fields 8 store keys-at used))
 
 abbrev μ-loop : tie.MeasureT-loop
-μ-loop s from n at₀ left₀ at left = left
+μ-loop store keys-at used key-at₀ left₀ key-at left = left
 
 -- five are left
 more : (c : tie.In-loop Inv-loop μ-loop) → let l = c .before .loop .left in l ≡ suc (suc (suc (suc (suc (l - 5)))))

@@ -19,7 +19,7 @@ check-book-spec =
     (λ c κs. let u = c .before in
     let k = u .before in
     let st = k .before .before in
-    let xs = st .args .s .now in
+    let xs = st .args .store .now in
     let p = k .partition-count .result in
     let l : p ≤ partsOf xs = omega (arith, k .partition-count .ensures) in (
       omega (arith, keys-within xs (st .pre .formed .shape) p l (u .used-count .result) (omega (arith, used-le xs (st .pre .formed) p l))),

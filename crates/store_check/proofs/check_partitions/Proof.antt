@@ -14,19 +14,22 @@ use Rattle.store_check.proofs.check_partitions.Statement.{statement}
 use Rattle.store_check.proofs.check_partitions.Tie as tie
 
 abbrev Inv-loop : tie.InvT-loop
-Inv-loop s parts C p₀ p = (p ≤ parts + 1) × (eachFrom (partOk s) (parts + 1 - p) p ≡ each (parts + 1) (partOk s))
+Inv-loop store parts cap partition₀ partition =
+    (partition ≤ parts + 1) × (eachFrom (partOk store) (parts + 1 - partition) partition ≡ each (parts + 1) (partOk store))
 
 abbrev μ-loop : tie.MeasureT-loop
-μ-loop s parts C p₀ p = parts + 1 - p
+μ-loop store parts cap partition₀ partition = parts + 1 - partition
 
 -- the partition is one of the store's
-low : (c : tie.In-loop Inv-loop μ-loop) → let lp = c .before in lp .loop .p ≤ partsOf (lp .before .before .before .before .args .s .now)
+low : (c : tie.In-loop Inv-loop μ-loop) →
+    let lp = c .before in
+    lp .loop .partition ≤ partsOf (lp .before .before .before .before .args .store .now)
 low c = let h = c .loop-test .taken in omega (arith, c .before .before .before .partition-count .ensures)
 
 -- the answer for the partition, by its places
 answer : (k : tie.After-partition-ok Inv-loop μ-loop) →
     let lp = k .before .before .before .before .before in
-    partOk (lp .before .before .before .before .args .s .now) (lp .loop .p) ≡ k .partition-ok .result
+    partOk (lp .before .before .before .before .args .store .now) (lp .loop .partition) ≡ k .partition-ok .result
 answer k =
     let v = k .before in
     let ca = v .before .before .before .before .before in
@@ -38,11 +41,12 @@ answer k =
 -- the rest answers for all of them, of which there are P + 1
 whole : (lp : tie.At-loop Inv-loop μ-loop) →
     let a = lp .before .before .before .before .args in
-    eachFrom (partOk (a .s .now)) (lp .before .before .partition-count .result + 1 - lp .loop .p) (lp .loop .p) ≡ question11 (a .s .now)
+    eachFrom (partOk (a .store .now)) (lp .before .before .partition-count .result + 1 - lp .loop .partition) (lp .loop .partition)
+    ≡ question11 (a .store .now)
 unfolding question11
 whole lp =
     let a = lp .before .before .before .before .args in
-    lp .loop .inv .1 ∙ ap (λ (n : ℕ). each (n + 1) (partOk (a .s .now))) (lp .before .before .partition-count .ensures)
+    lp .loop .inv .1 ∙ ap (λ (n : ℕ). each (n + 1) (partOk (a .store .now))) (lp .before .before .partition-count .ensures)
 
 pub check-partitions-spec : {M : Type 1} → statement M
 unfolding question11
@@ -55,7 +59,7 @@ check-partitions-spec =
     (λ c κs. search needs)
     (λ c. let pc = c .before in (
       search needs,
-      ap (λ (n : ℕ). eachFrom (partOk (pc .before .before .args .s .now)) n 0) (sub-zero (pc .partition-count .result + 1)),
+      ap (λ (n : ℕ). eachFrom (partOk (pc .before .before .args .store .now)) n 0) (sub-zero (pc .partition-count .result + 1)),
     ))
     (λ c κs. (c .before .before .before .before .before .pre, low c))
     (λ c κs. let l = c .before in (l .before .before .before .before .before .pre, low l, omega arith))
@@ -68,7 +72,7 @@ check-partitions-spec =
     (λ c. let k = c .before in
     let lp = k .before .before .before .before .before in
     let a = lp .before .before .before .before .args in
-    sym (each-fails (partOk (a .s .now)) (lp .before .before .partition-count .result + 1) (lp .loop .p) (omega arith)
+    sym (each-fails (partOk (a .store .now)) (lp .before .before .partition-count .result + 1) (lp .loop .partition) (omega arith)
     (answer k ∙ not-true _ (c .if1 .taken)))
     ∙ whole lp)
     (λ c. omega arith)
@@ -77,10 +81,11 @@ check-partitions-spec =
     let lp = k .before .before .before .before .before in
     let a = lp .before .before .before .before .args in (
       omega arith,
-      sym (each-more (partOk (a .s .now)) (lp .before .before .partition-count .result + 1) (lp .loop .p) (omega arith)
+      sym (each-more (partOk (a .store .now)) (lp .before .before .partition-count .result + 1) (lp .loop .partition) (omega arith)
           (answer k ∙ not-false _ (c .if1 .left)))
           ∙ lp .loop .inv .1,
     ))
     (λ c. let lp = c .before in
     let a = lp .before .before .before .before .args in
-    sym (each-none (partOk (a .s .now)) (lp .before .before .partition-count .result + 1) (lp .loop .p) (omega arith)) ∙ whole lp))
+    sym (each-none (partOk (a .store .now)) (lp .before .before .partition-count .result + 1) (lp .loop .partition) (omega arith))
+    ∙ whole lp))

@@ -12,22 +12,26 @@ use Rattle.store_check.proofs.Asked.{no-9, no-10, shape-yes}
 use Rattle.store_check.proofs.check_shape.Statement.{statement}
 use Rattle.store_check.proofs.check_shape.Tie as tie
 
+-- the beginning, from where P and C are judged
+abbrev start : tie.After-numbers-right → tie.Start
+start n = n .before .before .before .before .before
+
 -- the answer on P and C
 numbers : (n : tie.After-numbers-right) →
-    let xs = n .before .before .before .before .before .args .s .now in
+    let xs = start n .args .store .now in
     numbersRight (partsOf xs) (capOf xs) ≡ n .numbers-right .result
 numbers n =
     ap₂ numbersRight (sym (n .before .before .partition-count .ensures)) (sym (n .before .capacity .ensures))
     ∙ sym (n .numbers-right .ensures)
 
 right : (c : tie.Else2) →
-    let xs = c .before .before .before .before .before .before .args .s .now in
+    let xs = start (c .before) .args .store .now in
     numbersRight (partsOf xs) (capOf xs) ≡ true
 right c = numbers (c .before) ∙ not-false _ (c .if2 .left)
 
 -- the length that was worked out
 size : (z : tie.After-store-size) →
-    let xs = z .before .before .before .before .before .before .before .args .s .now in
+    let xs = start (z .before .before) .args .store .now in
     z .store-size .result ≡ storeLength (partsOf xs) (capOf xs)
 size z =
     let n = z .before .before in
@@ -44,7 +48,7 @@ check-shape-spec =
     (λ c κs. search needs)
     (λ c κs. search needs)
     (λ c. let n = c .before .before in
-    let xs = n .before .before .before .before .before .args .s .now in
+    let xs = start n .args .store .now in
     c .refused2 .ensures
     ∙ ap verdictOf (sym (no-9 xs
     (nine-numbers xs _ (n .before .before .before .if1 .left) (numbers n ∙ not-true _ (c .before .if2 .taken))))))
@@ -55,7 +59,7 @@ check-shape-spec =
     (λ c. let z = c .before .before in
     let e = z .before in
     let n = e .before in
-    let xs = n .before .before .before .before .before .args .s .now in
+    let xs = start n .args .store .now in
     c .refused3 .ensures
     ∙ ap verdictOf (sym (no-10 xs (nine-numbers xs _ (n .before .before .before .if1 .left) (right e))
     (ten-no xs (λ q. c .before .if3 .taken (q ∙ sym (size z)))))))

@@ -7,23 +7,25 @@ use native.Mathlib.Nat.{sub-zero}
 use native.Mathlib.Omega.{arith}
 use borrow.Author.Tests.{not-true, not-false}
 use Rattle.keys.specs.Keys.{isForm}
+use Rattle.keys.proofs.Keys.{form-bound}
 use Rattle.words.specs.Words.{fields}
 use Rattle.store.specs.Questions.{keysOk}
-use Rattle.store_check.proofs.Rising.{rises, rises-all, rises-low, rises-no-form, rises-more, rises-done, form-small}
+use Rattle.store_check.proofs.Rising.{rises, rises-all, rises-low, rises-no-form, rises-more, rises-done}
 use Rattle.store_check.proofs.keys_ok.Statement.{statement}
 use Rattle.store_check.proofs.keys_ok.Tie as tie
 
 abbrev Inv-loop : tie.InvT-loop
-Inv-loop s from n book low₀ at₀ i₀ low at i =
-    (i ≤ n) × (at ≡ from + 8 * i) × (rises book low (fields 8 s at (n - i)) ≡ keysOk book (fields 8 s from n))
+Inv-loop store keys-at used book low₀ key-at₀ row₀ low key-at row =
+    (row ≤ used) × (key-at ≡ keys-at + 8 * row)
+    × (rises book low (fields 8 store key-at (used - row)) ≡ keysOk book (fields 8 store keys-at used))
 
 abbrev μ-loop : tie.MeasureT-loop
-μ-loop s from n book low₀ at₀ i₀ low at i = n - i
+μ-loop store keys-at used book low₀ key-at₀ row₀ low key-at row = used - row
 
 -- one more is left
 more : (c : tie.In-loop Inv-loop μ-loop) →
-    let n = c .before .before .before .args .n in
-    let i = c .before .loop .i in
+    let n = c .before .before .before .args .used in
+    let i = c .before .loop .row in
     n - i ≡ suc (n - (i + 1))
 more c = let h = c .loop-test .taken in omega arith
 
@@ -40,7 +42,7 @@ keys-ok-spec =
     Inv-loop
     μ-loop
     (λ c. let a = c .before .args in
-    rw (sub-zero (a .n)) (omega arith, omega arith, rises-all (a .book) (fields 8 (a .s .now) (a .from) (a .n))))
+    rw (sub-zero (a .used)) (omega arith, omega arith, rises-all (a .book) (fields 8 (a .store .now) (a .keys-at) (a .used))))
     (λ c κs. omega arith)
     (λ c. let r = c .before in
     let lp = r .before .before in
@@ -52,7 +54,7 @@ keys-ok-spec =
     sym (rises-no-form _ (lp .loop .low) _ _ _ _ _ (more (r .before)) (r .read64 .ensures)
     (sym (c .before .of-form .ensures) ∙ not-true _ (c .if2 .taken)))
     ∙ lp .loop .inv .2)
-    (λ c. omega (arith, form-small _ _ (is-form c)))
+    (λ c. omega (arith, form-bound _ _ (is-form c)))
     (λ c. omega arith)
     (λ c. omega arith)
     (λ c. omega arith)
@@ -64,4 +66,5 @@ keys-ok-spec =
     ))
     (λ c. let lp = c .before in
     let a = lp .before .before .args in
-    sym (rises-done (a .book) (lp .loop .low) (a .s .now) (lp .loop .at) (a .n - lp .loop .i) (omega arith)) ∙ lp .loop .inv .2))
+    sym (rises-done (a .book) (lp .loop .low) (a .store .now) (lp .loop .key-at) (a .used - lp .loop .row) (omega arith))
+    ∙ lp .loop .inv .2))

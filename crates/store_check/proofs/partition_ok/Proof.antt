@@ -11,11 +11,13 @@ use Rattle.store_check.proofs.partition_ok.Statement.{statement}
 use Rattle.store_check.proofs.partition_ok.Tie as tie
 
 -- the used rows fit, and the unused ones are zero
-fine : (e : tie.Else1) → let a = e .before .before .before .args in filled (a .s .now) (a .cap) (a .n) (a .k) (a .v) ≡ true
+fine : (e : tie.Else1) →
+    let a = e .before .before .before .args in
+    filled (a .store .now) (a .cap) (a .used) (a .keys-at) (a .values-at) ≡ true
 fine e = sym (e .before .filled .ensures) ∙ not-false _ (e .if1 .left)
 
-fits : (e : tie.Else1) → let a = e .before .before .before .args in a .n ≤ a .cap
-fits e = let a = e .before .before .before .args in filled-fits (a .s .now) (a .cap) (a .n) (a .k) (a .v) (fine e)
+fits : (e : tie.Else1) → let a = e .before .before .before .args in a .used ≤ a .cap
+fits e = let a = e .before .before .before .args in filled-fits (a .store .now) (a .cap) (a .used) (a .keys-at) (a .values-at) (fine e)
 
 pub partition-ok-spec : {M : Type 1} → statement M
 partition-ok-spec =

@@ -16,24 +16,26 @@ use Rattle.store_check.proofs.any_order.book_whole.Tie as tie
 
 -- the id of a key has all five rows
 abbrev whole : List ℕ → ℕ → ℕ → ℕ → Bool
-whole s from n k = five (fields 8 s from n) (bookedId k)
+whole store keys-at used key = five (fields 8 store keys-at used) (bookedId key)
 
 abbrev Inv-loop : tie.InvT-loop
-Inv-loop s from n at₀ i₀ at i =
-    (i ≤ n) × (at ≡ from + 8 * i)
-    × (allIn (whole s from n) (fields 8 s from n) ≡ allIn (whole s from n) (fields 8 s at (n - i)))
+Inv-loop store keys-at used key-at₀ row₀ key-at row =
+    (row ≤ used) × (key-at ≡ keys-at + 8 * row)
+    × (allIn (whole store keys-at used) (fields 8 store keys-at used) ≡ allIn (whole store keys-at used)
+    (fields 8 store key-at (used - row)))
 
 abbrev μ-loop : tie.MeasureT-loop
-μ-loop s from n at₀ i₀ at i = n - i
+μ-loop store keys-at used key-at₀ row₀ key-at row = used - row
 
 -- the answer for the key that was read
 answer : (f : tie.After-five-rows Inv-loop μ-loop) →
     let lp = f .before .before .before .before .before in
     let a = lp .before .before .args in
-    whole (a .s .now) (a .from) (a .n) (le 8 (a .s .now) (lp .loop .at)) ≡ f .five-rows .result
+    whole (a .store .now) (a .keys-at) (a .used) (le 8 (a .store .now) (lp .loop .key-at)) ≡ f .five-rows .result
 answer f =
-    let a = f .before .before .before .before .before .before .before .args in
-    ap (whole (a .s .now) (a .from) (a .n)) (sym (f .before .before .before .read64 .ensures)) ∙ sym (f .five-rows .ensures)
+    let lp = f .before .before .before .before .before in
+    let a = lp .before .before .args in
+    ap (whole (a .store .now) (a .keys-at) (a .used)) (sym (f .before .before .before .read64 .ensures)) ∙ sym (f .five-rows .ensures)
 
 pub book-whole-spec : {M : Type 1} → statement M
 unfolding bookOk
@@ -43,7 +45,7 @@ book-whole-spec =
     Inv-loop
     μ-loop
     (λ c. let a = c .before .args in
-    let e : a .n - 0 ≡ a .n = sub-zero (a .n) in
+    let e : a .used - 0 ≡ a .used = sub-zero (a .used) in
     rw e (search needs, omega arith, refl))
     (λ c κs. omega arith)
     (λ c κs. search needs)
@@ -53,7 +55,8 @@ book-whole-spec =
     let lp = f .before .before .before .before .before in
     let a = lp .before .before .args in
     sym (lp .loop .inv .2
-    ∙ all-step (whole (a .s .now) (a .from) (a .n)) (a .s .now) (lp .loop .at) (a .n - lp .loop .i) (a .n - (lp .loop .i + 1)) (omega arith)
+    ∙ all-step (whole (a .store .now) (a .keys-at) (a .used)) (a .store .now) (lp .loop .key-at) (a .used - lp .loop .row)
+    (a .used - (lp .loop .row + 1)) (omega arith)
     ∙ rw (answer f, not-true (f .five-rows .result) (c .if1 .taken)) refl))
     (λ c. omega arith)
     (λ c. omega arith)
@@ -64,10 +67,12 @@ book-whole-spec =
       omega arith,
       omega arith,
       lp .loop .inv .2
-          ∙ all-step (whole (a .s .now) (a .from) (a .n)) (a .s .now) (lp .loop .at) (a .n - lp .loop .i) (a .n - (lp .loop .i + 1))
+          ∙ all-step (whole (a .store .now) (a .keys-at) (a .used)) (a .store .now) (lp .loop .key-at) (a .used - lp .loop .row)
+          (a .used - (lp .loop .row + 1))
           (omega arith)
           ∙ rw (answer f, not-false (f .five-rows .result) (c .if1 .left)) refl,
     ))
     (λ c. let lp = c .before in
     let a = lp .before .before .args in
-    sym (lp .loop .inv .2 ∙ all-done (whole (a .s .now) (a .from) (a .n)) (a .s .now) (lp .loop .at) (a .n - lp .loop .i) (omega arith))))
+    sym (lp .loop .inv .2 ∙ all-done (whole (a .store .now) (a .keys-at) (a .used)) (a .store .now) (lp .loop .key-at)
+    (a .used - lp .loop .row) (omega arith))))

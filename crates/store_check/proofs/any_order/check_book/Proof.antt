@@ -18,7 +18,7 @@ check-book-spec =
     (λ c κs. search needs)
     (λ c κs. let k = c .before .before in
     let st = k .before .before in
-    let xs = st .args .s .now in
+    let xs = st .args .store .now in
     let l : k .partition-count .result ≤ partsOf xs = omega (arith, k .partition-count .ensures) in
     omega (
       arith,

@@ -15,23 +15,30 @@ use Rattle.store_check.proofs.any_order.check_each.Statement.{statement
 use Rattle.store_check.proofs.any_order.check_each.Tie as tie
 
 abbrev Inv-loop : tie.InvT-loop
-Inv-loop s marks₀ parts C p₀ marks p =
-    (p ≤ parts + 1) × (length marks ≡ length marks₀)
-    × (eachFrom (partOkBy keysApart s) (parts + 1 - p) p ≡ each (parts + 1) (partOkBy keysApart s))
+Inv-loop store marks₀ parts cap partition₀ marks partition =
+    (partition ≤ parts + 1) × (length marks ≡ length marks₀)
+    × (eachFrom (partOkBy keysApart store) (parts + 1 - partition) partition ≡ each (parts + 1) (partOkBy keysApart store))
 
 abbrev μ-loop : tie.MeasureT-loop
-μ-loop s marks₀ parts C p₀ marks p = parts + 1 - p
+μ-loop store marks₀ parts cap partition₀ marks partition = parts + 1 - partition
+
+-- the beginning, from the loop; and the loop, from where a partition's answer is in hand
+abbrev start : tie.At-loop Inv-loop μ-loop → tie.Start Inv-loop μ-loop
+start lp = lp .before .before .before .before .before
+
+abbrev turn : tie.After-partition-apart Inv-loop μ-loop → tie.At-loop Inv-loop μ-loop
+turn k = k .before .before .before .before .before .before
 
 -- the partition is one of the store's
 low : (c : tie.In-loop Inv-loop μ-loop) →
     let lp = c .before in
-    lp .loop .p ≤ partsOf (lp .before .before .before .before .before .args .s .now)
+    lp .loop .partition ≤ partsOf (start lp .args .store .now)
 low c = let h = c .loop-test .taken in omega (arith, c .before .before .before .partition-count .ensures)
 
 -- the answer for the partition, by its places
 answer : (k : tie.After-partition-apart Inv-loop μ-loop) →
-    let lp = k .before .before .before .before .before .before in
-    partOkBy keysApart (lp .before .before .before .before .before .args .s .now) (lp .loop .p) ≡ k .partition-apart .result
+    let lp = turn k in
+    partOkBy keysApart (start lp .args .store .now) (lp .loop .partition) ≡ k .partition-apart .result
 answer k =
     let v = k .before .before in
     let ca = v .before .before .before .before .before in
@@ -42,13 +49,14 @@ answer k =
 
 -- the rest answers for all of them, of which there are P + 1
 whole : (lp : tie.At-loop Inv-loop μ-loop) →
-    let a = lp .before .before .before .before .before .args in
-    eachFrom (partOkBy keysApart (a .s .now)) (lp .before .before .partition-count .result + 1 - lp .loop .p) (lp .loop .p)
-    ≡ question11InAnyOrder (a .s .now)
+    let a = start lp .args in
+    eachFrom (partOkBy keysApart (a .store .now)) (lp .before .before .partition-count .result + 1 - lp .loop .partition)
+    (lp .loop .partition)
+    ≡ question11InAnyOrder (a .store .now)
 unfolding question11InAnyOrder
 whole lp =
-    let a = lp .before .before .before .before .before .args in
-    lp .loop .inv .2 ∙ ap (λ (n : ℕ). each (n + 1) (partOkBy keysApart (a .s .now))) (lp .before .before .partition-count .ensures)
+    let a = start lp .args in
+    lp .loop .inv .2 ∙ ap (λ (n : ℕ). each (n + 1) (partOkBy keysApart (a .store .now))) (lp .before .before .partition-count .ensures)
 
 pub check-each-spec : {M : Type 1} → statement M
 unfolding question11InAnyOrder
@@ -61,13 +69,13 @@ check-each-spec =
     (λ c κs. search needs)
     (λ c. let pc = c .before in
     let a = pc .before .before .before .args in
-    (search needs, refl, ap (λ (n : ℕ). eachFrom (partOkBy keysApart (a .s .now)) n 0) (sub-zero (pc .partition-count .result + 1))))
-    (λ c κs. (c .before .before .before .before .before .before .pre .0, low c))
-    (λ c κs. let l = c .before in (l .before .before .before .before .before .before .pre .0, low l, omega arith))
-    (λ c κs. let l = c .before .before in (l .before .before .before .before .before .before .pre .0, low l, omega arith))
+    (search needs, refl, ap (λ (n : ℕ). eachFrom (partOkBy keysApart (a .store .now)) n 0) (sub-zero (pc .partition-count .result + 1))))
+    (λ c κs. (start (c .before) .pre .0, low c))
+    (λ c κs. let l = c .before in (start (l .before) .pre .0, low l, omega arith))
+    (λ c κs. let l = c .before .before in (start (l .before) .pre .0, low l, omega arith))
     (λ c. omega arith)
     (λ c. let l = c .before .before .before .before in
-    let st = l .before .before .before .before .before .before in
+    let st = start (l .before) in
     omega (arith, low l, st .pre .0 .parts-high))
     (λ c κs. let v = c .before in
     let u = v .before .before in
@@ -80,24 +88,25 @@ check-each-spec =
     (w .0, w .1, omega arith))
     (λ c. search needs)
     (λ c. let k = c .before .before .before in
-    let lp = k .before .before .before .before .before .before in
-    let a = lp .before .before .before .before .before .args in
-    sym (each-fails (partOkBy keysApart (a .s .now)) (lp .before .before .partition-count .result + 1) (lp .loop .p) (omega arith)
-    (answer k ∙ not-true _ (c .if1 .taken)))
+    let lp = turn k in
+    let a = start lp .args in
+    sym (each-fails (partOkBy keysApart (a .store .now)) (lp .before .before .partition-count .result + 1) (lp .loop .partition)
+    (omega arith) (answer k ∙ not-true _ (c .if1 .taken)))
     ∙ whole lp)
     (λ c. omega arith)
     (λ c. omega arith)
     (λ c. let k = c .before .before .before in
-    let lp = k .before .before .before .before .before .before in
-    let a = lp .before .before .before .before .before .args in (
+    let lp = turn k in
+    let a = start lp .args in (
       omega arith,
       k .partition-apart .kept .1 .1 .1 .1 .1 .1 .0 ∙ lp .loop .inv .1,
-      sym (each-more (partOkBy keysApart (a .s .now)) (lp .before .before .partition-count .result + 1) (lp .loop .p) (omega arith)
-          (answer k ∙ not-false _ (c .if1 .left)))
+      sym (each-more (partOkBy keysApart (a .store .now)) (lp .before .before .partition-count .result + 1) (lp .loop .partition)
+          (omega arith) (answer k ∙ not-false _ (c .if1 .left)))
           ∙ lp .loop .inv .2,
     ))
     (λ c. search needs)
     (λ c. let lp = c .before in
-    let a = lp .before .before .before .before .before .args in
-    sym (each-none (partOkBy keysApart (a .s .now)) (lp .before .before .partition-count .result + 1) (lp .loop .p) (omega arith))
+    let a = start lp .args in
+    sym (each-none (partOkBy keysApart (a .store .now)) (lp .before .before .partition-count .result + 1) (lp .loop .partition)
+    (omega arith))
     ∙ whole lp))

@@ -14,24 +14,25 @@ use Rattle.store.specs.Questions.{member, five}
 use Rattle.store_check.proofs.any_order.five_rows.Statement.{statement}
 use Rattle.store_check.proofs.any_order.five_rows.Tie as tie
 
--- row j of the key's id is there
+-- a row of the key's id is there
 abbrev booked : List ℕ → ℕ → ℕ → ℕ → ℕ → Bool
-booked s from n key j = member (bookKey (bookedId key) j) (fields 8 s from n)
+booked store keys-at used key row = member (bookKey (bookedId key) row) (fields 8 store keys-at used)
 
 abbrev Inv-loop : tie.InvT-loop
-Inv-loop s from n first key j₀ j = (j ≤ 5) × (eachFrom (booked s from n key) (5 - j) j ≡ each 5 (booked s from n key))
+Inv-loop store keys-at used first key row₀ row =
+    (row ≤ 5) × (eachFrom (booked store keys-at used key) (5 - row) row ≡ each 5 (booked store keys-at used key))
 
 abbrev μ-loop : tie.MeasureT-loop
-μ-loop s from n first key j₀ j = 5 - j
+μ-loop store keys-at used first key row₀ row = 5 - row
 
 -- the answer for the key that was asked for
 answer : (h : tie.After-has Inv-loop μ-loop) →
     let lp = h .before .before .before in
     let a = lp .before .before .args in
-    booked (a .s .now) (a .from) (a .n) (a .key) (lp .loop .j) ≡ h .has .result
+    booked (a .store .now) (a .keys-at) (a .used) (a .key) (lp .loop .row) ≡ h .has .result
 answer h =
     let a = h .before .before .before .before .before .args in
-    ap (λ (k : ℕ). member k (fields 8 (a .s .now) (a .from) (a .n))) (sym (h .before .beside .ensures)) ∙ sym (h .has .ensures)
+    ap (λ (k : ℕ). member k (fields 8 (a .store .now) (a .keys-at) (a .used))) (sym (h .before .beside .ensures)) ∙ sym (h .has .ensures)
 
 pub five-rows-spec : {M : Type 1} → statement M
 unfolding five
@@ -47,7 +48,8 @@ five-rows-spec =
     (λ c. let h = c .before in
     let lp = h .before .before .before in
     let a = lp .before .before .args in
-    sym (each-fails (booked (a .s .now) (a .from) (a .n) (a .key)) 5 (lp .loop .j) (omega arith) (answer h ∙ not-true _ (c .if1 .taken)))
+    sym (each-fails (booked (a .store .now) (a .keys-at) (a .used) (a .key)) 5 (lp .loop .row) (omega arith)
+    (answer h ∙ not-true _ (c .if1 .taken)))
     ∙ lp .loop .inv .1)
     (λ c. omega arith)
     (λ c. omega arith)
@@ -55,9 +57,10 @@ five-rows-spec =
     let lp = h .before .before .before in
     let a = lp .before .before .args in (
       omega arith,
-      sym (each-more (booked (a .s .now) (a .from) (a .n) (a .key)) 5 (lp .loop .j) (omega arith) (answer h ∙ not-false _ (c .if1 .left)))
+      sym (each-more (booked (a .store .now) (a .keys-at) (a .used) (a .key)) 5 (lp .loop .row) (omega arith)
+          (answer h ∙ not-false _ (c .if1 .left)))
           ∙ lp .loop .inv .1,
     ))
     (λ c. let lp = c .before in
     let a = lp .before .before .args in
-    sym (each-none (booked (a .s .now) (a .from) (a .n) (a .key)) 5 (lp .loop .j) (omega arith)) ∙ lp .loop .inv .1))
+    sym (each-none (booked (a .store .now) (a .keys-at) (a .used) (a .key)) 5 (lp .loop .row) (omega arith)) ∙ lp .loop .inv .1))

@@ -18,9 +18,9 @@ has-spec =
     (λ c κs. search needs)
     (λ c. let t = c .before .before in
     let a = t .before .before .args in
-    sym (member-at (a .key) (a .s .now) (a .from) (a .n) (a .near) _ (t .if1 .taken) refl
+    sym (member-at (a .key) (a .store .now) (a .keys-at) (a .used) (a .near) _ (t .if1 .taken) refl
     (sym (c .before .read64 .ensures) ∙ c .if2 .taken)))
     (λ c κs. search needs)
     (λ c. let a = c .before .before .before .args in
-    rw (member-place (a .key) (fields 8 (a .s .now) (a .from) (a .n)), length-fields 8 (a .s .now) (a .from) (a .n))
-    (ap (λ (i : ℕ). ltb i (a .n)) (c .index-of .ensures))))
+    rw (member-place (a .key) (fields 8 (a .store .now) (a .keys-at) (a .used)), length-fields 8 (a .store .now) (a .keys-at) (a .used))
+    (ap (λ (i : ℕ). ltb i (a .used)) (c .index-of .ensures))))

@@ -1,5 +1,5 @@
--- `store_check::any_order::index_of` meets its contract. The loop: the place among all the keys is i and the place among those still to be
--- read.
+-- `store_check::any_order::index_of` meets its contract. The loop: the place among all the keys is `place` and the place among those
+-- still to be read.
 use borrow.Author.Needs.{needs}
 use mathlib.Core.Path.{_≡_, sym, ap, _∙_}
 use Prim.Native.Nat.{ℕ, _+_, _*_, _-_, _≤_}
@@ -12,11 +12,12 @@ use Rattle.store_check.proofs.any_order.index_of.Statement.{statement}
 use Rattle.store_check.proofs.any_order.index_of.Tie as tie
 
 abbrev Inv-loop : tie.InvT-loop
-Inv-loop s from n key at₀ i₀ at i =
-    (i ≤ n) × (at ≡ from + 8 * i) × (indexOf key (fields 8 s from n) ≡ i + indexOf key (fields 8 s at (n - i)))
+Inv-loop store keys-at count key key-at₀ place₀ key-at place =
+    (place ≤ count) × (key-at ≡ keys-at + 8 * place)
+    × (indexOf key (fields 8 store keys-at count) ≡ place + indexOf key (fields 8 store key-at (count - place)))
 
 abbrev μ-loop : tie.MeasureT-loop
-μ-loop s from n key at₀ i₀ at i = n - i
+μ-loop store keys-at count key key-at₀ place₀ key-at place = count - place
 
 pub index-of-spec : {M : Type 1} → statement M
 index-of-spec =
@@ -24,14 +25,21 @@ index-of-spec =
     (tie.spec
     Inv-loop
     μ-loop
-    (λ c. let a = c .before .args in
-    (search needs, omega arith, omega (arith, ap (λ (m : ℕ). indexOf (a .key) (fields 8 (a .s .now) (a .from) m)) (sub-zero (a .n)))))
+    (λ c. let a = c .before .args in (
+      search needs,
+      omega arith,
+      omega (
+        arith,
+        ap (λ (m : ℕ). indexOf (a .key) (fields 8 (a .store .now) (a .keys-at) m))
+            (sub-zero (a .count)),
+      ),
+    ))
     (λ c κs. omega arith)
     (λ c. let lp = c .before .before .before in
     let a = lp .before .before .args in
     omega (
       arith,
-      index-hit (a .key) 8 (a .s .now) (lp .loop .at) (a .n - lp .loop .i) (a .n - (lp .loop .i + 1)) (omega arith)
+      index-hit (a .key) 8 (a .store .now) (lp .loop .key-at) (a .count - lp .loop .place) (a .count - (lp .loop .place + 1)) (omega arith)
           (sym (c .before .read64 .ensures) ∙ c .if1 .taken),
     ))
     (λ c. omega arith)
@@ -43,10 +51,11 @@ index-of-spec =
       omega arith,
       omega (
         arith,
-        index-miss (a .key) 8 (a .s .now) (lp .loop .at) (a .n - lp .loop .i) (a .n - (lp .loop .i + 1)) (omega arith)
+        index-miss (a .key) 8 (a .store .now) (lp .loop .key-at) (a .count - lp .loop .place) (a .count - (lp .loop .place + 1))
+            (omega arith)
             (λ e. c .if1 .left (c .before .read64 .ensures ∙ e)),
       ),
     ))
     (λ c. let lp = c .before in
     let a = lp .before .before .args in
-    omega (arith, index-none (a .key) 8 (a .s .now) (lp .loop .at) (a .n - lp .loop .i) (omega arith))))
+    omega (arith, index-none (a .key) 8 (a .store .now) (lp .loop .key-at) (a .count - lp .loop .place) (omega arith))))

@@ -17,8 +17,8 @@ seen-spec =
     (λ c. search needs)
     (λ c. let st = c .before .before .before .before in
     let a = st .args in
-    sym (unmarked (a .marks .now) (a .mark) (a .key) (fields 8 (a .s .now) (a .at) (a .left)) (st .pre .1) (c .if1 .taken)))
+    sym (unmarked (a .marks .now) (a .mark) (a .key) (fields 8 (a .store .now) (a .keys-at) (a .left)) (st .pre .1) (c .if1 .taken)))
     (λ c κs. search needs)
     (λ c. let a = c .before .before .before .before .before .args in
-    rw (member-place (a .key) (fields 8 (a .s .now) (a .at) (a .left)), length-fields 8 (a .s .now) (a .at) (a .left))
+    rw (member-place (a .key) (fields 8 (a .store .now) (a .keys-at) (a .left)), length-fields 8 (a .store .now) (a .keys-at) (a .left))
     (ap (λ (i : ℕ). ltb i (a .left)) (c .index-of .ensures))))
