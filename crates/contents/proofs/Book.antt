@@ -21,7 +21,7 @@ module _ (o : Option ℕ) (g : Got) (p : g ≡ gotOf o) where
       go none e = absurd (let z : _≡_ {A = ℕ} 0 1 = cc in omega arith)
       go (some v) e = let r : v ≡ w = cc in ap some r
 
-  pub got-none : g ≡ Absent → o ≡ none
+  got-none : g ≡ Absent → o ≡ none
   unfolding gotOf
   got-none q = go o p
     where
@@ -35,7 +35,7 @@ module _ (o : Option ℕ) (g : Got) (p : g ≡ gotOf o) where
   pub got-zero : g ≡ Absent → 0 ≡ Option·getD o 0
   got-zero q = ap (λ (x : Option ℕ). Option·getD x 0) (sym (got-none q))
 
--- what the book has of an id, by its row j = 0
+-- what the book has of an id, by its row 0
 pub book-row : (rows : List Row) (id : ℕ) → id < 2 ^ 32 →
     bookOf (valueIn rows) id ≡ requestOf (lookup (bookKey id 0) rows) (argumentsOf (valueIn rows) id)
 unfolding bookOf

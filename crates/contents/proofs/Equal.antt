@@ -4,20 +4,21 @@ use mathlib.Core.Bool.{Bool, true, false}
 use mathlib.Core.List.{List}
 use mathlib.Core.Option.{Option, none, some, Option·getD, Option·some-injective}
 use mathlib.Core.Path.{_≡_, refl, sym, ap, subst, _∙_, fun-ext}
-use Prim.Native.Nat.{ℕ, zero, suc, _+_, _-_, _/_, _%_, _^_, _≤_, _<_}
+use Prim.Native.Nat.{ℕ, zero, suc, _^_, _≤_, _<_}
 use native.Mathlib.Omega.{arith}
 use native.Mathlib.Decide.{decLt, ℕ-discrete}
-use borrow.Author.Tests.{lt-ltb, eq-eqb, ne-eqb, ltb-true, leb-true}
-use lib.Dec.{eqb, ltb, leb}
+use borrow.Author.Tests.{lt-ltb, eq-eqb, ne-eqb}
+use lib.Dec.{eqb, ltb}
 use lib.ListN.{length, getD}
 use Rattle.contents.specs.Wrote.{Wrote}
 use Rattle.contents.specs.Contents.{valueIn, argumentsOf, requestOf, bookOf, contentsOf}
 use Rattle.questions.specs.Basics.{if_then_else_, isSome}
-use Rattle.keys.specs.Keys.{bookKey, isDataKey, isLogKey, isBookKey, tableOf, logOf, isForm}
+use Rattle.keys.specs.Keys.{isDataKey, dataOf, isLogKey, idOf, stepOf, bookKey, isBookKey, bookedId, bookRow, tableOf, logOf}
 use Rattle.keys.specs.Keys as Keys
+use Rattle.keys.proofs.Keys.{data-said, log-said, book-again}
 use Rattle.rules.specs.Store.{Request}
 use Rattle.rules.specs.Store as Rules
-use Rattle.questions.proofs.Tests.{no-yes, and-left, and-right}
+use Rattle.questions.proofs.Tests.{no-yes}
 use Rattle.questions.proofs.Updates.{none-some}
 use Rattle.store.specs.Layout.{AllBytes, partsOf}
 use Rattle.store.specs.Ordered.{InOrder}
@@ -32,22 +33,6 @@ use Rattle.store.proofs.Order.{member-is}
 use Rattle.store.proofs.Equal.{same-rows, equal-bytes}
 use Rattle.contents.specs.Equal.{EqualContents}
 
--- ---- what the contents say of each key
-
-module _ (rows : List Row) (k : ℕ) where
-  data-said : isDataKey k ≡ true → tableOf (valueIn rows) (k - 2 ^ 63) ≡ lookup k rows
-  unfolding Keys.isDataKey
-  data-said e =
-      let l = leb-true (2 ^ 63) k (and-left (leb (2 ^ 63) k) _ e) in
-      let h = ltb-true k (2 ^ 63 + 2 ^ 32) (and-right (leb (2 ^ 63) k) _ e) in
-      rw (lt-ltb (k - 2 ^ 63) (2 ^ 32) (omega arith)) (ap (λ (j : ℕ). lookup j rows) (omega arith))
-
-  log-said : isLogKey k ≡ true → logOf (valueIn rows) (k / 65536) (k % 65536) ≡ lookup k rows
-  unfolding Keys.isLogKey
-  log-said e =
-      let h = ltb-true k (2 ^ 48) e in
-      rw (lt-ltb (k / 65536) (2 ^ 32) (omega arith), lt-ltb (k % 65536) 65536 (omega arith)) (ap (λ (j : ℕ). lookup j rows) (omega arith))
-
 -- two partitions that mean the same
 same-part : (rs qs : List Row) → keysApart false (keysIn rs) ≡ true → keysApart false (keysIn qs) ≡ true
     → ((k : ℕ) → tableOf (valueIn rs) k ≡ tableOf (valueIn qs) k) → ((id t : ℕ) → logOf (valueIn rs) id t ≡ logOf (valueIn qs) id t) →
@@ -56,8 +41,8 @@ unfolding Keys.isForm
 same-part rs qs a b d l k = go (isDataKey k) refl (isLogKey k) refl
   where
     go : (x : Bool) → isDataKey k ≡ x → (y : Bool) → isLogKey k ≡ y → lookup k rs ≡ lookup k qs
-    go true e y f = sym (data-said rs k e) ∙ d (k - 2 ^ 63) ∙ data-said qs k e
-    go false e true f = sym (log-said rs k f) ∙ l (k / 65536) (k % 65536) ∙ log-said qs k f
+    go true e y f = sym (data-said (valueIn rs) k e) ∙ d (dataOf k) ∙ data-said (valueIn qs) k e
+    go false e true f = sym (log-said (valueIn rs) k f) ∙ l (idOf k) (stepOf k) ∙ log-said (valueIn qs) k f
     go false e false f = no-form false k rs (apart-forms false _ a) (rw (e, f) refl)
         ∙ sym (no-form false k qs (apart-forms false _ b) (rw (e, f) refl))
 
@@ -70,20 +55,20 @@ some-same (some v) (some v′) a b e = ap some e
 
 module _ (rows : List Row) (whole : bookOk (keysIn rows) ≡ true) (id : ℕ) where
   -- an id whose first row is missing has none
-  none-booked : (k : ℕ) → k / 8 ≡ id → lookup (bookKey id 0) rows ≡ none → lookup k rows ≡ none
+  none-booked : (k : ℕ) → bookedId k ≡ id → lookup (bookKey id 0) rows ≡ none → lookup k rows ≡ none
   none-booked k e z = go (lookup k rows) refl
     where
       go : (o : Option ℕ) → lookup k rows ≡ o → lookup k rows ≡ none
       go none f = f
       go (some v) f =
-          let m : member (bookKey (k / 8) 0) (keysIn rows) ≡ true =
+          let m : member (bookKey (bookedId k) 0) (keysIn rows) ≡ true =
           book-five (keysIn rows) k 0 whole (member-is k rows ∙ ap isSome f) (omega arith) in
           no-yes (sym (ap isSome z) ∙ sym (member-is (bookKey id 0) rows) ∙ ap (λ (i : ℕ). member (bookKey i 0) (keysIn rows)) (sym e) ∙ m)
 
   -- and one whose first row is there has all five
   all-booked : (w : ℕ) → lookup (bookKey id 0) rows ≡ some w → (j : ℕ) → j < 5 → isSome (lookup (bookKey id j) rows) ≡ true
   all-booked w f j h =
-      let e : bookKey id 0 / 8 ≡ id = omega arith in
+      let e : bookedId (bookKey id 0) ≡ id = omega arith in
       sym (member-is (bookKey id j) rows) ∙ ap (λ (i : ℕ). member (bookKey i j) (keysIn rows)) (sym e)
       ∙ book-five (keysIn rows) (bookKey id 0) j whole (member-is (bookKey id 0) rows ∙ ap isSome f) h
 
@@ -107,30 +92,28 @@ module _ (rs qs : List Row) (a : keysApart true (keysIn rs) ≡ true) (b : keysA
       some-same _ _ (all-booked rs c id w f 4 (omega arith)) (all-booked qs d id w′ g 4 (omega arith)) (ap (λ (x : List ℕ). getD x 3 0) l)
   by-row id w w′ f g e l (suc (suc (suc (suc (suc j))))) z = absurd (omega arith)
 
-  by-first : (k : ℕ) → k % 8 ≤ 4 → (o o′ : Option ℕ) → lookup (bookKey (k / 8) 0) rs ≡ o → lookup (bookKey (k / 8) 0) qs ≡ o′
-      → requestOf o (argumentsOf (valueIn rs) (k / 8)) ≡ requestOf o′ (argumentsOf (valueIn qs) (k / 8)) → Same k
+  by-first : (k : ℕ) → bookRow k ≤ 4 → bookKey (bookedId k) (bookRow k) ≡ k → (o o′ : Option ℕ) →
+      lookup (bookKey (bookedId k) 0) rs ≡ o → lookup (bookKey (bookedId k) 0) qs ≡ o′ → requestOf o
+      (argumentsOf (valueIn rs) (bookedId k)) ≡ requestOf o′ (argumentsOf (valueIn qs) (bookedId k)) → Same k
   unfolding requestOf
-  by-first k z none none f g e = none-booked rs c (k / 8) k refl f ∙ sym (none-booked qs d (k / 8) k refl g)
-  by-first k z none (some w′) f g e = none-some (record { workflow = w′; arguments = argumentsOf (valueIn qs) (k / 8) }) refl e
-  by-first k z (some w) none f g e = none-some (record { workflow = w; arguments = argumentsOf (valueIn rs) (k / 8) }) refl (sym e)
-  by-first k z (some w) (some w′) f g e =
-      let r = Option·some-injective (record { workflow = w; arguments = argumentsOf (valueIn rs) (k / 8) })
-      (record { workflow = w′; arguments = argumentsOf (valueIn qs) (k / 8) }) e in
-      let is : bookKey (k / 8) (k % 8) ≡ k = omega arith in
-      subst Same is (by-row (k / 8) w w′ f g (ap (λ (x : Request). x .workflow) r) (ap (λ (x : Request). x .arguments) r) (k % 8) z)
+  by-first k z is none none f g e = none-booked rs c (bookedId k) k refl f ∙ sym (none-booked qs d (bookedId k) k refl g)
+  by-first k z is none (some w′) f g e = none-some (record { workflow = w′; arguments = argumentsOf (valueIn qs) (bookedId k) }) refl e
+  by-first k z is (some w) none f g e = none-some (record { workflow = w; arguments = argumentsOf (valueIn rs) (bookedId k) }) refl (sym e)
+  by-first k z is (some w) (some w′) f g e =
+      let r = Option·some-injective (record { workflow = w; arguments = argumentsOf (valueIn rs) (bookedId k) })
+      (record { workflow = w′; arguments = argumentsOf (valueIn qs) (bookedId k) }) e in
+      subst Same is (by-row (bookedId k) w w′ f g (ap (λ (x : Request). x .workflow) r) (ap (λ (x : Request). x .arguments) r) (bookRow k)
+      z)
 
   same-book : (k : ℕ) → Same k
   unfolding Keys.isForm
   same-book k = go (isBookKey k) refl
     where
       go : (x : Bool) → isBookKey k ≡ x → Same k
-      go true e = with-key (unfold Keys.isBookKey in
-          (ltb-true k (2 ^ 35) (and-left (ltb k (2 ^ 35)) _ e), leb-true (k % 8) 4 (and-right (ltb k (2 ^ 35)) _ e)))
-        where
-          with-key : (k < 2 ^ 35) × (k % 8 ≤ 4) → Same k
-          with-key l =
-              by-first k (l .1) (lookup (bookKey (k / 8) 0) rs) (lookup (bookKey (k / 8) 0) qs) refl refl
-              (unfold bookOf in rw (lt-ltb (k / 8) (2 ^ 32) (omega (arith, l .0))) at (h (k / 8)))
+      go true e =
+          let l = book-again k e in
+          by-first k (l .1) (l .2) (lookup (bookKey (bookedId k) 0) rs) (lookup (bookKey (bookedId k) 0) qs) refl refl
+          (unfold bookOf in rw (lt-ltb (bookedId k) (2 ^ 32) (l .0)) at (h (bookedId k)))
       go false e = no-form true k rs (apart-forms true _ a) e ∙ sym (no-form true k qs (apart-forms true _ b) e)
 
 -- ---- whole stores

@@ -15,7 +15,7 @@ use Rattle.store.specs.Layout.{partsOf}
 abbrev pub valueIn : List Row → (stored : ℕ) → Option ℕ
 valueIn rows stored = lookup stored rows
 
--- The arguments that the book has of an id: its rows j = 1 to 4. (By question 12 they are there, and 0 is never taken for one.)
+-- The arguments that the book has of an id: its rows 1 to 4. (By question 12 they are there, and 0 is never taken for one.)
 abbrev pub argumentsOf : ((stored : ℕ) → Option ℕ) → (id : ℕ) → List ℕ
 argumentsOf f id =
     Option·getD (f (bookKey id 1)) 0
@@ -24,7 +24,7 @@ argumentsOf f id =
     ∷ Option·getD (f (bookKey id 4)) 0
     ∷ []
 
--- a request, by its row j = 0, the workflow number
+-- a request, by its row 0, the workflow number
 unfoldable pub requestOf : Option ℕ → (arguments : List ℕ) → Option Request
 requestOf none args = none
 requestOf (some w) args = some (record { workflow = w; arguments = args })

@@ -61,10 +61,10 @@ form-bound false k e = go (isDataKey k) refl
 
 -- ── What is taken apart is put together again ──
 
-pub data-again : (k : ℕ) → isDataKey k ≡ true → (dataOf k < 2 ^ 32) × (dataKey (dataOf k) ≡ k)
+data-again : (k : ℕ) → isDataKey k ≡ true → (dataOf k < 2 ^ 32) × (dataKey (dataOf k) ≡ k)
 data-again k e = let b = data-bounds k e in (omega arith, omega arith)
 
-pub log-again : (k : ℕ) → isLogKey k ≡ true → (idOf k < 2 ^ 32) × (stepOf k < 65536) × (logKey (idOf k) (stepOf k) ≡ k)
+log-again : (k : ℕ) → isLogKey k ≡ true → (idOf k < 2 ^ 32) × (stepOf k < 65536) × (logKey (idOf k) (stepOf k) ≡ k)
 log-again k e = let b = log-bounds k e in (omega arith, omega arith, omega arith)
 
 pub book-again : (k : ℕ) → isBookKey k ≡ true → (bookedId k < 2 ^ 32) × (bookRow k ≤ 4) × (bookKey (bookedId k) (bookRow k) ≡ k)
