@@ -1,27 +1,37 @@
--- The rows of a store by its partitions' bytes: a change of one partition's bytes is a change of its rows.
+-- The rows of a store by its partitions' bytes, and question 11 by them: a change of one partition's bytes is a change of its rows, and
+-- question 11 of it is that of the new bytes, wherever they lie.
+use mathlib.Core.Bool.{Bool}
 use mathlib.Core.List.{List, _∷_, _++_}
 use mathlib.Core.Logic.{_≢_}
 use mathlib.Core.Path.{_≡_, refl, sym, ap, ap₂, subst, _∙_}
-use Prim.Native.Nat.{ℕ, zero, suc, _+_, _*_, _≤_, _<_}
+use Prim.Native.Nat.{ℕ, zero, suc, _+_, _-_, _*_, _≤_, _<_}
 use native.Mathlib.Decide.{decLe, ℕ-discrete}
 use native.Mathlib.Nat.{suc-mul, add-zero}
 use native.Mathlib.Omega.{arith}
+use borrow.Author.Tests.{lt-leb}
+use lib.Dec.{eqb}
 use lib.ListN.{length, getD, drop, length-take, length-drop, List·getD-append}
 use lib.Seq.{getD-take, getD-drop, getD-append-add}
 use Rattle.words.specs.Words as Words
 use Rattle.words.specs.Words.{le, fields}
 use Rattle.words.proofs.Laws.{le-same}
+use Rattle.questions.specs.Basics.{eachFrom}
 use Rattle.store.specs.Layout.{partsOf, capOf, storeLength, keysFrom, valuesFrom, usedAt, keyAt, valueAt, usedOf}
 use Rattle.store.specs.Rows.{Row, pairs, rowsOf, storeOf, alter}
+use Rattle.store.specs.Questions.{blankRow, partOkAt, partOkBy}
 use Rattle.store.specs.Sound.{Dimensions, Filled, Formed, Changed}
 use Rattle.store.proofs.Bytes.{used-here, used-past, past-rows}
 use Rattle.store.proofs.Lists.{altered}
 use Rattle.store.specs.Parts.{keysAt, valuesAt, piece, partSize, bytesIn, withPart, usedHeld, firstRows, rowsHeld, Holds}
-use Rattle.store.proofs.Parts.{keys-fit, length-with, with-here, with-there, with-head}
+use Rattle.store.proofs.Parts.{keys-fit, values-fit, length-with, with-here, with-there, with-head}
+
+-- 11 of a partition's bytes by themselves
+abbrev pub partOkHeld : (keys : Bool → List ℕ → Bool) → (book : Bool) → (C : ℕ) → (bs : List ℕ) → Bool
+partOkHeld keys b C bs = partOkAt keys b bs C (usedHeld bs) 2 (2 + 8 * C)
 
 -- ---- the same bytes at other places
 
-le-shift : (w : ℕ) (xs ys : List ℕ) (at to : ℕ) → ((i : ℕ) → i < w → getD xs (at + i) 0 ≡ getD ys (to + i) 0) → le w xs at ≡ le w ys to
+pub le-shift : (w : ℕ) (xs ys : List ℕ) (at to : ℕ) → ((i : ℕ) → i < w → getD xs (at + i) 0 ≡ getD ys (to + i) 0) → le w xs at ≡ le w ys to
 unfolding Words.le
 le-shift zero xs ys at to h = refl
 le-shift (suc w) xs ys at to h =
@@ -49,6 +59,42 @@ fields-shift w (suc n) xs ys at to h =
 sum : (a b c : ℕ) → a + b + c ≡ a + (b + c)
 sum a b c = omega arith
 
+-- ---- question 11 goes by the bytes of a partition, wherever they lie
+
+each-same : (f g : ℕ → Bool) (m i : ℕ) → ((j : ℕ) → j < i + m → f j ≡ g j) → eachFrom f m i ≡ eachFrom g m i
+unfolding eachFrom
+each-same f g zero i h = refl
+each-same f g (suc m) i h = rw (h i (omega arith), each-same f g m (i + 1) (λ j l. h j (omega arith))) refl
+
+module _ (xs ys : List ℕ) (C k v k′ v′ : ℕ) (hk : (i : ℕ) → i < 8 * C → getD xs (k + i) 0 ≡ getD ys (k′ + i) 0)
+    (hv : (i : ℕ) → i < 4 * C → getD xs (v + i) 0 ≡ getD ys (v′ + i) 0) where
+  same-key : (i : ℕ) → i < C → le 8 xs (k + 8 * i) ≡ le 8 ys (k′ + 8 * i)
+  same-key i h =
+      le-shift 8 xs ys (k + 8 * i) (k′ + 8 * i)
+      (λ j l. ap (λ (m : ℕ). getD xs m 0) (sum k (8 * i) j) ∙ hk (8 * i + j) (omega arith)
+      ∙ ap (λ (m : ℕ). getD ys m 0) (sym (sum k′ (8 * i) j)))
+
+  same-value : (i : ℕ) → i < C → le 4 xs (v + 4 * i) ≡ le 4 ys (v′ + 4 * i)
+  same-value i h =
+      le-shift 4 xs ys (v + 4 * i) (v′ + 4 * i)
+      (λ j l. ap (λ (m : ℕ). getD xs m 0) (sum v (4 * i) j) ∙ hv (4 * i + j) (omega arith)
+      ∙ ap (λ (m : ℕ). getD ys m 0) (sym (sum v′ (4 * i) j)))
+
+  same-blank : (i : ℕ) → i < C → blankRow xs k v i ≡ blankRow ys k′ v′ i
+  unfolding blankRow
+  same-blank i h = rw (same-key i h, same-value i h) refl
+
+  pub part-elsewhere : (keys : Bool → List ℕ → Bool) (b : Bool) (n : ℕ) → partOkAt keys b xs C n k v ≡ partOkAt keys b ys C n k′ v′
+  unfolding partOkAt
+  part-elsewhere keys b n = go (decLe n C)
+    where
+      go : Dec (n ≤ C) → partOkAt keys b xs C n k v ≡ partOkAt keys b ys C n k′ v′
+      go (yes h) =
+          let q = fields-shift 8 n xs ys k k′ (λ i l. hk i (omega arith)) in
+          let e = each-same (blankRow xs k v) (blankRow ys k′ v′) (C - n) n (λ j l. same-blank j (omega arith)) in
+          rw (q, e) refl
+      go (no h) = rw (lt-leb n C (omega arith)) refl
+
 -- ---- a partition's bytes, byte by byte
 
 module _ (P C p : ℕ) (xs : List ℕ) (l : p ≤ P) (s : length xs ≡ storeLength P C) where
@@ -66,6 +112,9 @@ module _ (P C p : ℕ) (xs : List ℕ) (l : p ≤ P) (s : length xs ≡ storeLen
 
   n₂ : length a₂ ≡ 8 * C
   n₂ = simp (length-take, length-drop) (omega (arith, keys-fit P C p l))
+
+  n₃ : length a₃ ≡ 4 * C
+  n₃ = simp (length-take, length-drop) (omega (arith, values-fit P C p l))
 
   in-piece : (n at i : ℕ) → i < n → getD (piece n at xs) i 0 ≡ getD xs (at + i) 0
   in-piece n at i h = getD-take n (drop at xs) i 0 h ∙ getD-drop at xs i 0
@@ -90,30 +139,30 @@ module _ (P C p : ℕ) (xs : List ℕ) (l : p ≤ P) (s : length xs ≡ storeLen
       ap (λ (j : ℕ). getD (a₁ ++ (a₂ ++ a₃)) j 0) z ∙ getD-append-add a₁ (a₂ ++ a₃) (length a₂ + i) 0 ∙ getD-append-add a₂ a₃ i 0
       ∙ in-piece (4 * C) (valuesAt P C p) i h
 
-  used-by : usedHeld (bytesIn P C p xs) ≡ le 2 xs (usedAt p)
+  pub used-by : usedHeld (bytesIn P C p xs) ≡ le 2 xs (usedAt p)
   used-by = le-shift 2 (bytesIn P C p xs) xs 0 (usedAt p) at-used
 
-  keys-by : (n : ℕ) → n ≤ C → fields 8 (bytesIn P C p xs) 2 n ≡ fields 8 xs (keysAt P C p) n
+  pub keys-by : (n : ℕ) → n ≤ C → fields 8 (bytesIn P C p xs) 2 n ≡ fields 8 xs (keysAt P C p) n
   keys-by n h = fields-shift 8 n (bytesIn P C p xs) xs 2 (keysAt P C p) (λ i k. at-keys i (omega arith))
 
-  values-by : (n : ℕ) → n ≤ C → fields 4 (bytesIn P C p xs) (2 + 8 * C) n ≡ fields 4 xs (valuesAt P C p) n
+  pub values-by : (n : ℕ) → n ≤ C → fields 4 (bytesIn P C p xs) (2 + 8 * C) n ≡ fields 4 xs (valuesAt P C p) n
   values-by n h = fields-shift 4 n (bytesIn P C p xs) xs (2 + 8 * C) (valuesAt P C p) (λ i k. at-values i (omega arith))
 
   -- one key, one value
-  key-by : (i : ℕ) → i < C → le 8 (bytesIn P C p xs) (2 + 8 * i) ≡ le 8 xs (keysAt P C p + 8 * i)
+  pub key-by : (i : ℕ) → i < C → le 8 (bytesIn P C p xs) (2 + 8 * i) ≡ le 8 xs (keysAt P C p + 8 * i)
   key-by i h =
       le-shift 8 (bytesIn P C p xs) xs (2 + 8 * i) (keysAt P C p + 8 * i)
       (λ j k. ap (λ (m : ℕ). getD (bytesIn P C p xs) m 0) (sum 2 (8 * i) j) ∙ at-keys (8 * i + j) (omega arith)
       ∙ ap (λ (m : ℕ). getD xs m 0) (sym (sum (keysAt P C p) (8 * i) j)))
 
-  value-by : (i : ℕ) → i < C → le 4 (bytesIn P C p xs) (2 + 8 * C + 4 * i) ≡ le 4 xs (valuesAt P C p + 4 * i)
+  pub value-by : (i : ℕ) → i < C → le 4 (bytesIn P C p xs) (2 + 8 * C + 4 * i) ≡ le 4 xs (valuesAt P C p + 4 * i)
   value-by i h =
       le-shift 4 (bytesIn P C p xs) xs (2 + 8 * C + 4 * i) (valuesAt P C p + 4 * i)
       (λ j k. ap (λ (m : ℕ). getD (bytesIn P C p xs) m 0) (sum (2 + 8 * C) (4 * i) j) ∙ at-values (4 * i + j) (omega arith)
       ∙ ap (λ (m : ℕ). getD xs m 0) (sym (sum (valuesAt P C p) (4 * i) j)))
 
 -- The rows of a partition are those that its bytes hold.
-rows-by : (xs : List ℕ) (p : ℕ) → Dimensions xs → p ≤ partsOf xs → usedOf xs p ≤ capOf xs →
+pub rows-by : (xs : List ℕ) (p : ℕ) → Dimensions xs → p ≤ partsOf xs → usedOf xs p ≤ capOf xs →
     rowsOf xs p ≡ rowsHeld (capOf xs) (bytesIn (partsOf xs) (capOf xs) p xs)
 unfolding rowsOf firstRows
 rows-by xs p s l fit =
@@ -123,6 +172,19 @@ rows-by xs p s l fit =
     let v : valueAt xs p 0 ≡ valuesAt (partsOf xs) (capOf xs) p = omega arith in
     rw (u, k, v) (sym (ap₂ pairs (keys-by (partsOf xs) (capOf xs) p xs l (s .size) _ n)
     (values-by (partsOf xs) (capOf xs) p xs l (s .size) _ n)))
+
+-- Question 11 of a partition is that of its bytes by themselves.
+pub part-by : (keys : Bool → List ℕ → Bool) (xs : List ℕ) (p : ℕ) → Dimensions xs → p ≤ partsOf xs
+    → partOkBy keys xs p ≡ partOkHeld keys (eqb p (partsOf xs)) (capOf xs) (bytesIn (partsOf xs) (capOf xs) p xs)
+unfolding partOkBy
+part-by keys xs p s l =
+    let bs = bytesIn (partsOf xs) (capOf xs) p xs in
+    let u : usedOf xs p ≡ usedHeld bs = used-here xs p l ∙ sym (used-by (partsOf xs) (capOf xs) p xs l (s .size)) in
+    let k : keyAt xs p 0 ≡ keysAt (partsOf xs) (capOf xs) p = omega arith in
+    let v : valueAt xs p 0 ≡ valuesAt (partsOf xs) (capOf xs) p = omega arith in
+    rw (u, k, v)
+    (part-elsewhere xs bs (capOf xs) _ _ _ _ (λ i h. sym (at-keys (partsOf xs) (capOf xs) p xs l (s .size) i h))
+    (λ i h. sym (at-values (partsOf xs) (capOf xs) p xs l (s .size) i h)) keys (eqb p (partsOf xs)) (usedHeld bs))
 
 -- ---- a change of a partition's bytes is one of its rows
 
@@ -157,7 +219,7 @@ module _ (xs : List ℕ) (p : ℕ) (bs : List ℕ) (s : Dimensions xs) (l : p �
   size-ys : length ys ≡ storeLength P C
   size-ys = length-with P C p bs xs l long (s .size) ∙ s .size
 
-  with-shape : Dimensions ys
+  pub with-shape : Dimensions ys
   with-shape = same-shape xs ys (with-head P C p bs xs l long (s .size)) (length-with P C p bs xs l long (s .size)) s
 
   -- p's used count and rows are those of bs
@@ -165,7 +227,7 @@ module _ (xs : List ℕ) (p : ℕ) (bs : List ℕ) (s : Dimensions xs) (l : p �
   used-new =
       used-here ys p (omega (arith, numbers .0)) ∙ sym (used-by P C p ys l size-ys) ∙ ap usedHeld (with-here P C p bs xs l long (s .size))
 
-  rows-here : usedHeld bs ≤ C → rowsOf ys p ≡ rowsHeld C bs
+  pub rows-here : usedHeld bs ≤ C → rowsOf ys p ≡ rowsHeld C bs
   rows-here fit =
       rows-by ys p with-shape (omega (arith, numbers .0)) (omega (arith, used-new, numbers .1))
       ∙ ap₂ (λ (a b : ℕ). rowsHeld b (bytesIn a b p ys)) (numbers .0) (numbers .1)
@@ -182,7 +244,7 @@ module _ (xs : List ℕ) (p : ℕ) (bs : List ℕ) (s : Dimensions xs) (l : p �
           ∙ used-by P C q xs h (s .size) ∙ sym (used-here xs q h)
       go (no h) = used-past ys q (omega (arith, numbers .0)) ∙ sym (used-past xs q (omega arith))
 
-  rows-there : (q : ℕ) → q ≢ p → ((q : ℕ) → q ≤ P → usedOf xs q ≤ C) → rowsOf ys q ≡ rowsOf xs q
+  pub rows-there : (q : ℕ) → q ≢ p → ((q : ℕ) → q ≤ P → usedOf xs q ≤ C) → rowsOf ys q ≡ rowsOf xs q
   rows-there q n fits = go (decLe q P)
     where
       go : Dec (q ≤ P) → rowsOf ys q ≡ rowsOf xs q
@@ -194,9 +256,23 @@ module _ (xs : List ℕ) (p : ℕ) (bs : List ℕ) (s : Dimensions xs) (l : p �
       go (no h) = past-rows ys q (omega (arith, numbers .0)) ∙ sym (past-rows xs q (omega arith))
 
   -- The store with p's bytes changed holds the store with p's rows changed.
-  with-store : usedHeld bs ≤ C → ((q : ℕ) → q ≤ P → usedOf xs q ≤ C) → storeOf ys ≡ alter p (λ rs. rowsHeld C bs) (storeOf xs)
+  pub with-store : usedHeld bs ≤ C → ((q : ℕ) → q ≤ P → usedOf xs q ≤ C) → storeOf ys ≡ alter p (λ rs. rowsHeld C bs) (storeOf xs)
   with-store fit fits =
       altered (storeOf xs) (storeOf ys) p (λ rs. rowsHeld C bs) (numbers .0) (numbers .1) (rows-here fit) (λ q n. rows-there q n fits)
+
+  -- Question 11 of p is that of bs, wherever they lie, and of every other partition what it was.
+  pub part-here : (keys : Bool → List ℕ → Bool) → partOkBy keys ys p ≡ partOkHeld keys (eqb p P) C bs
+  part-here keys =
+      part-by keys ys p with-shape (omega (arith, numbers .0))
+      ∙ ap₂ (λ (a b : ℕ). partOkHeld keys (eqb p a) b (bytesIn a b p ys)) (numbers .0) (numbers .1)
+      ∙ ap (partOkHeld keys (eqb p P) C) (with-here P C p bs xs l long (s .size))
+
+  pub part-there : (keys : Bool → List ℕ → Bool) (q : ℕ) → q ≤ P → q ≢ p → partOkBy keys ys q ≡ partOkBy keys xs q
+  part-there keys q h n =
+      part-by keys ys q with-shape (omega (arith, numbers .0))
+      ∙ ap₂ (λ (a b : ℕ). partOkHeld keys (eqb q a) b (bytesIn a b q ys)) (numbers .0) (numbers .1)
+      ∙ ap (partOkHeld keys (eqb q P) C) (with-there P C p bs xs l long (s .size) q h n)
+      ∙ sym (part-by keys xs q s h)
 
   key-now : (q : ℕ) → q ≤ P → (i : ℕ) → i < C → le 8 ys (keyAt ys q i) ≡ le 8 (bytesIn P C q ys) (2 + 8 * i)
   key-now q h i k =

@@ -1,16 +1,17 @@
--- One partition's bytes, written to a store: that partition has them, and every other byte is as it was.
+-- One partition's bytes, written to a store: that partition has them, and every other byte is as it was. A store is its head and its
+-- partitions.
 use mathlib.Core.List.{List, [], _∷_, _++_}
 use mathlib.Core.Logic.{_⊎_, inl, inr, ⊎-elim, _≢_}
 use mathlib.Core.Path.{_≡_, refl, sym, ap, ap₂, _∙_}
-use Prim.Native.Nat.{ℕ, zero, suc, _+_, _*_, _≤_, _<_}
+use Prim.Native.Nat.{ℕ, zero, suc, _+_, _-_, _*_, _/_, _%_, _≤_, _<_}
 use native.Mathlib.Decide.{decLt}
 use native.Mathlib.Omega.{arith}
-use native.Mathlib.Nat.{add-zero, mul-add, mul-le-mul-left}
+use native.Mathlib.Nat.{add-zero, mul-zero, mul-add, mul-le-mul-left, mul-left-comm, div-add-mod', div-lt-iff-lt-mul, mod-lt}
 use lib.ListN.{length, getD, take, drop, set, length-take, length-drop, length-set, take-append-drop}
-use lib.Seq.{sets, length-sets, length-take-le, take-all, take-suc, drop-drop}
+use lib.Seq.{sets, length-sets, take-at, drop-at, length-take-le, take-all, take-suc, drop-drop}
 use lib.Seq.{getD-set-same, getD-set-other, getD-take, getD-drop, ext-getD}
 use Rattle.words.specs.Words.{Apart}
-use Rattle.store.specs.Layout.{valuesFrom, storeLength, usedAt}
+use Rattle.store.specs.Layout.{keysFrom, valuesFrom, storeLength, usedAt}
 use Rattle.store.proofs.Lists.{before}
 use Rattle.store.specs.Parts.{keysAt, valuesAt, piece, bytesIn, withPart}
 
@@ -35,7 +36,7 @@ piece-length : (n at : ℕ) (l : List ℕ) → at + n ≤ length l → length (p
 piece-length n at l h = simp (length-take, length-drop) (omega arith)
 
 -- what was written there
-piece-same : (bs l : List ℕ) (at n : ℕ) → length bs ≡ n → at + n ≤ length l → piece n at (sets l at bs) ≡ bs
+pub piece-same : (bs l : List ℕ) (at n : ℕ) → length bs ≡ n → at + n ≤ length l → piece n at (sets l at bs) ≡ bs
 piece-same bs l at n e h =
     ext-getD 0 _ _
     (omega (arith, piece-length n at (sets l at bs) (omega (arith, length-sets l at bs))))
@@ -43,7 +44,7 @@ piece-same bs l at n e h =
     getD-take n (drop at (sets l at bs)) i 0 s ∙ getD-drop at (sets l at bs) i 0 ∙ sets-in bs l at i (omega arith) (omega arith))
 
 -- what was written elsewhere
-piece-apart : (bs l : List ℕ) (at a n : ℕ) → Apart a n at (length bs) → a + n ≤ length l → piece n a (sets l at bs) ≡ piece n a l
+pub piece-apart : (bs l : List ℕ) (at a n : ℕ) → Apart a n at (length bs) → a + n ≤ length l → piece n a (sets l at bs) ≡ piece n a l
 piece-apart bs l at a n d h =
     ext-getD 0 _ _
     (omega (arith, piece-length n a (sets l at bs) (omega (arith, length-sets l at bs)), piece-length n a l h))
@@ -171,6 +172,93 @@ module _ (P C p : ℕ) (bs xs : List ℕ) (l : p ≤ P) (long : length bs ≡ 2 
       sets-out b₃ (sets (sets xs (usedAt p) b₁) (keysAt P C p) b₂) (valuesAt P C p) j (inl (omega arith))
       ∙ sets-out b₂ (sets xs (usedAt p) b₁) (keysAt P C p) j (inl (omega arith))
       ∙ sets-out b₁ xs (usedAt p) j (inl (omega arith))
+
+-- ---- a store is its head and its partitions
+
+piece-at : (n a i : ℕ) (xs : List ℕ) → i < n → getD xs (a + i) 0 ≡ getD (piece n a xs) i 0
+piece-at n a i xs h = sym (getD-drop a xs i 0) ∙ sym (getD-take n (drop a xs) i 0 h)
+
+-- place j of an array of P + 1 parts of n each is one of them and a place in it
+pub record InPart (P n j : ℕ) : Type 0 where
+  pub part : ℕ
+  pub off : ℕ
+  pub low : part ≤ P
+  pub inside : off < n
+  pub is : j ≡ part * n + off
+
+-- parts in which there is a place are not empty
+some : (m n j : ℕ) → j < m * n → 0 < n
+some m zero j h = absurd (omega (arith, h, mul-zero m))
+some m (suc n) j h = omega arith
+
+in-part : (P n j : ℕ) → j < (P + 1) * n → InPart P n j
+in-part P n j h =
+    let z = some (P + 1) n j h in
+    record { part = j / n; off = j % n; low = omega (arith, div-lt-iff-lt-mul z .1 h); inside = mod-lt j z; is = sym (div-add-mod' j n) }
+
+module _ (P C : ℕ) (xs ys : List ℕ) (sx : length xs ≡ storeLength P C) (sy : length ys ≡ storeLength P C) where
+  -- equal bytes of a partition are an equal used count, equal keys and equal values
+  module _ (p : ℕ) (l : p ≤ P) (e : bytesIn P C p xs ≡ bytesIn P C p ys) where
+    abbrev keys-of : List ℕ → List ℕ
+    keys-of zs = piece (8 * C) (keysAt P C p) zs
+
+    abbrev values-of : List ℕ → List ℕ
+    values-of zs = piece (4 * C) (valuesAt P C p) zs
+
+    used-long : (zs : List ℕ) → length zs ≡ storeLength P C → length (piece 2 (usedAt p) zs) ≡ 2
+    used-long zs h = piece-length 2 (usedAt p) zs (omega arith)
+
+    keys-long : (zs : List ℕ) → length zs ≡ storeLength P C → length (keys-of zs) ≡ 8 * C
+    keys-long zs h = piece-length (8 * C) (keysAt P C p) zs (omega (arith, keys-fit P C p l))
+
+    same-used : piece 2 (usedAt p) xs ≡ piece 2 (usedAt p) ys
+    unfolding bytesIn
+    same-used =
+        sym (take-at (piece 2 (usedAt p) xs) _ 2 (used-long xs sx)) ∙ ap (take 2) e ∙ take-at (piece 2 (usedAt p) ys) _ 2 (used-long ys sy)
+
+    same-rows : keys-of xs ++ values-of xs ≡ keys-of ys ++ values-of ys
+    unfolding bytesIn
+    same-rows =
+        sym (drop-at (piece 2 (usedAt p) xs) _ 2 (used-long xs sx)) ∙ ap (drop 2) e ∙ drop-at (piece 2 (usedAt p) ys) _ 2 (used-long ys sy)
+
+    same-keys : keys-of xs ≡ keys-of ys
+    same-keys =
+        sym (take-at (keys-of xs) (values-of xs) (8 * C) (keys-long xs sx)) ∙ ap (take (8 * C)) same-rows
+        ∙ take-at (keys-of ys) (values-of ys) (8 * C) (keys-long ys sy)
+
+    same-values : values-of xs ≡ values-of ys
+    same-values =
+        sym (drop-at (keys-of xs) (values-of xs) (8 * C) (keys-long xs sx)) ∙ ap (drop (8 * C)) same-rows
+        ∙ drop-at (keys-of ys) (values-of ys) (8 * C) (keys-long ys sy)
+
+  -- Stores with the same head and the same bytes in every partition are the same.
+  pub same-parts : ((j : ℕ) → j < 3 → getD xs j 0 ≡ getD ys j 0) → ((p : ℕ) → p ≤ P → bytesIn P C p xs ≡ bytesIn P C p ys) → xs ≡ ys
+  same-parts head parts = ext-getD 0 xs ys (sx ∙ sym sy) (λ j h. go j h (decLt j 3) (decLt j (keysFrom P)) (decLt j (valuesFrom P C)))
+    where
+      one : (n a i j : ℕ) → j ≡ a + i → i < n → piece n a xs ≡ piece n a ys → getD xs j 0 ≡ getD ys j 0
+      one n a i j e h q = rw e (piece-at n a i xs h ∙ ap (λ (t : List ℕ). getD t i 0) q ∙ sym (piece-at n a i ys h))
+
+      in-used : (j : ℕ) → 3 ≤ j → InPart P 2 (j - 3) → getD xs j 0 ≡ getD ys j 0
+      in-used j h w =
+          one 2 (usedAt (w .part)) (w .off) j (omega (arith, w .is)) (w .inside) (same-used (w .part) (w .low) (parts (w .part) (w .low)))
+
+      in-keys : (j : ℕ) → keysFrom P ≤ j → InPart P (8 * C) (j - keysFrom P) → getD xs j 0 ≡ getD ys j 0
+      in-keys j h w =
+          one (8 * C) (keysAt P C (w .part)) (w .off) j (omega (arith, w .is, mul-left-comm (w .part) 8 C)) (w .inside)
+          (same-keys (w .part) (w .low) (parts (w .part) (w .low)))
+
+      in-values : (j : ℕ) → valuesFrom P C ≤ j → InPart P (4 * C) (j - valuesFrom P C) → getD xs j 0 ≡ getD ys j 0
+      in-values j h w =
+          one (4 * C) (valuesAt P C (w .part)) (w .off) j (omega (arith, w .is, mul-left-comm (w .part) 4 C)) (w .inside)
+          (same-values (w .part) (w .low) (parts (w .part) (w .low)))
+
+      go : (j : ℕ) → j < length xs → Dec (j < 3) → Dec (j < keysFrom P) → Dec (j < valuesFrom P C) → getD xs j 0 ≡ getD ys j 0
+      go j h (yes a) b d = head j a
+      go j h (no a) (yes b) d = in-used j (omega arith) (in-part P 2 (j - 3) (omega arith))
+      go j h (no a) (no b) (yes d) =
+          in-keys j (omega arith) (in-part P (8 * C) (j - keysFrom P) (omega (arith, mul-left-comm (P + 1) 8 C)))
+      go j h (no a) (no b) (no d) =
+          in-values j (omega arith) (in-part P (4 * C) (j - valuesFrom P C) (omega (arith, mul-left-comm (P + 1) 4 C)))
 
 -- ---- a copy, byte by byte
 
