@@ -97,7 +97,8 @@ module _ (number : ℕ) (answer : List ℕ) (a : Answer) (h : heard number answe
       q ≡ le 4 answer 0 → w ≡ le 4 answer 4 → i ≡ le 4 answer 8 → refused (no (q % 256) w i) ≡ a
   reads-refused d e f fits q w i r s t = go (eqb number 3) refl
     where
-      by-3 : (b : Bool) → eqb number 3 ≡ b → heard number answer ≡ if_then_else_ b (some (refused (no (le 4 answer 0) (le 4 answer 4) (le 4 answer 8)))) none
+      by-3 : (b : Bool) → eqb number 3 ≡ b →
+          heard number answer ≡ if_then_else_ b (some (refused (no (le 4 answer 0) (le 4 answer 4) (le 4 answer 8)))) none
       by-3 b g =
           unfold Answers.heard in rw (ne-eqb number 0 d, ne-eqb number 1 e, ne-eqb number 2 f, g) refl
 

@@ -40,8 +40,8 @@ same-heard a b e i = taken (e i)
     taken (some x) = x
 
 -- a promise speaks of an answer by what it says
-answered : (pack : List ℕ) (before : Lent) (c : Call) (a b : Said) (after : Lent) → answerOf a ≡ answerOf b → Carried pack before c a after →
-    Carried pack before c b after
+answered : (pack : List ℕ) (before : Lent) (c : Call) (a b : Said) (after : Lent) → answerOf a ≡ answerOf b →
+    Carried pack before c a after → Carried pack before c b after
 answered pack before c a b after e p =
     record {
       refused = λ n q. (sym e ∙ p .refused n q .0, p .refused n q .1);

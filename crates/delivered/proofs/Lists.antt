@@ -133,7 +133,8 @@ module _ (pack : List ℕ) (P C : ℕ) (before : List Event) (store slots : List
   unheard c o store′ slots′ h e p q = rw (e, p, q) h
 
   call-on : (answer : List ℕ) (c : Call) (number : ℕ) (store′ slots′ answer′ : List ℕ) → Stands pack P C before store slots →
-      Exported pack store slots answer c number store′ slots′ answer′ → Stands pack P C (andThen c (heard number answer′) before) store′ slots′
+      Exported pack store slots answer c number store′ slots′ answer′ →
+      Stands pack P C (andThen c (heard number answer′) before) store′ slots′
   call-on answer c number store′ slots′ answer′ h x = go (buffersWrong answer slots) refl
     where
       go : (o : Option ℕ) → buffersWrong answer slots ≡ o → Stands pack P C (andThen c (heard number answer′) before) store′ slots′

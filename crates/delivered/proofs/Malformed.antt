@@ -52,7 +52,8 @@ module _ (pack store slots : List ℕ) (i : ℕ) (h : i < 8) (no-record : NoReco
   first rest = ap (λ o. orElse o rest) asked ∙ go (packRefusal pack) (storeRefusal store) (question13 pack store)
     where
       go : (a b : Option No) (q : Bool) →
-          orElse (orElse a (orElse b (ask (number 13) q (some (number 14))))) rest ≡ orElse a (orElse b (ask (number 13) q (some (number 14))))
+          orElse (orElse a (orElse b (ask (number 13) q (some (number 14))))) rest
+          ≡ orElse a (orElse b (ask (number 13) q (some (number 14))))
       go (some n) b q = unfold orElse in refl
       go none (some n) q = unfold orElse in refl
       go none none true = unfold orElse in unfold ask in refl

@@ -12,7 +12,8 @@ use questions::Verdict;
 // The check of a pack.
 #[no_mangle]
 pub extern "C" fn sarthule_check(pack: &[u8], answer: &mut [u8]) -> u32
-    ensures { λ r. ⌜ Told 12 (now (answer .entry)) (judged (packRefusal (now (pack .entry)))) (valuesOf (judged (packRefusal (now (pack .entry))))) r (now (answer .exit)) ⌝ }
+    ensures { λ r. ⌜ Told 12 (now (answer .entry)) (judged (packRefusal (now (pack .entry))))
+        (valuesOf (judged (packRefusal (now (pack .entry))))) r (now (answer .exit)) ⌝ }
 {
     if answer.len() < 12 {
         return 100;
@@ -23,7 +24,8 @@ pub extern "C" fn sarthule_check(pack: &[u8], answer: &mut [u8]) -> u32
 // Where the parts of a workflow stand in the pack.
 #[no_mangle]
 pub extern "C" fn sarthule_open(pack: &[u8], workflow: u32, answer: &mut [u8]) -> u32
-    ensures { λ r. ⌜ Told 28 (now (answer .entry)) (judged (openRefusal (now (pack .entry)) workflow)) (openedWords (now (pack .entry)) workflow) r (now (answer .exit)) ⌝ }
+    ensures { λ r. ⌜ Told 28 (now (answer .entry)) (judged (openRefusal (now (pack .entry)) workflow))
+        (openedWords (now (pack .entry)) workflow) r (now (answer .exit)) ⌝ }
 {
     if answer.len() < 28 {
         return 100;
@@ -98,7 +100,8 @@ pub extern "C" fn sarthule_arrival(
     a3: u32,
     answer: &mut [u8],
 ) -> u32
-    ensures { λ r. ⌜ Exported (now (pack .entry)) (now (store .entry)) (now (slots .entry)) (now (answer .entry)) (Call.arrival slot id workflow (a0 ∷ a1 ∷ a2 ∷ a3 ∷ [])) r (now (store .exit)) (now (slots .exit)) (now (answer .exit)) ⌝ }
+    ensures { λ r. ⌜ Exported (now (pack .entry)) (now (store .entry)) (now (slots .entry)) (now (answer .entry))
+        (Call.arrival slot id workflow (a0 ∷ a1 ∷ a2 ∷ a3 ∷ [])) r (now (store .exit)) (now (slots .exit)) (now (answer .exit)) ⌝ }
 {
     if answer.len() < 12 {
         return 100;
@@ -128,7 +131,8 @@ pub extern "C" fn sarthule_retry(
     id: u32,
     answer: &mut [u8],
 ) -> u32
-    ensures { λ r. ⌜ Exported (now (pack .entry)) (now (store .entry)) (now (slots .entry)) (now (answer .entry)) (Call.retry slot id) r (now (store .entry)) (now (slots .exit)) (now (answer .exit)) ⌝ }
+    ensures { λ r. ⌜ Exported (now (pack .entry)) (now (store .entry)) (now (slots .entry)) (now (answer .entry))
+        (Call.retry slot id) r (now (store .entry)) (now (slots .exit)) (now (answer .exit)) ⌝ }
 {
     if answer.len() < 12 {
         return 100;
@@ -149,7 +153,8 @@ pub extern "C" fn sarthule_turn(
     slot: usize,
     answer: &mut [u8],
 ) -> u32
-    ensures { λ r. ⌜ Exported (now (pack .entry)) (now (store .entry)) (now (slots .entry)) (now (answer .entry)) (Call.turn slot) r (now (store .exit)) (now (slots .exit)) (now (answer .exit)) ⌝ }
+    ensures { λ r. ⌜ Exported (now (pack .entry)) (now (store .entry)) (now (slots .entry)) (now (answer .entry))
+        (Call.turn slot) r (now (store .exit)) (now (slots .exit)) (now (answer .exit)) ⌝ }
 {
     if answer.len() < 12 {
         return 100;
@@ -171,7 +176,8 @@ pub extern "C" fn sarthule_crash(
     slot: usize,
     answer: &mut [u8],
 ) -> u32
-    ensures { λ r. ⌜ Exported (now (pack .entry)) (now (store .entry)) (now (slots .entry)) (now (answer .entry)) (Call.crash slot) r (now (store .entry)) (now (slots .exit)) (now (answer .exit)) ⌝ }
+    ensures { λ r. ⌜ Exported (now (pack .entry)) (now (store .entry)) (now (slots .entry)) (now (answer .entry))
+        (Call.crash slot) r (now (store .entry)) (now (slots .exit)) (now (answer .exit)) ⌝ }
 {
     if answer.len() < 12 {
         return 100;
@@ -186,7 +192,8 @@ pub extern "C" fn sarthule_crash(
 // Restart empties all slots.
 #[no_mangle]
 pub extern "C" fn sarthule_restart(slots: &mut [u8], answer: &mut [u8]) -> u32
-    ensures { λ r. ⌜ ((pack store : List ℕ) → Exported pack store (now (slots .entry)) (now (answer .entry)) Call.restart r store (now (slots .exit)) (now (answer .exit))) ⌝ }
+    ensures { λ r. ⌜ ((pack store : List ℕ) → Exported pack store (now (slots .entry)) (now (answer .entry))
+        Call.restart r store (now (slots .exit)) (now (answer .exit))) ⌝ }
 {
     if answer.len() < 12 {
         return 100;

@@ -18,5 +18,9 @@ write-parts-spec =
     (λ c κs. search needs)
     (λ c. search needs)
     (λ c.
-    let s = c .before .before .before .before .before .before .before .before .before .before .before .before .before .before .before .before .before .before .before .before .before .args in
+    let third = c .before .before .before .before .before in
+    let between = third .before in
+    let second = between .before .before .before .before .before in
+    let first = second .before .before .before .before .before in
+    let s = first .before .before .before .before .before .args in
     cc (low-parts (s .answer .now) (s .x) (s .y) (s .z) (s .u))))

@@ -21,4 +21,5 @@ sarthule-arrival-spec =
     let t = f .before .before .before .before .before in
     let s = t .before .before in
     exported _ _ _ _ _ _ _ _ _ _ _ (s .before .before .before .if1 .left) (s .before .before .if2 .left) (s .read-slots .ensures)
-    (t .arrival .ensures) tt (f .finish .ensures .0) (f .finish .ensures .1 .0) (f .finish .ensures .1 .1 .0) (f .finish .ensures .1 .1 .1)))
+    (t .arrival .ensures) tt (f .finish .ensures .0) (f .finish .ensures .1 .0) (f .finish .ensures .1 .1 .0)
+    (f .finish .ensures .1 .1 .1)))

@@ -45,8 +45,13 @@ sarthule-open-spec =
     let k = o .before .before .before .before .before in
     let w = k .before .before .before .before in
     let v = w .before .before .before in
-    told-open _ _ _ none _ _ _ _ _ (v .before .if1 .left) (opens k) (w .before .judge .ensures _ (v .open .ensures)) (w .write-answer .ensures .0)
-    (rw (o .before .before .before .before .size-at .ensures, o .before .before .operations-at .ensures, o .before .operands-at .ensures) refl)
+    told-open _ _ _ none _ _ _ _ _ (v .before .if1 .left) (opens k) (w .before .judge .ensures _ (v .open .ensures))
+    (w .write-answer .ensures .0)
+    (rw (
+      o .before .before .before .before .size-at .ensures,
+      o .before .before .operations-at .ensures,
+      o .before .operands-at .ensures,
+    ) refl)
     (o .write-parts .ensures))
     (λ c. search needs)
     (λ c.

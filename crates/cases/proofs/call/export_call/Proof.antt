@@ -11,7 +11,8 @@ use Rattle.cases.proofs.call.export_call.Tie as tie
 
 -- what is promised of a call is promised of the call that the byte stands for
 promised : (pack store records answer : List ℕ) (c c′ : Call) (number : ℕ) (store′ records′ answer′ : List ℕ) → c ≡ c′ →
-    Exported pack store records answer c number store′ records′ answer′ → Exported pack store records answer c′ number store′ records′ answer′
+    Exported pack store records answer c number store′ records′ answer′ →
+    Exported pack store records answer c′ number store′ records′ answer′
 promised pack store records answer c c′ number store′ records′ answer′ e x =
     subst (λ (k : Call). Exported pack store records answer k number store′ records′ answer′) e x
 
