@@ -1,7 +1,7 @@
 -- A run inside a block of a workflow that is right: it goes forward, stays inside, has room for its PUTs, and the rules' run goes on as it
 -- does.
 use mathlib.Core.Bool.{true}
-use mathlib.Core.List.{List, []}
+use mathlib.Core.List.{List}
 use mathlib.Core.Logic.{_⊎_, inl, inr}
 use mathlib.Core.Option.{some}
 use mathlib.Core.Path.{_≡_, refl, sym, ap, _∙_, subst}
@@ -34,8 +34,9 @@ use Rattle.code.proofs.Judged.{target-ahead, target-below}
 use Rattle.code.proofs.Steps.{begins}
 use Rattle.code.proofs.Decoded.{targetBy, decoded-shape, decoded-end, length-code, instruction-at}
 use Rattle.code.proofs.Right.{known-at, ranged-at, right-checked, not-outside}
-use Rattle.instruction.specs.Pending.{over, seen, rowsIn, newIn, Kept}
+use Rattle.instruction.specs.Pending.{nothingPending, over, seen, rowsIn, newIn}
 use Rattle.instruction.specs.Step.{placeOf, workOf, Stepped, putsOf}
+use Rattle.instruction.proofs.Rows.{no-rows, nothing-kept}
 use Rattle.code.specs.Right.{Right}
 use Rattle.block.specs.Run.{blockOf, runOf, Inside}
 use Rattle.instruction.specs.declared.pending.Pending.{Pending}
@@ -170,18 +171,17 @@ module _ (ops ws : List ℕ) (right : Right ops ws) where
 
 -- ---- where the loop starts
 
-module _ (ops ws : List ℕ) (rs : List Row) (first : ℕ) (registers : List ℕ) (p : Pending) (kept : Kept p) (none-yet : rowsIn p ≡ [])
-    (zero-yet : p .count ≡ 0) where
+module _ (ops ws : List ℕ) (rs : List Row) (first : ℕ) (registers : List ℕ) (p : Pending) (nothing : p ≡ nothingPending) where
   abbrev pub started : Running
   started = record { place = record { position = first + 1; registers = registers }; pending = p }
 
   pub starts-inside : operationAt ops first ≡ opBegin → Inside ops started
-  starts-inside e = record { inside = begins ops first e; kept = kept; few = omega (arith, zero-yet) }
+  starts-inside e = record { inside = begins ops first e; kept = rw nothing nothing-kept; few = rw nothing (omega arith) }
 
   pub starts : runOf ops ws rs started ≡ runBlock (codeOf ops ws) (record { position = first; registers = registers })
       (tableOf (valueIn rs))
   unfolding Blocks.runBlock over Rows.lookup Rows.countNew Rows.keysIn
   starts =
       ap (λ (ps : List Row). runFrom (codeOf ops ws) (length ops - (first + 1))
-      (record { place = placeOf (started .place); table = tableOf (seen ps rs); newKeys = countNew (keysIn ps) rs })) none-yet
+      (record { place = placeOf (started .place); table = tableOf (seen ps rs); newKeys = countNew (keysIn ps) rs })) (ap rowsIn nothing ∙ no-rows)
       ∙ rw (add-one first, ← length-code ops ws) refl

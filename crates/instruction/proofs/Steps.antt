@@ -21,7 +21,7 @@ use Rattle.operation.specs.Parts.{operationOf, registerOf, sourceOf, targetOf}
 use Rattle.operation.specs.Operations.{opGet, opPut, opHas}
 use Rattle.code.specs.Meaning.{decode, instructionOf}
 use Rattle.code.specs.Meaning as Meaning
-use Rattle.instruction.specs.Pending.{seen, rowsIn, Kept}
+use Rattle.instruction.specs.Pending.{seen, rowsIn, SameBehind, Kept}
 use Rattle.instruction.specs.Step.{placeOf, workOf, Stepped, putsOf, sourceBy, Sourced}
 use Rattle.instruction.specs.declared.pending.Pending.{Pending}
 use Rattle.instruction.specs.declared.Spot.{Spot}
@@ -31,6 +31,10 @@ use Rattle.instruction.proofs.Rows.{seen-put, count-put, count-new}
 -- a data key of 32 bits, in the table
 table-at : (f : ℕ → Option ℕ) (k : ℕ) → k < 2 ^ 32 → tableOf f k ≡ f (dataKey k)
 table-at f k h = rw (lt-ltb k (2 ^ 32) h) refl
+
+-- PUTs that stay as they are
+as-it-was : (p : Pending) → SameBehind p p
+as-it-was p = record { keys-behind = refl; values-behind = refl }
 
 -- the run at another place, its PUTs as they are
 abbrev pub atPlace : Running → Spot → Running
@@ -51,7 +55,7 @@ module _ (rs : List Row) (x : Running) (y : Spot) (kept : Kept (x .pending)) whe
   step-moved : (a : Act) → moves (placeOf y) ≡ a → Stepped a rs x (atPlace x y) 0
   unfolding Blocks.within
   step-moved a e =
-      record { goes = λ onward. ap (λ (b : Act). within b (workOf rs x) onward) (sym e); kept = kept; few = omega arith }
+      record { goes = λ onward. ap (λ (b : Act). within b (workOf rs x) onward) (sym e); kept = kept; few = omega arith; behind = as-it-was (x .pending) }
 
   -- by what the block sees at the key
   step-reads : (k : ℕ) → k < 2 ^ 32 → (o : Option ℕ) → seen (rowsIn (x .pending)) rs (dataKey k) ≡ o → (to : Option ℕ → Place) →
@@ -72,6 +76,7 @@ module _ (rs : List Row) (x : Running) (y : Spot) (kept : Kept (x .pending)) whe
             (ap to (table-at (seen (rowsIn (x .pending)) rs) k h ∙ e) ∙ sym p);
         kept = kept;
         few = omega arith;
+        behind = as-it-was (x .pending);
       }
 
   module _ (d s : ℕ) (h : register (placeOf (x .place)) s < 2 ^ 32) (o : Option ℕ)
@@ -109,20 +114,21 @@ module _ (rs : List Row) (x : Running) (was : Kept (x .pending)) (k v : ℕ) (h 
       ∙ sym (ap (λ (ps : List Row). countNew (keysIn ps) rs) e ∙ count-put (dataKey k) v rs (rowsIn (x .pending)) (was .in-order))
 
   step-puts : (y : Spot) → placeOf y ≡ next (placeOf (x .place)) → Kept q → q .count ≤ x .pending .count + 1 →
-      Stepped (puts k v) rs x (record { place = y; pending = q }) 1
+      SameBehind (x .pending) q → Stepped (puts k v) rs x (record { place = y; pending = q }) 1
   unfolding Blocks.within
-  step-puts y p kept few =
+  step-puts y p kept few behind =
       record {
         goes = λ onward i. onward (record { place = sym p i; table = table-put i; newKeys = keys-put i });
         kept = kept;
         few = few;
+        behind = behind;
       }
 
 module _ (rs : List Row) (x : Running) (was : Kept (x .pending)) (d s : ℕ) (h : register (placeOf (x .place)) d < 2 ^ 32) where
   pub step-put : (q : Pending) →
       rowsIn q ≡ putRow (dataKey (register (placeOf (x .place)) d)) (register (placeOf (x .place)) s) (rowsIn (x .pending)) →
       (y : Spot) → placeOf y ≡ next (placeOf (x .place)) → Kept q → q .count ≤ x .pending .count + 1 →
-      Stepped (act (PUT d s) (placeOf (x .place))) rs x (record { place = y; pending = q }) 1
+      SameBehind (x .pending) q → Stepped (act (PUT d s) (placeOf (x .place))) rs x (record { place = y; pending = q }) 1
   unfolding Instructions.act
   step-put q e = step-puts rs x was (register (placeOf (x .place)) d) (register (placeOf (x .place)) s) h q e
 

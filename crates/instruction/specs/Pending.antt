@@ -4,11 +4,15 @@ use mathlib.Core.List.{List}
 use mathlib.Core.Option.{Option, none, some}
 use mathlib.Core.Path.{_≡_}
 use Prim.Native.Nat.{ℕ, _≤_}
-use lib.ListN.{length, take}
+use lib.ListN.{length, take, drop, replicate}
 use Rattle.keys.specs.Keys.{isDataKey}
 use Rattle.store.specs.Rows.{Row, pairs, lookup, keysIn, countNew}
 use Rattle.store.specs.Questions.{allIn, rising}
 use Rattle.instruction.specs.declared.pending.Pending.{Pending}
+
+-- no PUT so far: every place of both arrays is 0
+abbrev pub nothingPending : Pending
+nothingPending = record { keys = replicate 17 0; values = replicate 17 0; count = 0 }
 
 -- the rows that are pending
 unfoldable pub rowsIn : Pending → List Row
@@ -32,6 +36,11 @@ pub record Sized (p : Pending) : Type 0 where
   pub keys-long : length (p .keys) ≡ 17
   pub values-long : length (p .values) ≡ 17
   pub fit : p .count ≤ 17
+
+-- Behind the rows of q both arrays are as p has them. With its rows, this settles all of q (`settled`).
+pub record SameBehind (p q : Pending) : Type 0 where
+  pub keys-behind : drop (q .count) (q .keys) ≡ drop (q .count) (p .keys)
+  pub values-behind : drop (q .count) (q .values) ≡ drop (q .count) (p .values)
 
 -- what holds of the pending rows all along: at most 16, data keys only, by rising key
 pub record Kept (p : Pending) : Type 0 where

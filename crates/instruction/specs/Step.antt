@@ -12,7 +12,7 @@ use Rattle.operation.specs.Parts.{operationOf, sourceOf}
 use Rattle.operation.specs.Operations.{opSet, opJlt, opJeq, opBegin, opEnd, opPut, opReturn}
 use Rattle.instruction.specs.declared.Spot.{Spot}
 use Rattle.instruction.specs.declared.Running.{Running}
-use Rattle.instruction.specs.Pending.{seen, rowsIn, newIn, Kept}
+use Rattle.instruction.specs.Pending.{seen, rowsIn, newIn, SameBehind, Kept}
 
 -- the rules' place of a spot
 abbrev pub placeOf : Spot → Place
@@ -32,6 +32,7 @@ pub record Stepped (a : Act) (rs : List Row) (x y : Running) (more : ℕ) : Type
   pub goes : (onward : Work → Block) → within a (workOf rs x) onward ≡ onward (workOf rs y)
   pub kept : Kept (y .pending)
   pub few : y .pending .count ≤ x .pending .count + more
+  pub behind : SameBehind (x .pending) (y .pending)
 
 -- the keys that an operation may add to the pending ones: PUT one, the rest none
 abbrev pub putsOf : (op : ℕ) → ℕ

@@ -28,4 +28,4 @@ put-value-spec =
     let k = dk .data-key .ensures in
     let q = pp .pending-put .ensures in
     step-put rs (a .x) (st .pre .0) (a .d) (a .s) (k .1) (pp .pending-put .result) (rw (k .0) at (q .1))
-    (c .advanced .result) (c .advanced .ensures) (q .0) (q .2)))
+    (c .advanced .result) (c .advanced .ensures) (q .0) (q .2) (q .3)))

@@ -15,20 +15,18 @@ run-spec =
     (λ c. search needs)
     (λ c κs.
     let st = c .before .before .before .before in
-    let a = st .args in
-    let n = c .no-pending .ensures in (
+    let a = st .args in (
       st .pre .right,
       st .pre .sound,
       omega (arith, st .pre .below),
       starts-inside (a .ops .now) (a .operands .now) (rowsOf (a .store .now) (a .partition)) (a .begin) (a .registers)
-          (c .no-pending .result) (n .0) (n .1) (n .2) (st .pre .begins),
+          (c .no-pending .result) (c .no-pending .ensures) (st .pre .begins),
     ))
     (λ c.
     let np = c .before in
-    let a = np .before .before .before .before .args in
-    let n = np .no-pending .ensures in (
+    let a = np .before .before .before .before .args in (
       c .run-on .ensures .0,
       c .run-on .ensures .1
           ∙ starts (a .ops .now) (a .operands .now) (rowsOf (a .store .now) (a .partition)) (a .begin) (a .registers)
-          (np .no-pending .result) (n .0) (n .1) (n .2),
+          (np .no-pending .result) (np .no-pending .ensures),
     )))
