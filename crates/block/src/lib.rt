@@ -1,4 +1,4 @@
 // A block: run on a copy of the registers with its PUTs kept beside the store, then written at once.
-pub mod log;
-pub mod run;
+mod log;
+mod run;
 pub mod write;

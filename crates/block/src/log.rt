@@ -9,7 +9,7 @@ ghost use Rattle.store.specs.Sound.{Sound};
 use store::rows::Found;
 
 // Where it stands in a partition, or where it belongs.
-pub fn log_row(store: &[u8], partition: usize, id: u32, step: u16) -> Found
+pub(crate) fn log_row(store: &[u8], partition: usize, id: u32, step: u16) -> Found
     requires { ⌜ Sound (now store) × (partition ≤ partsOf (now store)) ⌝ }
     ensures { λ r. ⌜ r ≡ foundIn (logKey id step) (keysIn (rowsOf (now (store .entry)) partition)) ⌝ }
 {

@@ -15,7 +15,7 @@ use instruction::pending::no_pending;
 use instruction::step;
 
 // A block's run that came to END: its result and its PUTs.
-pub struct Ran {
+pub(crate) struct Ran {
     pub result: u32,
     pub pending: Pending,
 }

@@ -165,7 +165,7 @@ fn check_behind_pack(pack: &[u8], store: &[u8], agents: [Agent; 8]) -> Verdict
 }
 
 // Questions 1 to 14: the first no.
-pub fn check_lent(pack: &[u8], store: &[u8], agents: [Agent; 8]) -> Verdict
+fn check_lent(pack: &[u8], store: &[u8], agents: [Agent; 8]) -> Verdict
     ensures { λ r. ⌜ r ≡ verdictOf (lentRefusal (now (pack .entry)) (record { store = now (store .entry); records = agents })) ⌝ }
 {
     let v = pack::check(pack);
