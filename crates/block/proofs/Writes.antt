@@ -202,6 +202,12 @@ module _ (xs ys : List ℕ) (p : ℕ) (r : Ran) (kept : Kept (r .pending)) (id t
 
 -- ---- question 21
 
+-- where a block needs more rows than are free, the answer is no, and nothing is changed
+pub too-full : (xs ys : List ℕ) (p id t : ℕ) (b : Block) → capOf xs < length (rowsOf xs p) + rowsNeeded b → ys ≡ xs →
+    Through xs ys p id t b NoRoom none
+unfolding Through
+too-full xs ys p id t b l same = rw (lt-leb (length (rowsOf xs p) + rowsNeeded b) (capOf xs) l) (refl, same)
+
 -- A block's rows, by the answer of their write: written if question 21 says yes, else nothing is changed.
 module _ (xs ys : List ℕ) (p : ℕ) (r : Ran) (kept : Kept (r .pending)) (id t : ℕ) (h : id < 2 ^ 32) (g : t < 65536) (q : Pending)
     (sized : Sized q) (e : rowsIn q ≡ insertAt (rowsIn (r .pending)) 0 (logKey id t, r .result))
@@ -220,11 +226,8 @@ module _ (xs ys : List ℕ) (p : ℕ) (r : Ran) (kept : Kept (r .pending)) (id t
 
   pub no-room : StoredIfRoom xs ys p (putAll (pairs (take (q .count) (q .keys)) (take (q .count) (q .values)))) false →
       Through xs ys p id t (blockOf (rowsOf xs p) r) NoRoom none
-  unfolding Sounds.StoredIfRoom Through
-  no-room s =
-      let full : hasRoom xs p (blockOf (rowsOf xs p) r) ≡ false =
-      lt-leb (length (rowsOf xs p) + rowsNeeded (blockOf (rowsOf xs p) r)) (capOf xs) (omega (arith, s .0, count)) in
-      rw full (refl, s .1)
+  unfolding Sounds.StoredIfRoom
+  no-room s = too-full xs ys p id t (blockOf (rowsOf xs p) r) (omega (arith, s .0, count)) (s .1)
 
 -- what is shown of the block that the code ran holds of the rules' block
 pub same-block : (xs ys : List ℕ) (p id t : ℕ) (b b′ : Block) (r : BlockOutcome) → b ≡ b′ → Through xs ys p id t b r none →

@@ -145,8 +145,8 @@ fn check_behind_pack(pack: &[u8], store: &[u8], agents: [Agent; 8]) -> Verdict
     requires { ⌜ packRefusal (now pack) ≡ none ⌝ }
     ensures { λ r. ⌜ r ≡ verdictOf (lentRefusal (now (pack .entry)) (record { store = now (store .entry); records = agents })) ⌝ }
 {
-    let v = store_check::check_store(store);
-    match v {
+    let store_verdict = store_check::check_store(store);
+    match store_verdict {
         Verdict::Accepted => {
             if !check_13(pack, store) {
                 return questions::refused(13, 0, 0);
@@ -154,13 +154,13 @@ fn check_behind_pack(pack: &[u8], store: &[u8], agents: [Agent; 8]) -> Verdict
             if !check_14(pack, store, agents) {
                 return questions::refused(14, 0, 0);
             }
-            v
+            store_verdict
         }
         Verdict::Refused {
             question: _,
             workflow: _,
             instruction: _,
-        } => v,
+        } => store_verdict,
     }
 }
 
@@ -168,14 +168,14 @@ fn check_behind_pack(pack: &[u8], store: &[u8], agents: [Agent; 8]) -> Verdict
 fn check_lent(pack: &[u8], store: &[u8], agents: [Agent; 8]) -> Verdict
     ensures { λ r. ⌜ r ≡ verdictOf (lentRefusal (now (pack .entry)) (record { store = now (store .entry); records = agents })) ⌝ }
 {
-    let v = pack::check(pack);
-    match v {
+    let pack_verdict = pack::check(pack);
+    match pack_verdict {
         Verdict::Accepted => check_behind_pack(pack, store, agents),
         Verdict::Refused {
             question: _,
             workflow: _,
             instruction: _,
-        } => v,
+        } => pack_verdict,
     }
 }
 
@@ -189,8 +189,8 @@ pub fn check_to_16(
 ) -> Verdict
     ensures { λ r. ⌜ r ≡ verdictOf (firstSixteen (now (pack .entry)) (record { store = now (store .entry); records = agents }) slot used) ⌝ }
 {
-    let v = check_lent(pack, store, agents);
-    match v {
+    let lent_verdict = check_lent(pack, store, agents);
+    match lent_verdict {
         Verdict::Accepted => {
             if 8 <= slot {
                 return questions::refused(15, 0, 0);
@@ -199,12 +199,12 @@ pub fn check_to_16(
             if a.in_use != used {
                 return questions::refused(16, 0, 0);
             }
-            v
+            lent_verdict
         }
         Verdict::Refused {
             question: _,
             workflow: _,
             instruction: _,
-        } => v,
+        } => lent_verdict,
     }
 }
