@@ -55,7 +55,12 @@ module _ (rs : List Row) (x : Running) (y : Spot) (kept : Kept (x .pending)) whe
   step-moved : (a : Act) → moves (placeOf y) ≡ a → Stepped a rs x (atPlace x y) 0
   unfolding Blocks.within
   step-moved a e =
-      record { goes = λ onward. ap (λ (b : Act). within b (workOf rs x) onward) (sym e); kept = kept; few = omega arith; behind = as-it-was (x .pending) }
+      record {
+        goes = λ onward. ap (λ (b : Act). within b (workOf rs x) onward) (sym e);
+        kept = kept;
+        few = omega arith;
+        behind = as-it-was (x .pending);
+      }
 
   -- by what the block sees at the key
   step-reads : (k : ℕ) → k < 2 ^ 32 → (o : Option ℕ) → seen (rowsIn (x .pending)) rs (dataKey k) ≡ o → (to : Option ℕ → Place) →
@@ -132,7 +137,7 @@ module _ (rs : List Row) (x : Running) (was : Kept (x .pending)) (d s : ℕ) (h 
   unfolding Instructions.act
   step-put q e = step-puts rs x was (register (placeOf (x .place)) d) (register (placeOf (x .place)) s) h q e
 
--- ---- by the operation that the byte opHas
+-- ---- by the operation that the byte has
 
 module _ (b w d s : ℕ) (p : d ≡ registerOf b) (q : s ≡ w % 8) (z : Sourced (operationOf b) w) (rs : List Row) (x y : Running) where
   source : (op : ℕ) → operationOf b ≡ op → (op ≡ 0 → ⊥) → sourceBy op w ≡ s

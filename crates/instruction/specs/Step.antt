@@ -39,17 +39,17 @@ abbrev pub putsOf : (op : ℕ) → ℕ
 putsOf op = if eqb op opPut then 1 else 0
 
 -- the number of the register s: of a jump w is 16 × target + s
-abbrev pub sourceBy : (op w : ℕ) → ℕ
-sourceBy op w = if eqb op opJlt then sourceOf w else if eqb op opJeq then sourceOf w else w
+abbrev pub sourceBy : (op word : ℕ) → ℕ
+sourceBy op word = if eqb op opJlt then sourceOf word else if eqb op opJeq then sourceOf word else word
 
 -- s is the low three bits of w, in every operation but SET, whose w is any
-abbrev pub Sourced : (op w : ℕ) → Type 0
-Sourced op w = (op ≡ opSet → ⊥) → sourceBy op w ≡ w % 8
+abbrev pub Sourced : (op word : ℕ) → Type 0
+Sourced op word = (op ≡ opSet → ⊥) → sourceBy op word ≡ word % 8
 
 -- what the questions say of an instruction inside a block, other than END: operation and operand, and that PUT has room
-pub record Fits (b w : ℕ) (x : Running) : Type 0 where
-  pub known : operationOf b < opReturn
-  pub no-begin : operationOf b ≡ opBegin → ⊥
-  pub no-end : operationOf b ≡ opEnd → ⊥
-  pub sourced : Sourced (operationOf b) w
-  pub room : operationOf b ≡ opPut → x .pending .count < 16
+pub record Fits (byte word : ℕ) (x : Running) : Type 0 where
+  pub known : operationOf byte < opReturn
+  pub no-begin : operationOf byte ≡ opBegin → ⊥
+  pub no-end : operationOf byte ≡ opEnd → ⊥
+  pub sourced : Sourced (operationOf byte) word
+  pub room : operationOf byte ≡ opPut → x .pending .count < 16

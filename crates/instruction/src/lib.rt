@@ -31,10 +31,10 @@ pub struct Running {
 }
 
 // The register s that an operand names: its low three bits.
-fn register_named(w: u32) -> usize
-    ensures { λ r. ⌜ (r ≡ w % 8) × (r < 8) ⌝ }
+fn register_named(word: u32) -> usize
+    ensures { λ r. ⌜ (r ≡ word % 8) × (r < 8) ⌝ }
 {
-    (w & 7) as usize
+    (word & 7) as usize
 }
 
 // On to the next instruction.
@@ -49,13 +49,13 @@ fn advanced(x: Spot) -> Spot
     }
 }
 
-// Register d becomes v, and on to the next instruction.
-fn with_register(x: Spot, d: usize, v: u32) -> Spot
+// Register d becomes `value`, and on to the next instruction.
+fn with_register(x: Spot, d: usize, value: u32) -> Spot
     requires { ⌜ (d < 8) × (x .position + 1 < 2 ^ 64) ⌝ }
-    ensures { λ r. ⌜ placeOf r ≡ becomes (placeOf x) d v ⌝ }
+    ensures { λ r. ⌜ placeOf r ≡ becomes (placeOf x) d value ⌝ }
 {
     let mut registers = x.registers;
-    registers[d] = v;
+    registers[d] = value;
     Spot {
         position: x.position + 1,
         registers,
@@ -78,16 +78,16 @@ fn jumped(x: Spot, taken: bool, target: u32) -> Spot
 }
 
 // SET, COPY, ADD, SUB, JLT, JEQ, inside a block or outside: registers alone.
-pub fn moved(x: Spot, op: u8, d: usize, w: u32) -> Spot
-    requires { ⌜ (op < 6) × (d < 8) × (x .position + 1 < 2 ^ 64) × Sourced op w ⌝ }
-    ensures { λ r. ⌜ moves (placeOf r) ≡ act (decode op d w) (placeOf x) ⌝ }
+pub fn moved(x: Spot, op: u8, d: usize, word: u32) -> Spot
+    requires { ⌜ (op < 6) × (d < 8) × (x .position + 1 < 2 ^ 64) × Sourced op word ⌝ }
+    ensures { λ r. ⌜ moves (placeOf r) ≡ act (decode op d word) (placeOf x) ⌝ }
 {
-    let s = register_named(w);
+    let s = register_named(word);
     let a = x.registers[d];
     let b = x.registers[s];
-    let target = operation::target_of(w);
+    let target = operation::target_of(word);
     match op {
-        0 => with_register(x, d, w),
+        0 => with_register(x, d, word),
         1 => with_register(x, d, b),
         2 => with_register(x, d, operation::add32(a, b)),
         3 => with_register(x, d, operation::sub32(a, b)),
@@ -106,15 +106,16 @@ fn at_place(x: Running, place: Spot) -> Running
 
 // GET. An absent key leaves register d as it was.
 fn got(store: &[u8], partition: usize, x: Running, d: usize, s: usize) -> Running
-    requires { ⌜ Sound (now store) × (partition ≤ partsOf (now store)) × Kept (x .pending) × (d < 8) × (s < 8) × (x .place .position + 1 < 2 ^ 64) ⌝ }
+    requires { ⌜ Sound (now store) × (partition ≤ partsOf (now store)) × Kept (x .pending) × (d < 8) × (s < 8)
+        × (x .place .position + 1 < 2 ^ 64) ⌝ }
     ensures { λ r. ⌜ Stepped (act (Instruction.GET d s) (placeOf (x .place))) (rowsOf (now (store .entry)) partition) x r 0 ⌝ }
 {
     let place = x.place;
     let pending = x.pending;
     let key = keys::data_key(place.registers[s]);
     let old = place.registers[d];
-    let g = seen_value(store, partition, pending, key);
-    match g {
+    let found = seen_value(store, partition, pending, key);
+    match found {
         Got::Value(v) => at_place(x, with_register(place, d, v)),
         Got::Absent => at_place(x, with_register(place, d, old)),
     }
@@ -122,14 +123,15 @@ fn got(store: &[u8], partition: usize, x: Running, d: usize, s: usize) -> Runnin
 
 // HAS.
 fn tested(store: &[u8], partition: usize, x: Running, d: usize, s: usize) -> Running
-    requires { ⌜ Sound (now store) × (partition ≤ partsOf (now store)) × Kept (x .pending) × (d < 8) × (s < 8) × (x .place .position + 1 < 2 ^ 64) ⌝ }
+    requires { ⌜ Sound (now store) × (partition ≤ partsOf (now store)) × Kept (x .pending) × (d < 8) × (s < 8)
+        × (x .place .position + 1 < 2 ^ 64) ⌝ }
     ensures { λ r. ⌜ Stepped (act (Instruction.HAS d s) (placeOf (x .place))) (rowsOf (now (store .entry)) partition) x r 0 ⌝ }
 {
     let place = x.place;
     let pending = x.pending;
     let key = keys::data_key(place.registers[s]);
-    let g = seen_value(store, partition, pending, key);
-    match g {
+    let found = seen_value(store, partition, pending, key);
+    match found {
         Got::Value(_) => at_place(x, with_register(place, d, 1)),
         Got::Absent => at_place(x, with_register(place, d, 0)),
     }
@@ -154,14 +156,15 @@ const GET: u8 = 8;
 const HAS: u8 = 10;
 
 // One instruction inside a block, other than END.
-pub fn step(store: &[u8], partition: usize, x: Running, b: u8, w: u32) -> Running
+pub fn step(store: &[u8], partition: usize, x: Running, byte: u8, word: u32) -> Running
     requires { ⌜ Sound (now store) × (partition ≤ partsOf (now store)) × Kept (x .pending) × (x .place .position + 1 < 2 ^ 64) ⌝ }
-    requires { ⌜ Fits b w x ⌝ }
-    ensures { λ r. ⌜ Stepped (act (instructionOf b w) (placeOf (x .place))) (rowsOf (now (store .entry)) partition) x r (putsOf (operationOf b)) ⌝ }
+    requires { ⌜ Fits byte word x ⌝ }
+    ensures { λ r. ⌜ Stepped (act (instructionOf byte word) (placeOf (x .place))) (rowsOf (now (store .entry)) partition) x r
+        (putsOf (operationOf byte)) ⌝ }
 {
-    let op = operation::operation_of(b);
-    let d = operation::register_of(b) as usize;
-    let s = register_named(w);
+    let op = operation::operation_of(byte);
+    let d = operation::register_of(byte) as usize;
+    let s = register_named(word);
     if op == GET {
         return got(store, partition, x, d, s);
     }
@@ -172,5 +175,5 @@ pub fn step(store: &[u8], partition: usize, x: Running, b: u8, w: u32) -> Runnin
         return tested(store, partition, x, d, s);
     }
     let place = x.place;
-    at_place(x, moved(place, op, d, w))
+    at_place(x, moved(place, op, d, word))
 }

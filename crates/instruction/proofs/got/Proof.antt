@@ -31,10 +31,10 @@ got-spec =
     let s = dk .before .before .before .before .before in
     let a = s .args in
     let k = dk .data-key .ensures in
-    let v = m .g .given .0 .0 in
+    let v = m .found .given .0 .0 in
     rw (c .at-place .ensures)
     (step-get (rowsOf (a .store .now) (a .partition)) (a .x) (st .with-register .result) (s .pre .2) (a .d) (a .s) (k .1) (some v)
-    (got-some _ _ (rw (k .0) at (sv .seen-value .ensures)) v (m .g .given .1)) (st .with-register .ensures)))
+    (got-some _ _ (rw (k .0) at (sv .seen-value .ensures)) v (m .found .given .1)) (st .with-register .ensures)))
     (λ c.
     let st = c .before in
     let m = st .before in

@@ -6,5 +6,5 @@ use Rattle.instruction.proofs.register_named.Tie as tie
 
 pub register-named-spec : {M : Type 1} → statement M
 register-named-spec = tie.close
-    (tie.spec (λ c. omega (arith, and-mask (c .args .w) 3))
-    (λ c. (omega (arith, and-mask (c .args .w) 3), omega (arith, and-mask (c .args .w) 3))))
+    (tie.spec (λ c. omega (arith, and-mask (c .args .word) 3))
+    (λ c. (omega (arith, and-mask (c .args .word) 3), omega (arith, and-mask (c .args .word) 3))))

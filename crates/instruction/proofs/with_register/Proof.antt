@@ -11,4 +11,4 @@ with-register-spec =
     (λ c. search needs)
     (λ c. search needs)
     (λ c. search needs)
-    (λ c. let a = c .before .before .args in becomes-at (a .x) (a .d) (a .v)))
+    (λ c. let a = c .before .before .args in becomes-at (a .x) (a .d) (a .value)))
