@@ -183,5 +183,6 @@ module _ (ops ws : List ℕ) (rs : List Row) (first : ℕ) (registers : List ℕ
   unfolding Blocks.runBlock over Rows.lookup Rows.countNew Rows.keysIn
   starts =
       ap (λ (ps : List Row). runFrom (codeOf ops ws) (length ops - (first + 1))
-      (record { place = placeOf (started .place); table = tableOf (seen ps rs); newKeys = countNew (keysIn ps) rs })) (ap rowsIn nothing ∙ no-rows)
+      (record { place = placeOf (started .place); table = tableOf (seen ps rs); newKeys = countNew (keysIn ps) rs }))
+      (ap rowsIn nothing ∙ no-rows)
       ∙ rw (add-one first, ← length-code ops ws) refl

@@ -29,40 +29,40 @@ outcomeOf (yields v) = Result v
 abbrev pub loggedValue : Rules.Result → ℕ
 loggedValue (yields v) = v
 
--- BEGIN at `begin` opens a block of partition p, in a workflow that is right, over a sound store
-pub record Ready (ops ws xs : List ℕ) (p begin : ℕ) : Type 0 where
+-- BEGIN at `begin` opens a block of the partition, in a workflow that is right, over a sound store
+pub record Ready (ops ws xs : List ℕ) (partition begin : ℕ) : Type 0 where
   pub right : Right ops ws
   pub sound : Sound xs
-  pub below : p < partsOf xs
+  pub below : partition < partsOf xs
   pub in-code : begin < length ops
   pub begins : operationAt ops begin ≡ Operations.opBegin
 
--- the rules' run of that block, on the table of partition p
-abbrev pub blockAt : (ops ws xs : List ℕ) (p begin : ℕ) → (registers : List ℕ) → Block
-blockAt ops ws xs p begin registers =
-    runBlock (codeOf ops ws) (record { position = begin; registers = registers }) (tableOf (valueIn (rowsOf xs p)))
+-- the rules' run of that block, on the partition's table
+abbrev pub blockAt : (ops ws xs : List ℕ) (partition begin : ℕ) → (registers : List ℕ) → Block
+blockAt ops ws xs partition begin registers =
+    runBlock (codeOf ops ws) (record { position = begin; registers = registers }) (tableOf (valueIn (rowsOf xs partition)))
 
 -- 21. Has a block that isn't logged enough free rows: one, plus one per different new key it PUTs?
-abbrev pub hasRoom : (xs : List ℕ) (p : ℕ) → Block → Bool
-hasRoom xs p b = leb (length (rowsOf xs p) + rowsNeeded b) (capOf xs)
+abbrev pub hasRoom : (xs : List ℕ) (partition : ℕ) → Block → Bool
+hasRoom xs partition b = leb (length (rowsOf xs partition) + rowsNeeded b) (capOf xs)
 
--- Data rows and log row of a block are written together: ys is xs's store with them in partition p, and with nothing else changed.
-pub record Committed (xs ys : List ℕ) (p id t : ℕ) (b : Block) : Type 0 where
+-- Data rows and log row of a block are written together: ys is xs's store with them in the partition, and with nothing else changed.
+pub record Committed (xs ys : List ℕ) (partition id step : ℕ) (b : Block) : Type 0 where
   pub sound : Sound ys
   pub parts : partsOf ys ≡ partsOf xs
   pub cap : capOf ys ≡ capOf xs
-  pub table : tableOf (valueIn (rowsOf ys p)) ≡ b .table
-  pub log : logOf (valueIn (rowsOf ys p)) ≡ update (logOf (valueIn (rowsOf xs p))) id
-      (update (logOf (valueIn (rowsOf xs p)) id) t (some (loggedValue (b .result))))
-  pub used : length (rowsOf ys p) ≡ length (rowsOf xs p) + rowsNeeded b
-  pub others : (q : ℕ) → q ≢ p → rowsOf ys q ≡ rowsOf xs q
+  pub table : tableOf (valueIn (rowsOf ys partition)) ≡ b .table
+  pub log : logOf (valueIn (rowsOf ys partition)) ≡ update (logOf (valueIn (rowsOf xs partition))) id
+      (update (logOf (valueIn (rowsOf xs partition)) id) step (some (loggedValue (b .result))))
+  pub used : length (rowsOf ys partition) ≡ length (rowsOf xs partition) + rowsNeeded b
+  pub others : (q : ℕ) → q ≢ partition → rowsOf ys q ≡ rowsOf xs q
 
--- A block of partition p for step t of request id, by what its log row says: what it comes to, and the bytes ys that it leaves. If the row
--- is found, no byte changes and the logged value is the result. If not, and question 21 says no, no byte changes either.
-unfoldable pub Through : (xs ys : List ℕ) (p id t : ℕ) → Block → BlockOutcome → (log : Option ℕ) → Type 0
-Through xs ys p id t b r (some v) = (r ≡ Result v) × (ys ≡ xs)
-Through xs ys p id t b r none =
-    if hasRoom xs p b then ((r ≡ outcomeOf (b .result)) × Committed xs ys p id t b) else ((r ≡ NoRoom) × (ys ≡ xs))
+-- A block of the partition for a step of request id, by what its log row says: what it comes to, and the bytes ys that it leaves. If the
+-- row is found, no byte changes and the logged value is the result. If not, and question 21 says no, no byte changes either.
+unfoldable pub Through : (xs ys : List ℕ) (partition id step : ℕ) → Block → BlockOutcome → (log : Option ℕ) → Type 0
+Through xs ys partition id step b r (some v) = (r ≡ Result v) × (ys ≡ xs)
+Through xs ys partition id step b r none =
+    if hasRoom xs partition b then ((r ≡ outcomeOf (b .result)) × Committed xs ys partition id step b) else ((r ≡ NoRoom) × (ys ≡ xs))
 
 -- had the block room, by what it came to?
 abbrev pub hadRoom : BlockOutcome → Bool

@@ -23,23 +23,25 @@ pub(crate) struct Ran {
 // From a place inside a block until END. A workflow that passes the check never runs past its last instruction.
 fn run_on(ops: &[u8], operands: &[u8], store: &[u8], partition: usize, start: Running) -> Ran
     requires { ⌜ Right (now ops) (now operands) × Sound (now store) × (partition ≤ partsOf (now store)) × Inside (now ops) start ⌝ }
-    ensures { λ r. ⌜ Kept (r .pending) × (blockOf (rowsOf (now (store .entry)) partition) r ≡ runOf (now (ops .entry)) (now (operands .entry)) (rowsOf (now (store .entry)) partition) start) ⌝ }
+    ensures { λ r. ⌜ Kept (r .pending)
+        × (blockOf (rowsOf (now (store .entry)) partition) r
+        ≡ runOf (now (ops .entry)) (now (operands .entry)) (rowsOf (now (store .entry)) partition) start) ⌝ }
 {
     let mut x = start;
     while x.place.position < ops.len() {
         let place = x.place;
-        let at = place.position;
-        let b = ops[at];
-        if operation::operation_of(b) == operation::END {
-            let d = operation::register_of(b) as usize;
+        let position = place.position;
+        let byte = ops[position];
+        if operation::operation_of(byte) == operation::END {
+            let d = operation::register_of(byte) as usize;
             let pending = x.pending;
             return Ran {
                 result: place.registers[d],
                 pending,
             };
         }
-        let w = code::word_in(operands, at);
-        x = step(store, partition, x, b, w);
+        let word = code::word_in(operands, position);
+        x = step(store, partition, x, byte, word);
     }
     let pending = x.pending;
     Ran { result: 0, pending }
@@ -55,7 +57,9 @@ pub(crate) fn run(
     registers: [u32; 8],
 ) -> Ran
     requires { ⌜ Ready (now ops) (now operands) (now store) partition begin ⌝ }
-    ensures { λ r. ⌜ Kept (r .pending) × (blockOf (rowsOf (now (store .entry)) partition) r ≡ blockAt (now (ops .entry)) (now (operands .entry)) (now (store .entry)) partition begin registers) ⌝ }
+    ensures { λ r. ⌜ Kept (r .pending)
+        × (blockOf (rowsOf (now (store .entry)) partition) r
+        ≡ blockAt (now (ops .entry)) (now (operands .entry)) (now (store .entry)) partition begin registers) ⌝ }
 {
     let pending = no_pending();
     let place = Spot {

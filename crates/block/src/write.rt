@@ -34,16 +34,18 @@ fn commit(
     id: u32,
     step: u16,
 ) -> BlockOutcome
-    requires { ⌜ Sound (now store) × (partition < partsOf (now store)) × Kept (ran .pending) × (foundIn (logKey id step) (keysIn (rowsOf (now store) partition)) ≡ Belongs place) ⌝ }
-    ensures { λ r. ⌜ Through (now (store .entry)) (now (store .exit)) partition id step (blockOf (rowsOf (now (store .entry)) partition) ran) r none ⌝ }
+    requires { ⌜ Sound (now store) × (partition < partsOf (now store)) × Kept (ran .pending)
+        × (foundIn (logKey id step) (keysIn (rowsOf (now store) partition)) ≡ Belongs place) ⌝ }
+    ensures { λ r. ⌜ Through (now (store .entry)) (now (store .exit)) partition id step
+        (blockOf (rowsOf (now (store .entry)) partition) ran) r none ⌝ }
 {
     let log = keys::log_key(id, step);
     let pending = ran.pending;
     let rows = insert_row(pending, 0, log, ran.result);
-    let n = rows.count;
+    let count = rows.count;
     let keys = rows.keys;
     let values = rows.values;
-    if store_write::put_all(store, partition, place, &keys[..n], &values[..n]) {
+    if store_write::put_all(store, partition, place, &keys[..count], &values[..count]) {
         return BlockOutcome::Result(ran.result);
     }
     BlockOutcome::NoRoom
@@ -63,7 +65,8 @@ fn run_and_write(
 ) -> BlockOutcome
     requires { ⌜ Ready (now ops) (now operands) (now store) partition begin ⌝ }
     requires { ⌜ foundIn (logKey id step) (keysIn (rowsOf (now store) partition)) ≡ Belongs place ⌝ }
-    ensures { λ r. ⌜ Through (now (store .entry)) (now (store .exit)) partition id step (blockAt (now (ops .entry)) (now (operands .entry)) (now (store .entry)) partition begin registers) r none ⌝ }
+    ensures { λ r. ⌜ Through (now (store .entry)) (now (store .exit)) partition id step
+        (blockAt (now (ops .entry)) (now (operands .entry)) (now (store .entry)) partition begin registers) r none ⌝ }
 {
     let ran = run(ops, operands, store, partition, begin, registers);
     commit(store, partition, place, ran, id, step)
@@ -81,15 +84,17 @@ pub fn through_block(
     step: u16,
 ) -> BlockOutcome
     requires { ⌜ Ready (now ops) (now operands) (now store) partition begin ⌝ }
-    ensures { λ r. ⌜ Through (now (store .entry)) (now (store .exit)) partition id step (blockAt (now (ops .entry)) (now (operands .entry)) (now (store .entry)) partition begin registers) r (logOf (valueIn (rowsOf (now (store .entry)) partition)) id step) ⌝ }
+    ensures { λ r. ⌜ Through (now (store .entry)) (now (store .exit)) partition id step
+        (blockAt (now (ops .entry)) (now (operands .entry)) (now (store .entry)) partition begin registers) r
+        (logOf (valueIn (rowsOf (now (store .entry)) partition)) id step) ⌝ }
 {
-    let f = log_row(store, partition, id, step);
-    match f {
-        Found::At(i) => {
-            let v = store::rows::value_at(store, partition, i);
-            BlockOutcome::Result(v)
+    let found = log_row(store, partition, id, step);
+    match found {
+        Found::At(row) => {
+            let value = store::rows::value_at(store, partition, row);
+            BlockOutcome::Result(value)
         }
-        Found::Belongs(i) => {
+        Found::Belongs(place) => {
             run_and_write(
                 ops,
                 operands,
@@ -99,7 +104,7 @@ pub fn through_block(
                 registers,
                 id,
                 step,
-                i,
+                place,
             )
         }
     }

@@ -1,5 +1,5 @@
--- `block::run::run_on` meets its contract. The loop's invariant: the run stands inside the block, and what the rules make of it from here is
--- what they make of it from the start.
+-- `block::run::run_on` meets its contract. The loop's invariant: the run stands inside the block, and what the rules make of it from here
+-- is what they make of it from the start.
 use mathlib.Core.Path.{_≡_, refl, sym, _∙_}
 use Prim.Native.Nat.{_-_}
 use native.Mathlib.Omega.{arith}
@@ -24,10 +24,20 @@ Inv-loop ops operands store partition x₀ x =
 abbrev μ-loop : tie.MeasureT-loop
 μ-loop ops operands store partition x₀ x = length ops - x .place .position
 
+-- From the byte that was read back to the loop's test, to where the loop stood, and to the start.
+abbrev within-code : tie.After-operation-of Inv-loop μ-loop → tie.Then1 Inv-loop μ-loop
+within-code oo = oo .before .before .before
+
+abbrev standing : tie.Then1 Inv-loop μ-loop → tie.At-loop Inv-loop μ-loop
+standing il = il .before .before
+
+abbrev start : tie.At-loop Inv-loop μ-loop → tie.Start Inv-loop μ-loop
+start lp = lp .before .before .before .before
+
 -- what a turn of the loop has done
 stepped : (c : tie.After-step Inv-loop μ-loop) →
-    let lp = c .before .before .before .before .before .before .before .before in
-    let a = lp .before .before .before .before .args in
+    let lp = standing (within-code (c .before .before .before)) in
+    let a = start lp .args in
     let at = lp .loop .x .place .position in
     Stepped (act (instructionOf (getD (a .ops .now) at 0) (wordAt (a .operands .now) at)) (placeOf (lp .loop .x .place)))
     (rowsOf (a .store .now) (a .partition)) (lp .loop .x) (c .step .result) (putsOf (operationAt (a .ops .now) at))
@@ -49,9 +59,9 @@ run-on-spec =
     (λ c.
     let ro = c .before .before in
     let oo = ro .before .before in
-    let il = oo .before .before .before in
-    let lp = il .before .before in
-    let st = lp .before .before .before .before in
+    let il = within-code oo in
+    let lp = standing il in
+    let st = start lp in
     let a = st .args in (
       lp .loop .inv .0 .kept,
       run-ends (a .ops .now) (a .operands .now) (st .pre .0) (rowsOf (a .store .now) (a .partition)) (lp .loop .x) _ refl (il .if1 .taken)
@@ -60,12 +70,12 @@ run-on-spec =
     ))
     (λ c κs.
     let il = c .before .before .before .before in
-    omega (arith, il .if1 .taken, il .before .before .before .before .before .before .pre .0 .sized))
+    omega (arith, il .if1 .taken, start (standing il) .pre .0 .sized))
     (λ c κs.
     let oo = c .before .before in
-    let il = oo .before .before .before in
-    let lp = il .before .before in
-    let st = lp .before .before .before .before in
+    let il = within-code oo in
+    let lp = standing il in
+    let st = start lp in
     let a = st .args in
     let i = lp .loop .inv .0 in (
       (st .pre .1, st .pre .2, i .kept, search needs),
@@ -75,9 +85,9 @@ run-on-spec =
     (λ c.
     let el = c .before .before in
     let oo = el .before in
-    let il = oo .before .before .before in
-    let lp = il .before .before in
-    let st = lp .before .before .before .before in
+    let il = within-code oo in
+    let lp = standing il in
+    let st = start lp in
     let a = st .args in
     let f = goes-further (a .ops .now) (a .operands .now) (st .pre .0) (rowsOf (a .store .now) (a .partition)) (lp .loop .x)
     (c .step .result) (il .if1 .taken) (lp .loop .inv .0) (λ q. el .if2 .left (oo .operation-of .ensures ∙ q)) (stepped c) in
@@ -85,9 +95,9 @@ run-on-spec =
     (λ c.
     let el = c .before .before in
     let oo = el .before in
-    let il = oo .before .before .before in
-    let lp = il .before .before in
-    let st = lp .before .before .before .before in
+    let il = within-code oo in
+    let lp = standing il in
+    let st = start lp in
     let a = st .args in
     let n : operationAt (a .ops .now) (lp .loop .x .place .position) ≡ opEnd → ⊥ = λ q. el .if2 .left (oo .operation-of .ensures ∙ q) in (
       goes-further (a .ops .now) (a .operands .now) (st .pre .0) (rowsOf (a .store .now) (a .partition)) (lp .loop .x) (c .step .result)
@@ -99,7 +109,7 @@ run-on-spec =
     (λ c.
     let al = c .before in
     let lp = al .before .before in
-    let st = lp .before .before .before .before in
+    let st = start lp in
     let a = st .args in (
       lp .loop .inv .0 .kept,
       run-none (a .ops .now) (a .operands .now) (st .pre .0) (rowsOf (a .store .now) (a .partition)) (lp .loop .x) _ refl

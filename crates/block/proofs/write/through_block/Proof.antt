@@ -23,14 +23,14 @@ through-block-spec =
     let a = st .args in (
       st .pre .sound,
       omega (arith, st .pre .below),
-      at-row (logKey (a .id) (a .step)) (rowsOf (a .store .now) (a .partition)) _ (sym (lr .log-row .ensures) ∙ f .f .given .1),
+      at-row (logKey (a .id) (a .step)) (rowsOf (a .store .now) (a .partition)) _ (sym (lr .log-row .ensures) ∙ f .found .given .1),
     ))
     (λ c. search needs)
     (λ c κs.
     let f = c .before .before in
     let lr = f .before .before in
     let st = lr .before .before .before .before .before in
-    (st .pre, sym (lr .log-row .ensures) ∙ f .f2 .given .1))
+    (st .pre, sym (lr .log-row .ensures) ∙ f .found2 .given .1))
     (λ c. search needs)
     (λ c.
     let f = c .before .before .before in
@@ -39,7 +39,7 @@ through-block-spec =
     let a = st .args in
     through-logged _ _ _ _ _ _ _ _
     (log-some (rowsOf (a .store .now) (a .partition)) (a .id) (a .step) _ (omega (arith, st .fits .id .fits))
-    (omega (arith, st .fits .step .fits)) (sym (lr .log-row .ensures) ∙ f .f .given .1)
+    (omega (arith, st .fits .step .fits)) (sym (lr .log-row .ensures) ∙ f .found .given .1)
     ∙ ap some (sym (c .value-at .ensures))) refl)
     (λ c. search needs)
     (λ c.
@@ -49,5 +49,5 @@ through-block-spec =
     let st = lr .before .before .before .before .before in
     let a = st .args in
     rw (log-none (rowsOf (a .store .now) (a .partition)) (a .id) (a .step) _ (omega (arith, st .fits .id .fits))
-    (omega (arith, st .fits .step .fits)) (sym (lr .log-row .ensures) ∙ f .f2 .given .1))
+    (omega (arith, st .fits .step .fits)) (sym (lr .log-row .ensures) ∙ f .found2 .given .1))
     (w .run-and-write .ensures)))
