@@ -41,7 +41,8 @@ module _ (ops : List ℕ) (begin i : ℕ) where
 pub end-start : (ops : List ℕ) (begin : ℕ) → StillSought ops begin (begin + 1)
 end-start ops begin ws = rw (add-one begin) refl
 
-pub end-miss : (ops : List ℕ) (begin i : ℕ) → StillSought ops begin i → i < length ops → (operationAt ops i ≡ opEnd → ⊥) → StillSought ops begin (i + 1)
+pub end-miss : (ops : List ℕ) (begin i : ℕ) → StillSought ops begin i → i < length ops → (operationAt ops i ≡ opEnd → ⊥) →
+    StillSought ops begin (i + 1)
 end-miss ops begin i l h n ws =
     let q : throughEnd (drop i (codeOf ops ws)) ≡ suc (throughEnd (drop (i + 1) (codeOf ops ws))) =
     rw (add-one i, code-at ops begin i ws h, end-at ops begin i ws h, ne-eqb (operationAt ops i) opEnd n) refl in

@@ -18,9 +18,9 @@ use Rattle.course.specs.declared.Upcoming.{Upcoming}
 
 -- it goes to the place; it does the block that opens at the place, and then stands behind that block; or it replies
 abbrev pub nextAt : Code → Place → Next → Rules.Next
-nextAt code at Goes = goes (going at)
-nextAt code at (Does p) = does at p (passed code at)
-nextAt code at (Says v) = says (yields v)
+nextAt code place Goes = goes (going place)
+nextAt code place (Does partition) = does place partition (passed code place)
+nextAt code place (Says value) = says (yields value)
 
 abbrev pub nextIn : Code → Upcoming → Rules.Next
 nextIn code u = nextAt code (placeOf (u .place)) (u .next)

@@ -29,10 +29,10 @@ pub fn next_of(ops: &[u8], operands: &[u8], from: Spot) -> Upcoming
     ensures { λ r. ⌜ nextIn (codeOf (now (ops .entry)) (now (operands .entry))) r
         ≡ nextOf (codeOf (now (ops .entry)) (now (operands .entry))) (going (placeOf from)) ⌝ }
 {
-    let at = from.position;
-    let b = ops[at];
-    let op = operation::operation_of(b);
-    let d = operation::register_of(b) as usize;
+    let position = from.position;
+    let byte = ops[position];
+    let op = operation::operation_of(byte);
+    let d = operation::register_of(byte) as usize;
     if op == operation::RETURN {
         let value = from.registers[d];
         return Upcoming {
@@ -40,14 +40,14 @@ pub fn next_of(ops: &[u8], operands: &[u8], from: Spot) -> Upcoming
             place: from,
         };
     }
-    let w = code::word_in(operands, at);
+    let word = code::word_in(operands, position);
     if op == operation::BEGIN {
         return Upcoming {
-            next: Next::Does(w as usize),
+            next: Next::Does(word as usize),
             place: from,
         };
     }
-    let place = instruction::moved(from, op, d, w);
+    let place = instruction::moved(from, op, d, word);
     Upcoming {
         next: Next::Goes,
         place,
@@ -59,14 +59,14 @@ fn behind_end(ops: &[u8], begin: usize) -> usize
     requires { ⌜ begin < length (now ops) ⌝ }
     ensures { λ r. ⌜ ((ws : List ℕ) → r ≡ behindEnd (codeOf (now (ops .entry)) ws) begin) ⌝ }
 {
-    let mut i = begin + 1;
-    while i < ops.len() {
-        if operation::operation_of(ops[i]) == operation::END {
-            return i + 1;
+    let mut position = begin + 1;
+    while position < ops.len() {
+        if operation::operation_of(ops[position]) == operation::END {
+            return position + 1;
         }
-        i += 1;
+        position += 1;
     }
-    i
+    position
 }
 
 // Where the agent stands behind the block that opens at `begin`, with the block's result.
