@@ -39,15 +39,15 @@ workflowIn store id = Option·getD (lookup (bookKey id 0) (bookRows store)) 0
 
 -- an agent that moved
 abbrev pub movedTo : Agent → Place → (step : ℕ) → Turned
-movedTo a to t = record { answer = Moved; agent = placed a to t }
+movedTo a to step = record { answer = Moved; agent = placed a to step }
 
 -- an agent that replied: its slot is empty
 abbrev pub replied : Agent → (value : ℕ) → Turned
-replied a v = record { answer = Reply (a .id) v; agent = noAgent }
+replied a value = record { answer = Reply (a .id) value; agent = noAgent }
 
 -- an agent whose block opens at a place, by what the block came to: behind it with its result, and step rises by 1; or no to question 21
 abbrev pub behindBlock : Code → Agent → (begin : Place) → BlockOutcome → Turned
-behindBlock code a begin (Result v) = movedTo a (passed code begin (yields v) .place) (suc (a .step))
+behindBlock code a begin (Result value) = movedTo a (passed code begin (yields value) .place) (suc (a .step))
 behindBlock code a begin NoRoom = record { answer = Refused 21 0 0; agent = a }
 
 -- A turn of agent a gave r and left store′: refused by 21, agent and bytes are as they were; else answer and agent are those of the rule,

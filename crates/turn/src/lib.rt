@@ -25,9 +25,9 @@ fn workflow_of(store: &[u8], id: u32) -> usize
     requires { ⌜ Sound (now store) ⌝ }
     ensures { λ r. ⌜ r ≡ workflowIn (now (store .entry)) id ⌝ }
 {
-    let g = book::booked_workflow(store, id);
-    match g {
-        Got::Value(w) => w as usize,
+    let booked = book::booked_workflow(store, id);
+    match booked {
+        Got::Value(workflow) => workflow as usize,
         Got::Absent => 0,
     }
 }
@@ -45,12 +45,16 @@ fn stand_at(a: Agent, to: Spot, step: u16) -> Turned
 }
 
 // Behind the block that opens at `begin`, by what it came to.
-fn leave_block(ops: &[u8], a: Agent, begin: Spot, b: BlockOutcome) -> Turned
+fn leave_block(ops: &[u8], a: Agent, begin: Spot, outcome: BlockOutcome) -> Turned
     requires { ⌜ (begin .position < length (now ops)) × (length (now ops) ≤ 256) × (a .step < 65535) ⌝ }
-    ensures { λ r. ⌜ ((ws : List ℕ) → r ≡ behindBlock (codeOf (now (ops .entry)) ws) a (placeOf begin) b) ⌝ }
+    ensures { λ r. ⌜ ((ws : List ℕ) → r ≡ behindBlock (codeOf (now (ops .entry)) ws) a (placeOf begin) outcome) ⌝ }
 {
-    match b {
-        BlockOutcome::Result(v) => stand_at(a, course::behind_block(ops, begin, v), a.step + 1),
+    match outcome {
+        BlockOutcome::Result(value) => stand_at(
+            a,
+            course::behind_block(ops, begin, value),
+            a.step + 1,
+        ),
         BlockOutcome::NoRoom => Turned {
             answer: Answer::Refused {
                 question: 21,
@@ -77,9 +81,9 @@ pub fn turn_agent(pack: &[u8], store: &mut [u8], a: Agent) -> Turned
     requires { ⌜ Turnable (now pack) (now store) a ⌝ }
     ensures { λ r. ⌜ TurnedBy (now (pack .entry)) (now (store .entry)) a r (now (store .exit)) ⌝ }
 {
-    let w = workflow_of(store, a.id);
-    let ops = pack::operations_part(pack, w);
-    let operands = pack::operands_part(pack, w);
+    let workflow = workflow_of(store, a.id);
+    let ops = pack::operations_part(pack, workflow);
+    let operands = pack::operands_part(pack, workflow);
     let registers = a.registers;
     let from = Spot {
         position: a.position as usize,
@@ -92,7 +96,7 @@ pub fn turn_agent(pack: &[u8], store: &mut [u8], a: Agent) -> Turned
         Next::Goes => stand_at(a, place, a.step),
         Next::Does(partition) => {
             let copy = place.registers;
-            let b = block::write::through_block(
+            let outcome = block::write::through_block(
                 ops,
                 operands,
                 store,
@@ -102,7 +106,7 @@ pub fn turn_agent(pack: &[u8], store: &mut [u8], a: Agent) -> Turned
                 a.id,
                 a.step,
             );
-            leave_block(ops, a, place, b)
+            leave_block(ops, a, place, outcome)
         }
         Next::Says(value) => reply(a, value),
     }

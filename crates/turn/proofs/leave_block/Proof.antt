@@ -22,7 +22,7 @@ leave-block-spec =
     (λ c κs.
     let b = c .before in
     let s = b .before .before .before .before .before in
-    let l = behind-short (s .args .ops .now) [] (placeOf (s .args .begin)) (b .before .before .b .given .0 .0) (s .pre .0) in
+    let l = behind-short (s .args .ops .now) [] (placeOf (s .args .begin)) (b .before .before .outcome .given .0 .0) (s .pre .0) in
     let e = ap (λ (x : Course). x .place .position) (b .behind-block .ensures []) in
     omega (arith, l, e, s .pre .1))
     (λ c. search needs)
@@ -32,7 +32,7 @@ leave-block-spec =
     let s = g .before .before .before in
     c .stand-at .ensures
     ∙ (λ i. movedTo (s .args .a) (b .behind-block .ensures ws i .place) (add-one (s .args .a .step) i))
-    ∙ ap (behindBlock (codeOf (s .args .ops .now) ws) (s .args .a) (placeOf (s .args .begin))) (sym (g .b .given .1)))
+    ∙ ap (behindBlock (codeOf (s .args .ops .now) ws) (s .args .a) (placeOf (s .args .begin))) (sym (g .outcome .given .1)))
     (λ c ws.
     let s = c .before .before .before in
     ap (behindBlock (codeOf (s .args .ops .now) ws) (s .args .a) (placeOf (s .args .begin))) (sym (c .enum-told .given .1))))

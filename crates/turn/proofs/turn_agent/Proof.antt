@@ -20,20 +20,24 @@ under c =
     let s = c .before .before .before .before in
     subst (λ (x : ℕ). x < count (s .args .pack .now)) (sym (c .workflow-of .ensures)) (below _ _ (s .args .a) (small (c .before)) (s .pre))
 
+-- from the operand bytes back to the start
+abbrev start : tie.After-operands-part → tie.Start
+start o = o .before .before .before .before .before .before
+
 -- its operation bytes and its operand bytes
 ops-are : (c : tie.After-operands-part) →
-    let s = c .before .before .before .before .before .before in
+    let s = start c in
     c .before .operations-part .result .now ≡ ops (s .args .pack .now) (s .args .store .now) (s .args .a)
     (small (c .before .before .before)) (s .pre)
 ops-are c =
-    let s = c .before .before .before .before .before .before in
+    let s = start c in
     c .before .operations-part .ensures ∙ ap (operationsOf (s .args .pack .now)) (c .before .before .workflow-of .ensures)
 
 words-are : (c : tie.After-operands-part) →
-    let s = c .before .before .before .before .before .before in
+    let s = start c in
     c .operands-part .result .now ≡ ws (s .args .pack .now) (s .args .store .now) (s .args .a) (small (c .before .before .before)) (s .pre)
 words-are c =
-    let s = c .before .before .before .before .before .before in
+    let s = start c in
     c .operands-part .ensures ∙ ap (operandsOf (s .args .pack .now)) (c .before .before .workflow-of .ensures)
 
 pub turn-agent-spec : {M : Type 1} → statement M
@@ -46,13 +50,13 @@ turn-agent-spec =
     (λ c. search needs)
     (λ c κs.
     let o = c .before .before in
-    let s = o .before .before .before .before .before .before in
+    let s = start o in
     may-ask _ _ (s .args .a) (small (o .before .before .before)) (s .pre) _ _ (ops-are o) (words-are o))
     (λ c. search needs)
     (λ c κs.
     let n = c .before .before .before in
     let o = n .before .before .before in
-    let s = o .before .before .before .before .before .before in
+    let s = start o in
     may-go _ _ (s .args .a) (small (o .before .before .before)) (s .pre) _ _ (ops-are o) (words-are o) (n .next-of .result)
     (n .next-of .ensures) (c .enum-told .given .1))
     (λ c. search needs)
@@ -60,14 +64,15 @@ turn-agent-spec =
     let x = c .before .before .before in
     let n = x .before .before .before in
     let o = n .before .before .before in
-    let s = o .before .before .before .before .before .before in
+    let s = start o in
     may-run _ _ (s .args .a) (small (o .before .before .before)) (s .pre) _ _ (ops-are o) (words-are o) (n .next-of .result)
     (n .next-of .ensures) _ (x .next .given .1))
     (λ c κs.
-    let x = c .before .before .before .before .before .before in
+    let g = c .before .before in
+    let x = g .before .before .before .before in
     let n = x .before .before .before in
     let o = n .before .before .before in
-    let s = o .before .before .before .before .before .before in
+    let s = start o in
     may-leave _ _ (s .args .a) (small (o .before .before .before)) (s .pre) _ _ (ops-are o) (words-are o) (n .next-of .result)
     (n .next-of .ensures) _ (x .next .given .1))
     (λ c. search needs)
@@ -77,7 +82,7 @@ turn-agent-spec =
     let x = c .before in
     let n = x .before .before .before in
     let o = n .before .before .before in
-    let s = o .before .before .before .before .before .before in
+    let s = start o in
     goes-on _ _ (s .args .a) (small (o .before .before .before)) (s .pre) _ _ (ops-are o) (words-are o) (n .next-of .result)
     (n .next-of .ensures) (x .enum-told .given .1) _ (c .stand-at .ensures))
     (λ c. search needs)
@@ -86,7 +91,7 @@ turn-agent-spec =
     let x = g .before .before .before .before in
     let n = x .before .before .before in
     let o = n .before .before .before in
-    let s = o .before .before .before .before .before .before in
+    let s = start o in
     does-block _ _ (s .args .a) (small (o .before .before .before)) (s .pre) _ _ (ops-are o) (words-are o) (n .next-of .result)
     (n .next-of .ensures) _ (x .next .given .1)
     _ _ _ (g .through-block .ensures) (c .leave-block .ensures _))
@@ -95,6 +100,6 @@ turn-agent-spec =
     let x = c .before .before in
     let n = x .before .before .before in
     let o = n .before .before .before in
-    let s = o .before .before .before .before .before .before in
+    let s = start o in
     replies _ _ (s .args .a) (small (o .before .before .before)) (s .pre) _ _ (ops-are o) (words-are o) (n .next-of .result)
     (n .next-of .ensures) _ (x .next2 .given .1) _ (c .reply .ensures)))

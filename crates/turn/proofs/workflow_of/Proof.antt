@@ -13,5 +13,5 @@ workflow-of-spec =
     (λ c. search needs)
     (λ c. search needs)
     (λ c. let k = c .before .before .before in got-value _ (k .booked-workflow .result) (k .booked-workflow .ensures .0) _
-    (c .before .g .given .1))
+    (c .before .booked .given .1))
     (λ c. let k = c .before .before in got-zero _ (k .booked-workflow .result) (k .booked-workflow .ensures .0) (c .enum-told .given .1)))
