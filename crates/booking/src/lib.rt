@@ -37,10 +37,11 @@ fn same(q: Request, known: Request) -> bool
     q.a3 == known.a3
 }
 
-// The five rows of a request are written, all at once; there is room for them. The first is new and belongs at row `place` of the book, where
-// the search for it ended.
+// The five rows of a request are written, all at once; there is room for them. The first is new and belongs at row `place` of the book,
+// where the search for it ended.
 fn write_request(store: &mut [u8], place: usize, id: u32, q: Request)
-    requires { ⌜ Sound (now store) × (foundIn (bookKey id 0) (keysIn (bookRows (now store))) ≡ Belongs place) × (length (withRequest id (asked q) (bookRows (now store))) ≤ capOf (now store)) ⌝ }
+    requires { ⌜ Sound (now store) × (foundIn (bookKey id 0) (keysIn (bookRows (now store))) ≡ Belongs place)
+        × (length (withRequest id (asked q) (bookRows (now store))) ≤ capOf (now store)) ⌝ }
     ensures { λ _. ⌜ Stored (now (store .entry)) (now (store .exit)) (partsOf (now (store .entry))) (withRequest id (asked q)) ⌝ }
 {
     let book = store::head::partition_count(store);
@@ -54,23 +55,23 @@ pub fn book_request(store: &mut [u8], id: u32, q: Request) -> Verdict
     requires { ⌜ storeRefusal (now store) ≡ none ⌝ }
     ensures { λ r. ⌜ Booked (now (store .entry)) (now (store .exit)) id (asked q) r ⌝ }
 {
-    let f = book::booked_row(store, id);
-    match f {
-        Found::At(i) => {
+    let found = book::booked_row(store, id);
+    match found {
+        Found::At(row) => {
             let book = store::head::partition_count(store);
-            let w = store::rows::value_at(store, book, i);
-            let known = book::booked_request(store, id, w);
+            let workflow = store::rows::value_at(store, book, row);
+            let known = book::booked_request(store, id, workflow);
             if same(q, known) {
                 return questions::accepted();
             }
             questions::refused(18, 0, 0)
         }
-        Found::Belongs(i) => {
+        Found::Belongs(place) => {
             let book = store::head::partition_count(store);
             if store::head::capacity(store) < store::head::used_count(store, book) + 5 {
                 return questions::refused(19, 0, 0);
             }
-            write_request(store, i, id, q);
+            write_request(store, place, id, q);
             questions::accepted()
         }
     }
