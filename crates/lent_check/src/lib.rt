@@ -10,17 +10,18 @@ ghost use Rattle.pack.specs.Laid.{Laid};
 ghost use Rattle.questions.specs.Verdicts.{verdictOf};
 ghost use Rattle.pack.specs.Refusal.{packRefusal};
 ghost use Rattle.store.specs.Sound.{Sound};
-ghost use Rattle.meaning.specs.Questions.{booksBelow, opensBelow, bookedRight, opensRight, question13, isSound, slotRight, question14, lentRefusal, firstSixteen};
+ghost use Rattle.meaning.specs.Questions.{booksBelow, opensBelow, bookedRight, opensRight, question13};
+ghost use Rattle.meaning.specs.Questions.{isSound, slotRight, question14, lentRefusal, firstSixteen};
 use agents::Agent;
 use questions::Verdict;
 use store::rows::Got;
 
-// Has a row of the book, if it is one of a workflow's number, a number below m?
-fn books_below(m: u32, key: u64, w: u32) -> bool
-    ensures { λ r. ⌜ r ≡ booksBelow m (key, w) ⌝ }
+// Has a row of the book, if it is one of a workflow's number, a number below m? `workflows` is m, how many the pack has.
+fn books_below(workflows: u32, key: u64, value: u32) -> bool
+    ensures { λ r. ⌜ r ≡ booksBelow workflows (key, value) ⌝ }
 {
     if keys::is_workflow(key) {
-        return w < m;
+        return value < workflows;
     }
     true
 }
@@ -30,32 +31,33 @@ fn booked_right(pack: &[u8], store: &[u8]) -> bool
     requires { ⌜ Laid (now pack) × Sound (now store) ⌝ }
     ensures { λ r. ⌜ r ≡ bookedRight (now (pack .entry)) (now (store .entry)) ⌝ }
 {
-    let m = pack::count_of(pack);
-    let p = store::head::partition_count(store);
-    let n = store::head::used_count(store, p);
-    let mut key_from = store::head::key_place(store, p, 0);
-    let mut value_from = store::head::value_place(store, p, 0);
+    let workflows = pack::count_of(pack);
+    let book = store::head::partition_count(store);
+    let rows = store::head::used_count(store, book);
+    let mut key_begin = store::head::key_place(store, book, 0);
+    let mut value_begin = store::head::value_place(store, book, 0);
     let mut row = 0;
-    while row < n {
-        let key = words::read64(store, key_from);
-        let w = words::read32(store, value_from);
-        if !books_below(m, key, w) {
+    while row < rows {
+        let key = words::read64(store, key_begin);
+        let value = words::read32(store, value_begin);
+        if !books_below(workflows, key, value) {
             return false;
         }
-        key_from += 8;
-        value_from += 4;
+        key_begin += 8;
+        value_begin += 4;
         row += 1;
     }
     true
 }
 
-// Is the operation byte at `a`, if it is BEGIN, one of a partition below P? The operand word is at `b`.
-fn opens_below(pack: &[u8], a: usize, b: usize, parts: usize) -> bool
-    requires { ⌜ (a + 1 ≤ length (now pack)) × (b + 4 ≤ length (now pack)) ⌝ }
-    ensures { λ r. ⌜ r ≡ opensBelow parts (getD (now (pack .entry)) a 0) (le 4 (now (pack .entry)) b) ⌝ }
+// Is an instruction, if it is BEGIN, one of a partition below P? In the pack its operation byte stands at `byte`, and its operand word
+// begins at `word`. `partitions` is P.
+fn opens_below(pack: &[u8], byte: usize, word: usize, partitions: usize) -> bool
+    requires { ⌜ (byte + 1 ≤ length (now pack)) × (word + 4 ≤ length (now pack)) ⌝ }
+    ensures { λ r. ⌜ r ≡ opensBelow partitions (getD (now (pack .entry)) byte 0) (le 4 (now (pack .entry)) word) ⌝ }
 {
-    if operation::operation_of(pack[a]) == 6 {
-        return (words::read32(pack, b) as usize) < parts;
+    if operation::operation_of(pack[byte]) == operation::BEGIN {
+        return (words::read32(pack, word) as usize) < partitions;
     }
     true
 }
@@ -65,14 +67,14 @@ fn opens_right(pack: &[u8], store: &[u8]) -> bool
     requires { ⌜ Laid (now pack) × Sound (now store) ⌝ }
     ensures { λ r. ⌜ r ≡ opensRight (now (pack .entry)) (now (store .entry)) ⌝ }
 {
-    let m = pack[0] as usize;
-    let t = pack::first_of(pack, m);
-    let parts = store::head::partition_count(store);
-    let first = 1 + 2 * m;
-    let words = first + t;
+    let workflows = pack[0] as usize;
+    let instructions = pack::first_of(pack, workflows);
+    let partitions = store::head::partition_count(store);
+    let bytes = 1 + 2 * workflows;
+    let words = bytes + instructions;
     let mut i = 0;
-    while i < t {
-        if !opens_below(pack, first + i, words + 4 * i, parts) {
+    while i < instructions {
+        if !opens_below(pack, bytes + i, words + 4 * i, partitions) {
             return false;
         }
         i += 1;
@@ -96,15 +98,15 @@ fn sound(pack: &[u8], store: &[u8], a: Agent) -> bool
     requires { ⌜ Laid (now pack) × Sound (now store) × (bookedRight (now pack) (now store) ≡ true) ⌝ }
     ensures { λ r. ⌜ r ≡ isSound (now (pack .entry)) a (bookOf (valueIn (bookRows (now (store .entry)))) (a .id)) ⌝ }
 {
-    let g = book::booked_workflow(store, a.id);
-    match g {
-        Got::Value(w) => {
-            let ops = pack::operations_part(pack, w as usize);
-            let at = a.position as usize;
-            if ops.len() <= at {
+    let booked = book::booked_workflow(store, a.id);
+    match booked {
+        Got::Value(workflow) => {
+            let ops = pack::operations_part(pack, workflow as usize);
+            let position = a.position as usize;
+            if ops.len() <= position {
                 return false;
             }
-            if code::is_inside(ops, 0, at) {
+            if code::is_inside(ops, 0, position) {
                 return false;
             }
             a.step <= a.position
@@ -129,13 +131,13 @@ fn check_14(pack: &[u8], store: &[u8], agents: [Agent; 8]) -> bool
     requires { ⌜ Laid (now pack) × Sound (now store) × (bookedRight (now pack) (now store) ≡ true) ⌝ }
     ensures { λ r. ⌜ r ≡ question14 (now (pack .entry)) (now (store .entry)) agents ⌝ }
 {
-    let mut i = 0;
-    while i < 8 {
-        let a = agents[i];
+    let mut slot = 0;
+    while slot < 8 {
+        let a = agents[slot];
         if !slot_right(pack, store, a) {
             return false;
         }
-        i += 1;
+        slot += 1;
     }
     true
 }
@@ -187,7 +189,8 @@ pub fn check_to_16(
     slot: usize,
     used: bool,
 ) -> Verdict
-    ensures { λ r. ⌜ r ≡ verdictOf (firstSixteen (now (pack .entry)) (record { store = now (store .entry); records = agents }) slot used) ⌝ }
+    ensures { λ r. ⌜ r
+        ≡ verdictOf (firstSixteen (now (pack .entry)) (record { store = now (store .entry); records = agents }) slot used) ⌝ }
 {
     let lent_verdict = check_lent(pack, store, agents);
     match lent_verdict {

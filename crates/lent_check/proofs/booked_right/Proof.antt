@@ -15,15 +15,22 @@ use Rattle.lent_check.proofs.booked_right.Statement.{statement}
 use Rattle.lent_check.proofs.booked_right.Tie as tie
 
 abbrev Inv-loop : tie.InvT-loop
-Inv-loop pack store m p n key-from₀ value-from₀ row₀ key-from value-from row =
-    (row ≤ n) × (key-from ≡ keyAt store p row) × (value-from ≡ valueAt store p row) × (bookedFrom pack store n row ≡ bookedRight pack store)
+Inv-loop pack store workflows book rows key-begin₀ value-begin₀ row₀ key-begin value-begin row =
+    (row ≤ rows)
+    × (key-begin ≡ keyAt store book row)
+    × (value-begin ≡ valueAt store book row)
+    × (bookedFrom pack store rows row ≡ bookedRight pack store)
 
 abbrev μ-loop : tie.MeasureT-loop
-μ-loop pack store m p n key-from₀ value-from₀ row₀ key-from value-from row = n - row
+μ-loop pack store workflows book rows key-begin₀ value-begin₀ row₀ key-begin value-begin row = rows - row
+
+-- from the places where the book begins back to the start
+abbrev start : tie.After-value-place Inv-loop μ-loop → tie.Start Inv-loop μ-loop
+start places = places .before .before .before .before .before .before .before
 
 -- in the loop: the store's bytes, and the book's number
 abbrev bytes : tie.In-loop Inv-loop μ-loop → List ℕ
-bytes c = c .before .before .before .before .before .before .before .before .before .args .store .now
+bytes c = start (c .before .before) .args .store .now
 
 abbrev book : tie.In-loop Inv-loop μ-loop → ℕ
 book c = c .before .before .before .before .before .partition-count .result
@@ -34,10 +41,10 @@ row-there c = omega (arith, c .before .before .before .before .used-count .ensur
 
 -- and so both places of the row lie within the store
 places : (c : tie.In-loop Inv-loop μ-loop)
-    → (c .before .loop .key-from + 8 ≤ length (bytes c)) × (c .before .loop .value-from + 4 ≤ length (bytes c))
+    → (c .before .loop .key-begin + 8 ≤ length (bytes c)) × (c .before .loop .value-begin + 4 ≤ length (bytes c))
 places c =
     let lp = c .before in
-    let st = lp .before .before .before .before .before .before .before .before in
+    let st = start (lp .before) in
     let h = row-within (bytes c) (st .pre .1 .formed) (book c) (omega arith) (lp .loop .row) (row-there c) in
     (omega (arith, lp .loop .inv .1, h .0), omega (arith, lp .loop .inv .2, h .1))
 
@@ -46,7 +53,7 @@ key-there : (c : tie.After-read64 Inv-loop μ-loop)
     → c .read64 .result ≡ getD (rowsOf (bytes (c .before)) (book (c .before))) (c .before .before .loop .row) (0, 0) .0
 key-there c =
     let l = c .before .before .loop in
-    key-read (bytes (c .before)) (book (c .before)) (l .row) (row-there (c .before)) (l .key-from) _ (l .inv .1) (c .read64 .ensures)
+    key-read (bytes (c .before)) (book (c .before)) (l .row) (row-there (c .before)) (l .key-begin) _ (l .inv .1) (c .read64 .ensures)
 
 value-there : (c : tie.After-read32 Inv-loop μ-loop)
     → c .read32 .result ≡ getD (rowsOf (bytes (c .before .before)) (book (c .before .before))) (c .before .before .before .loop .row)
@@ -54,7 +61,7 @@ value-there : (c : tie.After-read32 Inv-loop μ-loop)
 value-there c =
     let i = c .before .before in
     let l = i .before .loop in
-    value-read (bytes i) (book i) (l .row) (row-there i) (l .value-from) _ (l .inv .2) (c .read32 .ensures)
+    value-read (bytes i) (book i) (l .row) (row-there i) (l .value-begin) _ (l .inv .2) (c .read32 .ensures)
 
 pub booked-right-spec : {M : Type 1} → statement M
 booked-right-spec =
@@ -67,7 +74,7 @@ booked-right-spec =
     (λ c κs. search needs)
     (λ c κs. search needs)
     (λ c κs. search needs)
-    (λ c. let a = c .before .before .before .before .before .before .before .args in
+    (λ c. let a = start c .args in
     let used = c .before .before .used-count in
     let parts = c .before .before .before .partition-count in (
       omega arith,
@@ -80,7 +87,7 @@ booked-right-spec =
     (λ c κs. places (c .before) .1)
     (λ c κs. search needs)
     (λ c. let l = c .before .before .before .before .before in
-    let a = l .before .before .before .before .before .before .before .before .args in
+    let a = start (l .before) .args in
     let parts = l .before .before .before .before .partition-count in
     let count = l .before .before .before .before .before .count-of in
     sym (booked-no (a .pack .now) (a .store .now) _ (l .loop .row) _ _ _ _ _ (omega arith) (count .ensures) (parts .ensures)
@@ -92,7 +99,7 @@ booked-right-spec =
     (λ c. search needs)
     (λ c. search needs)
     (λ c. let l = c .before .before .before .before .before in
-    let a = l .before .before .before .before .before .before .before .before .args in
+    let a = start (l .before) .args in
     let parts = l .before .before .before .before .partition-count in
     let count = l .before .before .before .before .before .count-of in (
       omega arith,

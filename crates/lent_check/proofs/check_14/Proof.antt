@@ -10,10 +10,10 @@ use Rattle.lent_check.proofs.check_14.Statement.{statement}
 use Rattle.lent_check.proofs.check_14.Tie as tie
 
 abbrev Inv-loop : tie.InvT-loop
-Inv-loop pack store agents i₀ i = (i ≤ 8) × (slotsFrom pack store agents i ≡ question14 pack store agents)
+Inv-loop pack store agents slot₀ slot = (slot ≤ 8) × (slotsFrom pack store agents slot ≡ question14 pack store agents)
 
 abbrev μ-loop : tie.MeasureT-loop
-μ-loop pack store agents i₀ i = 8 - i
+μ-loop pack store agents slot₀ slot = 8 - slot
 
 pub check-14-spec : {M : Type 1} → statement M
 check-14-spec =
@@ -26,12 +26,13 @@ check-14-spec =
     (λ c. search needs)
     (λ c κs. c .before .before .before .before .before .pre)
     (λ c. let l = c .before .before .before .before in
-    sym (slots-no _ _ _ (l .loop .i) _ (omega arith) (c .before .slot-right .ensures) (not-true _ (c .if1 .taken))) ∙ l .loop .inv .1)
+    sym (slots-no _ _ _ (l .loop .slot) _ (omega arith) (c .before .slot-right .ensures) (not-true _ (c .if1 .taken))) ∙ l .loop .inv .1)
     (λ c. search needs)
     (λ c. search needs)
     (λ c. (
       search needs,
       let l = c .before .before .before .before in
-          sym (slots-on _ _ _ (l .loop .i) _ (omega arith) (c .before .slot-right .ensures) (not-false _ (c .if1 .left))) ∙ l .loop .inv .1,
+          sym (slots-on _ _ _ (l .loop .slot) _ (omega arith) (c .before .slot-right .ensures) (not-false _ (c .if1 .left)))
+          ∙ l .loop .inv .1,
     ))
     (λ c. sym (slots-done _ _ _ _ (omega arith)) ∙ c .before .loop .inv .1))

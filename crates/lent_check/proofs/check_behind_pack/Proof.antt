@@ -15,14 +15,17 @@ use Rattle.meaning.proofs.Asked.{no-of-store, no-of-13, no-of-14, all-yes}
 use Rattle.lent_check.proofs.check_behind_pack.Statement.{statement}
 use Rattle.lent_check.proofs.check_behind_pack.Tie as tie
 
+-- from the answer to 9 to 12 back to the start
+abbrev start : tie.After-enum-told → tie.Start
+start t = t .before .before .before .before .before
+
 -- 9 to 12 say yes
-stored : (c : tie.After-enum-told) → storeRefusal (c .before .before .before .before .before .args .store .now) ≡ none
+stored : (c : tie.After-enum-told) → storeRefusal (start c .args .store .now) ≡ none
 stored c = let k = c .before .before in accepted-none (k .check-store .result) _ (k .check-store .ensures) (c .enum-told .given .1)
 
 -- 13 says yes
 right : (c : tie.Else1) →
-    question13 (c .before .before .before .before .before .before .before .args .pack .now)
-    (c .before .before .before .before .before .before .before .args .store .now) ≡ true
+    let a = start (c .before .before) .args in question13 (a .pack .now) (a .store .now) ≡ true
 right c = sym (c .before .check-13 .ensures) ∙ not-false _ (c .if1 .left)
 
 pub check-behind-pack-spec : {M : Type 1} → statement M
@@ -31,22 +34,22 @@ check-behind-pack-spec =
     (tie.spec
     (λ c κs. search needs)
     (λ c. search needs)
-    (λ c κs. let s = c .before .before .before .before .before in (accepted-laid _ (s .pre), store-ok _ (stored c) .0))
+    (λ c κs. let s = start c in (accepted-laid _ (s .pre), store-ok _ (stored c) .0))
     (λ c κs. search needs)
     (λ c.
     let t = c .before .before .before in
-    let s = t .before .before .before .before .before in
+    let s = start t in
     c .refused .ensures
     ∙ sym (ap verdictOf (no-of-13 _ (record { store = s .args .store .now; records = s .args .agents }) (s .pre) (stored t)
     (sym (c .before .before .check-13 .ensures) ∙ not-true _ (c .before .if1 .taken)))))
     (λ c κs.
-    let s = c .before .before .before .before .before .before .before in
+    let s = start (c .before .before) in
     (accepted-laid _ (s .pre), store-ok _ (stored (c .before .before)) .0, booked-of-13 _ _ (right c)))
     (λ c κs. search needs)
     (λ c.
     let e = c .before .before .before in
     let t = e .before .before in
-    let s = t .before .before .before .before .before in
+    let s = start t in
     c .refused2 .ensures
     ∙ sym (ap verdictOf (no-of-14 _ (record { store = s .args .store .now; records = s .args .agents }) (s .pre) (stored t) (right e)
     (sym (c .before .before .check-14 .ensures) ∙ not-true _ (c .before .if2 .taken)))))
@@ -54,7 +57,7 @@ check-behind-pack-spec =
     (λ c.
     let e = c .before .before in
     let t = e .before .before in
-    let s = t .before .before .before .before .before in
+    let s = start t in
     t .enum-told .given .1
     ∙ sym (ap verdictOf (all-yes _ (record { store = s .args .store .now; records = s .args .agents }) (s .pre) (stored t) (right e)
     (sym (c .before .check-14 .ensures) ∙ not-false _ (c .if2 .left)))))

@@ -10,9 +10,13 @@ use Rattle.meaning.proofs.Begun.{no-of-lent, no-of-15, no-of-16, all-sixteen}
 use Rattle.lent_check.proofs.check_to_16.Statement.{statement}
 use Rattle.lent_check.proofs.check_to_16.Tie as tie
 
+-- from the answer to 1 to 14 back to the start
+abbrev start : tie.After-enum-told → tie.Start
+start c = c .before .before .before .before .before
+
 -- 1 to 14 say yes
 lent-yes : (c : tie.After-enum-told) →
-    let a = c .before .before .before .before .before .args in
+    let a = start c .args in
     lentRefusal (a .pack .now) (record { store = a .store .now; records = a .t3 }) ≡ none
 lent-yes c = let k = c .before .before in accepted-none (k .check-lent .result) _ (k .check-lent .ensures) (c .enum-told .given .1)
 
@@ -29,13 +33,13 @@ check-to-16-spec =
     (λ c κs. search needs)
     (λ c.
     let e = c .before .before .before .before in
-    let a = e .before .before .before .before .before .before .args in
+    let a = start (e .before) .args in
     c .refused2 .ensures
     ∙ sym (ap verdictOf (no-of-16 _ _ (a .slot) (a .used) (lent-yes (e .before)) (e .if1 .left) (came-unlike _ _ (c .before .if2 .taken)))))
     (λ c. search needs)
     (λ c.
     let e = c .before .before .before in
-    let a = e .before .before .before .before .before .before .args in
+    let a = start (e .before) .args in
     e .before .enum-told .given .1
     ∙ sym (ap verdictOf (all-sixteen _ _ (a .slot) (a .used) (lent-yes (e .before)) (e .if1 .left) (came-alike _ _ (c .if2 .left)))))
     (λ c. let k = c .before .before in

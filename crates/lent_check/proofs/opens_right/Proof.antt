@@ -11,10 +11,15 @@ use Rattle.lent_check.proofs.opens_right.Statement.{statement}
 use Rattle.lent_check.proofs.opens_right.Tie as tie
 
 abbrev Inv-loop : tie.InvT-loop
-Inv-loop pack store m t parts first words i₀ i = (i ≤ t) × (opensFrom pack store t i ≡ opensRight pack store)
+Inv-loop pack store workflows instructions partitions bytes words i₀ i =
+    (i ≤ instructions) × (opensFrom pack store instructions i ≡ opensRight pack store)
 
 abbrev μ-loop : tie.MeasureT-loop
-μ-loop pack store m t parts first words i₀ i = t - i
+μ-loop pack store workflows instructions partitions bytes words i₀ i = instructions - i
+
+-- from where the loop stands back to the start
+abbrev start : tie.At-loop Inv-loop μ-loop → tie.Start Inv-loop μ-loop
+start lp = lp .before .before .before .before .before .before
 
 pub opens-right-spec : {M : Type 1} → statement M
 opens-right-spec =
@@ -36,7 +41,7 @@ opens-right-spec =
     (λ c κs. search needs)
     (λ c.
     let l = c .before .before .before in
-    let s = c .before .before .before .before .before .before .before .before .before .args in
+    let s = start l .args in
     sym (opens-no (s .pack .now) (s .store .now) _ (l .loop .i) (count (s .pack .now)) _ _ (omega arith) refl
     (l .before .before .first-of .ensures) (l .before .partition-count .ensures)
     (c .before .opens-below .ensures) (not-true _ (c .if1 .taken)))
@@ -46,7 +51,7 @@ opens-right-spec =
     (λ c. (
       search needs,
       let l = c .before .before .before in
-          let s = c .before .before .before .before .before .before .before .before .before .args in
+          let s = start l .args in
           sym (opens-on (s .pack .now) (s .store .now) _ (l .loop .i) (count (s .pack .now)) _ _ (omega arith) refl
           (l .before .before .first-of .ensures) (l .before .partition-count .ensures)
           (c .before .opens-below .ensures) (not-false _ (c .if1 .left)))

@@ -11,13 +11,17 @@ use Rattle.lent_check.proofs.Steps.{sound-none, sound-long, sound-insid
 use Rattle.lent_check.proofs.sound.Statement.{statement}
 use Rattle.lent_check.proofs.sound.Tie as tie
 
+-- from the book's answer back to the start
+abbrev start : tie.After-booked → tie.Start
+start c = c .before .before .before .before .before
+
 -- the workflow that the book has is below m
-below : (c : tie.After-g) → c .g .given .0 .0 < count (c .before .before .before .before .before .args .pack .now)
+below : (c : tie.After-booked) → c .booked .given .0 .0 < count (start c .args .pack .now)
 below c =
     let k = c .before .before in
     let s = k .before .before .before in
     workflow-below (s .args .pack .now) (s .args .store .now) (s .args .a .id) _ (k .booked-workflow .ensures .1) (s .pre .2)
-    (got-some _ (k .booked-workflow .result) (k .booked-workflow .ensures .0) _ (c .g .given .1))
+    (got-some _ (k .booked-workflow .result) (k .booked-workflow .ensures .0) _ (c .booked .given .1))
 
 pub sound-spec : {M : Type 1} → statement M
 unfolding Q.insideAt
@@ -27,7 +31,7 @@ sound-spec =
     (λ c κs. search needs)
     (λ c. search needs)
     (λ c. search needs)
-    (λ c κs. (c .before .before .before .before .before .before .pre .0, below (c .before)))
+    (λ c κs. (start (c .before) .pre .0, below (c .before)))
     (λ c. search needs)
     (λ c.
     let o = c .before .before in
@@ -36,7 +40,7 @@ sound-spec =
     let s = k .before .before .before in
     sym (sound-long (s .args .pack .now) (bookRows (s .args .store .now)) (s .args .a) (k .booked-workflow .ensures .1)
     (k .booked-workflow .result) _
-    (k .booked-workflow .ensures .0) (g .g .given .1) (s .pre .0) (below g) _ (o .operations-part .ensures) (c .if1 .taken)))
+    (k .booked-workflow .ensures .0) (g .booked .given .1) (s .pre .0) (below g) _ (o .operations-part .ensures) (c .if1 .taken)))
     (λ c κs. (search needs, refl))
     (λ c.
     let l = c .before .before in
@@ -46,7 +50,7 @@ sound-spec =
     let s = k .before .before .before in
     sym (sound-inside (s .args .pack .now) (bookRows (s .args .store .now)) (s .args .a) (k .booked-workflow .ensures .1)
     (k .booked-workflow .result) _
-    (k .booked-workflow .ensures .0) (g .g .given .1) (s .pre .0) (below g) _ (o .operations-part .ensures) (l .if1 .left)
+    (k .booked-workflow .ensures .0) (g .booked .given .1) (s .pre .0) (below g) _ (o .operations-part .ensures) (l .if1 .left)
     (sym (c .before .is-inside .ensures) ∙ c .if2 .taken)))
     (λ c. search needs)
     (λ c.
@@ -57,7 +61,7 @@ sound-spec =
     let s = k .before .before .before in
     sym (sound-rest (s .args .pack .now) (bookRows (s .args .store .now)) (s .args .a) (k .booked-workflow .ensures .1)
     (k .booked-workflow .result) _
-    (k .booked-workflow .ensures .0) (g .g .given .1) (s .pre .0) (below g) _ (o .operations-part .ensures) (l .if1 .left)
+    (k .booked-workflow .ensures .0) (g .booked .given .1) (s .pre .0) (below g) _ (o .operations-part .ensures) (l .if1 .left)
     (sym (c .before .before .is-inside .ensures) ∙ c .before .if2 .left)))
     (λ c.
     let k = c .before .before in
