@@ -39,9 +39,9 @@ fn argument(store: &[u8], id: u32, j: u64) -> u32
 {
     let book = store::head::partition_count(store);
     let key = keys::book_key(id, j);
-    let g = store::rows::get(store, book, key);
-    match g {
-        Got::Value(v) => v,
+    let found = store::rows::get(store, book, key);
+    match found {
+        Got::Value(value) => value,
         Got::Absent => 0,
     }
 }

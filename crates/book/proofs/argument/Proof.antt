@@ -30,5 +30,5 @@ argument-spec =
     (λ c κs. search needs)
     (λ c. search needs)
     (λ c. search needs)
-    (λ c. got-value _ _ (got (c .before .before .before)) _ (c .before .g .given .1))
+    (λ c. got-value _ _ (got (c .before .before .before)) _ (c .before .found .given .1))
     (λ c. got-zero _ _ (got (c .before .before)) (c .enum-told .given .1)))
