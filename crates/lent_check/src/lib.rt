@@ -72,12 +72,17 @@ fn opens_right(pack: &[u8], store: &[u8]) -> bool
     let partitions = store::head::partition_count(store);
     let bytes = 1 + 2 * workflows;
     let words = bytes + instructions;
-    let mut i = 0;
-    while i < instructions {
-        if !opens_below(pack, bytes + i, words + 4 * i, partitions) {
+    let mut instruction = 0;
+    while instruction < instructions {
+        if !opens_below(
+            pack,
+            bytes + instruction,
+            words + 4 * instruction,
+            partitions,
+        ) {
             return false;
         }
-        i += 1;
+        instruction += 1;
     }
     true
 }

@@ -11,11 +11,11 @@ use Rattle.lent_check.proofs.opens_right.Statement.{statement}
 use Rattle.lent_check.proofs.opens_right.Tie as tie
 
 abbrev Inv-loop : tie.InvT-loop
-Inv-loop pack store workflows instructions partitions bytes words i₀ i =
-    (i ≤ instructions) × (opensFrom pack store instructions i ≡ opensRight pack store)
+Inv-loop pack store workflows instructions partitions bytes words instruction₀ instruction =
+    (instruction ≤ instructions) × (opensFrom pack store instructions instruction ≡ opensRight pack store)
 
 abbrev μ-loop : tie.MeasureT-loop
-μ-loop pack store workflows instructions partitions bytes words i₀ i = instructions - i
+μ-loop pack store workflows instructions partitions bytes words instruction₀ instruction = instructions - instruction
 
 -- from where the loop stands back to the start
 abbrev start : tie.At-loop Inv-loop μ-loop → tie.Start Inv-loop μ-loop
@@ -42,7 +42,7 @@ opens-right-spec =
     (λ c.
     let l = c .before .before .before in
     let s = start l .args in
-    sym (opens-no (s .pack .now) (s .store .now) _ (l .loop .i) (count (s .pack .now)) _ _ (omega arith) refl
+    sym (opens-no (s .pack .now) (s .store .now) _ (l .loop .instruction) (count (s .pack .now)) _ _ (omega arith) refl
     (l .before .before .first-of .ensures) (l .before .partition-count .ensures)
     (c .before .opens-below .ensures) (not-true _ (c .if1 .taken)))
     ∙ l .loop .inv .1)
@@ -52,7 +52,7 @@ opens-right-spec =
       search needs,
       let l = c .before .before .before in
           let s = start l .args in
-          sym (opens-on (s .pack .now) (s .store .now) _ (l .loop .i) (count (s .pack .now)) _ _ (omega arith) refl
+          sym (opens-on (s .pack .now) (s .store .now) _ (l .loop .instruction) (count (s .pack .now)) _ _ (omega arith) refl
           (l .before .before .first-of .ensures) (l .before .partition-count .ensures)
           (c .before .opens-below .ensures) (not-false _ (c .if1 .left)))
           ∙ l .loop .inv .1,
