@@ -22,11 +22,11 @@ use Rattle.operation.specs.Operations.{opGet, opPut, opHas}
 use Rattle.code.specs.Meaning.{decode, instructionOf}
 use Rattle.code.specs.Meaning as Meaning
 use Rattle.instruction.specs.Pending.{seen, rowsIn, SameBehind, Kept}
-use Rattle.instruction.specs.Step.{placeOf, workOf, Stepped, putsOf, sourceBy, Sourced}
+use Rattle.instruction.specs.Step.{placeOf, workOf, rowsBehind, Stepped, putsOf, sourceBy, Sourced}
 use Rattle.instruction.specs.declared.pending.Pending.{Pending}
 use Rattle.instruction.specs.declared.Spot.{Spot}
 use Rattle.instruction.specs.declared.Running.{Running}
-use Rattle.instruction.proofs.Rows.{seen-put, count-put, count-new}
+use Rattle.instruction.proofs.Rows.{seen-put, count-put, count-new, settled}
 
 -- a data key of 32 bits, in the table
 table-at : (f : ℕ → Option ℕ) (k : ℕ) → k < 2 ^ 32 → tableOf f k ≡ f (dataKey k)
@@ -53,10 +53,11 @@ becomes-at x d v = λ i. record { position = add-one (x .position) i; registers 
 
 module _ (rs : List Row) (x : Running) (y : Spot) (kept : Kept (x .pending)) where
   step-moved : (a : Act) → moves (placeOf y) ≡ a → Stepped a rs x (atPlace x y) 0
-  unfolding Blocks.within
+  unfolding Blocks.within rowsBehind
   step-moved a e =
       record {
         goes = λ onward. ap (λ (b : Act). within b (workOf rs x) onward) (sym e);
+        rows = ap (λ (b : Act). rowsBehind b (rowsIn (x .pending))) e;
         kept = kept;
         few = omega arith;
         behind = as-it-was (x .pending);
@@ -65,7 +66,7 @@ module _ (rs : List Row) (x : Running) (y : Spot) (kept : Kept (x .pending)) whe
   -- by what the block sees at the key
   step-reads : (k : ℕ) → k < 2 ^ 32 → (o : Option ℕ) → seen (rowsIn (x .pending)) rs (dataKey k) ≡ o → (to : Option ℕ → Place) →
       placeOf y ≡ to o → Stepped (reads k to) rs x (atPlace x y) 0
-  unfolding Blocks.within
+  unfolding Blocks.within rowsBehind
   step-reads k h o e to p =
       record {
         goes =
@@ -79,6 +80,7 @@ module _ (rs : List Row) (x : Running) (y : Spot) (kept : Kept (x .pending)) whe
               newKeys = countNew (keysIn (rowsIn (x .pending))) rs;
             }))
             (ap to (table-at (seen (rowsIn (x .pending)) rs) k h ∙ e) ∙ sym p);
+        rows = refl;
         kept = kept;
         few = omega arith;
         behind = as-it-was (x .pending);
@@ -120,10 +122,11 @@ module _ (rs : List Row) (x : Running) (was : Kept (x .pending)) (k v : ℕ) (h 
 
   step-puts : (y : Spot) → placeOf y ≡ next (placeOf (x .place)) → Kept q → q .count ≤ x .pending .count + 1 →
       SameBehind (x .pending) q → Stepped (puts k v) rs x (record { place = y; pending = q }) 1
-  unfolding Blocks.within
+  unfolding Blocks.within rowsBehind
   step-puts y p kept few behind =
       record {
         goes = λ onward i. onward (record { place = sym p i; table = table-put i; newKeys = keys-put i });
+        rows = e;
         kept = kept;
         few = few;
         behind = behind;
@@ -136,6 +139,12 @@ module _ (rs : List Row) (x : Running) (was : Kept (x .pending)) (d s : ℕ) (h 
       SameBehind (x .pending) q → Stepped (act (PUT d s) (placeOf (x .place))) rs x (record { place = y; pending = q }) 1
   unfolding Instructions.act
   step-put q e = step-puts rs x was (register (placeOf (x .place)) d) (register (placeOf (x .place)) s) h q e
+
+-- a step settles all that is pending
+pub step-settles : (a : Act) (rs : List Row) (x y z : Running) (more : ℕ) → Stepped a rs x y more → Stepped a rs x z more
+    → y .pending ≡ z .pending
+step-settles a rs x y z more s t =
+    settled (x .pending) (y .pending) (z .pending) (s .kept .sized) (t .kept .sized) (s .rows ∙ sym (t .rows)) (s .behind) (t .behind)
 
 -- ---- by the operation that the byte has
 

@@ -4,10 +4,10 @@ use mathlib.Core.Path.{_≡_}
 use Prim.Native.Nat.{ℕ, _+_, _%_, _≤_, _<_}
 use lib.Dec.{eqb}
 use Rattle.questions.specs.Basics.{if_then_else_}
-use Rattle.rules.specs.Instructions.{Place, Act}
+use Rattle.rules.specs.Instructions.{Place, Act, moves, opens, closes, reads, puts, returns}
 use Rattle.rules.specs.Blocks.{Work, Block, within}
-use Rattle.keys.specs.Keys.{tableOf}
-use Rattle.store.specs.Rows.{Row}
+use Rattle.keys.specs.Keys.{dataKey, tableOf}
+use Rattle.store.specs.Rows.{Row, putRow}
 use Rattle.operation.specs.Parts.{operationOf, sourceOf}
 use Rattle.operation.specs.Operations.{opSet, opJlt, opJeq, opBegin, opEnd, opPut, opReturn}
 use Rattle.instruction.specs.declared.Spot.{Spot}
@@ -27,9 +27,20 @@ workOf rs x =
       newKeys = newIn (x .pending) rs;
     }
 
--- What an instruction asks for makes y of x, and the block goes on from there; at most `more` keys more are pending.
+-- the pending rows behind what an instruction asks for: a PUT has its row among them, and the rest leaves them as they are
+unfoldable pub rowsBehind : Act → List Row → List Row
+rowsBehind (puts key value) rows = putRow (dataKey key) value rows
+rowsBehind (moves to) rows = rows
+rowsBehind (reads key to) rows = rows
+rowsBehind (opens partition) rows = rows
+rowsBehind (closes value) rows = rows
+rowsBehind (returns value) rows = rows
+
+-- What an instruction asks for makes y of x, and the block goes on from there; at most `more` keys more are pending. Rows, and what stands
+-- behind them in the arrays, settle all that is pending (`step-settles`).
 pub record Stepped (a : Act) (rs : List Row) (x y : Running) (more : ℕ) : Type 0 where
   pub goes : (onward : Work → Block) → within a (workOf rs x) onward ≡ onward (workOf rs y)
+  pub rows : rowsIn (y .pending) ≡ rowsBehind a (rowsIn (x .pending))
   pub kept : Kept (y .pending)
   pub few : y .pending .count ≤ x .pending .count + more
   pub behind : SameBehind (x .pending) (y .pending)
