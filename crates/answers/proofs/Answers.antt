@@ -2,7 +2,7 @@
 use mathlib.Core.List.{List, [], _∷_}
 use mathlib.Core.Bool.{Bool, true, false}
 use mathlib.Core.Option.{Option, none, some}
-use mathlib.Core.Path.{_≡_, refl, sym, _∙_, ap, subst}
+use mathlib.Core.Path.{_≡_, refl, sym, _∙_, ap, ap₂, subst}
 use Prim.Native.Nat.{ℕ, zero, suc, _%_, _^_, _≤_, _<_}
 use native.Mathlib.Omega.{arith}
 use borrow.Author.Tests.{ne-eqb}
@@ -62,7 +62,9 @@ pub heard-reply : (answer answer′ : List ℕ) (id value : ℕ) → 12 ≤ leng
     answer′ ≡ withWords answer (id ∷ value ∷ 0 ∷ []) → heard 2 answer′ ≡ some (reply id (yields value))
 unfolding Answers.heard
 heard-reply answer answer′ id value h i v e =
-    rw e (rw (first-word answer id value 0 h i v (omega arith), second-word answer id value 0 h i v (omega arith)) refl)
+    rw e
+    (ap₂ (λ (x y : ℕ). some (reply x (yields y))) (first-word answer id value 0 h i v (omega arith))
+    (second-word answer id value 0 h i v (omega arith)))
 
 pub heard-refused : (answer answer′ : List ℕ) (q w i : ℕ) → 12 ≤ length answer → q < 256 → w < 2 ^ 32 → i < 2 ^ 32 →
     answer′ ≡ withWords answer (q ∷ w ∷ i ∷ []) → heard 3 answer′ ≡ some (refused (no q w i))
