@@ -7,7 +7,7 @@ use mathlib.Core.Path.{_≡_, refl, sym, _∙_, ap, subst, fun-ext, ap₂}
 use Prim.Native.Nat.{ℕ, zero, suc, _+_, _/_, _^_, _≤_, _<_}
 use native.Mathlib.Decide.{ℕ-discrete}
 use native.Mathlib.Omega.{arith}
-use borrow.Author.Tests.{lt-ltb, le-leb, lt-leb, eq-eqb, ne-eqb, eqb-true}
+use borrow.Author.Tests.{lt-ltb, le-leb, lt-leb, eq-eqb, eqb-true}
 use lib.Dec.{eqb, ltb}
 use lib.ListN.{length, getD}
 use Rattle.contents.specs.Wrote.{Wrote}
@@ -275,12 +275,6 @@ module _ (store store′ : List ℕ) (id w a0 a1 a2 a3 : ℕ) where
         }
 
 -- ── question 18 ──
-
-pub equal-as : (a r b : ℕ) → r ≡ b → a ≡ r → eqb a b ≡ true
-equal-as a r b e p = eq-eqb a b (p ∙ e)
-
-pub unequal-as : (a r b : ℕ) → r ≡ b → (a ≡ r → ⊥) → eqb a b ≡ false
-unequal-as a r b e n = ne-eqb a b (λ p. n (p ∙ sym e))
 
 -- nothing is asked behind the last
 pub and-last : (b : Bool) → b ≡ (b && true)

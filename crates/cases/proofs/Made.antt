@@ -11,7 +11,7 @@ use lib.ListN.{length, getD}
 use Rattle.words.specs.Words.{le, fields}
 use Rattle.words.specs.Words as Words
 use Rattle.questions.specs.Basics.{if_then_else_}
-use Rattle.questions.specs.Questions.{No, no, Placed}
+use Rattle.questions.specs.Questions.{No, Placed}
 use Rattle.questions.proofs.Every.{Every}
 use Rattle.rules.specs.Calls.{Call, arrival, retry, turn, crash, restart, order}
 use Rattle.rules.specs.Calls as Rules

@@ -4,8 +4,6 @@ use mathlib.Core.List.{List}
 use mathlib.Core.Option.{Option, none, some}
 use mathlib.Core.Path.{_≡_, refl, sym, _∙_, ap}
 use Prim.Native.Nat.{ℕ}
-use native.Mathlib.Omega.{arith}
-use lib.ListN.{length}
 use Rattle.questions.specs.Questions.{No}
 use Rattle.questions.proofs.Tests.{no-yes}
 use Rattle.questions.proofs.Updates.{none-some}

@@ -7,24 +7,21 @@ use mathlib.Core.Path.{_≡_, refl, sym, _∙_, ap, subst}
 use Prim.Native.Nat.{ℕ}
 use native.Mathlib.Omega.{arith}
 use lib.Dec.{eqb, leb}
-use lib.ListN.{length, replicate}
-use borrow.Author.Tests.{ne-eqb, eqb-true}
+use lib.ListN.{length}
+use borrow.Author.Tests.{ne-eqb}
 use Rattle.questions.specs.Basics.{if_then_else_}
 use Rattle.questions.specs.Questions.{No}
 use Rattle.questions.specs.Verdicts.{verdictOf}
 use Rattle.questions.specs.declared.Verdict.the-variants.{Accepted}
-use Rattle.questions.proofs.Tests.{yes-no, no-yes}
 use Rattle.rules.specs.Calls.{Call, Answer, order}
 use Rattle.rules.specs.Calls as Calls
 use Rattle.rules.specs.Plain.{Event}
 use Rattle.agents.specs.declared.Agent.{Agent}
 use Rattle.agents.specs.Answers.{answerOf}
-use Rattle.agents.specs.Slots.{noAgent}
 use Rattle.store.specs.Questions.{createRefusal}
 use Rattle.store.specs.Created.{Created}
 use Rattle.chain.specs.Chain.{Chain, begins, goes-on}
-use Rattle.meaning.specs.State.{Lent}
-use Rattle.slots.specs.Records.{slotsIn, withSlots}
+use Rattle.slots.specs.Records.{slotsIn}
 use Rattle.slots.proofs.Records.{all-empty, length-records}
 use Rattle.answers.specs.Answers.{heard, judged, numberOf, slotsAfter}
 use Rattle.answers.specs.Answers as Answers
@@ -68,15 +65,6 @@ other-wrong answer other d = go (leb 12 (length answer)) refl
     go : (a : Bool) → leb 12 (length answer) ≡ a → (n : ℕ) × (buffersWrong answer other ≡ some n)
     go false p = (100, unfold buffersWrong in rw p refl)
     go true p = (101, unfold buffersWrong in rw (p, ne-eqb (length other) 384 d) refl)
-
--- right buffers have 384 bytes for the slots
-right-long : (answer slots : List ℕ) → buffersWrong answer slots ≡ none → length slots ≡ 384
-right-long answer slots e = go (leb 12 (length answer)) (eqb (length slots) 384) refl (unfold buffersWrong in e)
-  where
-    go : (a b : Bool) → eqb (length slots) 384 ≡ b → wrongBy a b ≡ none → length slots ≡ 384
-    go false b q r = let z : _≡_ {A = ℕ} 1 0 = ap present r in absurd (omega (arith, z))
-    go true false q r = let z : _≡_ {A = ℕ} 1 0 = ap present r in absurd (omega (arith, z))
-    go true true q r = eqb-true (length slots) 384 q
 
 -- ---- what a served call is
 

@@ -3,7 +3,7 @@ use mathlib.Core.Bool.{Bool, true, false}
 use mathlib.Core.List.{List}
 use mathlib.Core.Option.{Option, none, some}
 use mathlib.Core.Path.{_≡_, refl, sym, _∙_, ap}
-use Prim.Native.Nat.{ℕ, _+_, _*_, _<_}
+use Prim.Native.Nat.{ℕ, _*_, _<_}
 use native.Mathlib.Omega.{arith}
 use Rattle.words.specs.Words.{fields}
 use Rattle.questions.specs.Questions.{No, number, ask, orElse}
@@ -12,14 +12,13 @@ use Rattle.questions.proofs.Tests.{yes-no}
 use Rattle.questions.proofs.Each.{each-at}
 use Rattle.pack.specs.Refusal.{packRefusal}
 use Rattle.store.specs.Questions.{storeRefusal}
-use Rattle.agents.specs.declared.Agent.{Agent}
 use Rattle.agents.specs.Slots.{agentAt}
 use Rattle.meaning.specs.Questions.{slotRight, question13, question14, lentRefusal}
 use Rattle.meaning.specs.Questions as Meaning
 use Rattle.slots.specs.Records.{noRecord, recordIn, slotsIn}
 use Rattle.slots.proofs.Records.{no-record-is, malformed, at-in}
 use Rattle.host.specs.Exports.{lentIn}
-use Rattle.delivered.specs.Malformed.{NoRecordIn, orElse14, Malformed}
+use Rattle.delivered.specs.Malformed.{NoRecordIn, orElse14, Malformed, MalformedRefused}
 
 module _ (pack store slots : List ℕ) (i : ℕ) (h : i < 8) (no-record : NoRecordIn slots i) where
   stands-for : agentAt (slotsIn slots) i ≡ noRecord
@@ -59,8 +58,8 @@ module _ (pack store slots : List ℕ) (i : ℕ) (h : i < 8) (no-record : NoReco
       go none none true = unfold orElse in unfold ask in refl
       go none none false = unfold orElse in unfold ask in refl
 
-  pub malformed-refused : Malformed pack store slots
-  malformed-refused =
+  refused-by-14 : Malformed pack store slots
+  refused-by-14 =
       record {
         no-14 = says-no;
         arrivals = λ slot id workflow arguments. unfold Meaning.refusalFor in unfold Meaning.lentFor in first _;
@@ -68,3 +67,6 @@ module _ (pack store slots : List ℕ) (i : ℕ) (h : i < 8) (no-record : NoReco
         turns = λ slot. unfold Meaning.refusalFor in unfold Meaning.lentFor in first _;
         crashes = λ slot. unfold Meaning.refusalFor in unfold Meaning.lentFor in first _;
       }
+
+pub malformed-refused : MalformedRefused
+malformed-refused pack store slots i h no-record = refused-by-14 pack store slots i h no-record

@@ -21,8 +21,8 @@ NoRecordIn slots i = isRecord (fields 4 slots (48 * i) 12) ≡ false
 abbrev pub orElse14 : (pack store : List ℕ) → Option No
 orElse14 pack store = orElse (packRefusal pack) (orElse (storeRefusal store) (ask (number 13) (question13 pack store) (some (number 14))))
 
--- If the bytes of one of the eight slots are no record, question 14 says no, and so every call that puts it is refused in its place,
--- whatever slot it names. Nothing is changed then (`RefusedFirst`): the bytes stay, and no arrival takes their slot.
+-- Question 14 says no, and so every call that puts it is refused in its place, whatever slot it names. Nothing is changed then
+-- (`RefusedFirst`): the bytes stay, and no arrival takes their slot.
 pub record Malformed (pack store slots : List ℕ) : Type 0 where
   pub no-14 : question14 pack store (slotsIn slots) ≡ false
   pub arrivals : (slot id workflow : ℕ) (arguments : List ℕ) →
@@ -30,3 +30,7 @@ pub record Malformed (pack store slots : List ℕ) : Type 0 where
   pub retries : (slot id : ℕ) → refusalFor pack (lentIn store slots) (retry slot id) ≡ orElse14 pack store
   pub turns : (slot : ℕ) → refusalFor pack (lentIn store slots) (turn slot) ≡ orElse14 pack store
   pub crashes : (slot : ℕ) → refusalFor pack (lentIn store slots) (crash slot) ≡ orElse14 pack store
+
+-- That is so wherever the bytes of one of the eight slots are no record.
+abbrev pub MalformedRefused : Type 0
+MalformedRefused = (pack store slots : List ℕ) (i : ℕ) → i < 8 → NoRecordIn slots i → Malformed pack store slots

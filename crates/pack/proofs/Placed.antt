@@ -1,11 +1,8 @@
 -- Every no that questions 1 to 8 and 17 come to names a place of a pack: a workflow below 16, an instruction below 256.
 use mathlib.Core.List.{List}
-use mathlib.Core.Option.{none}
-use mathlib.Core.Path.{_≡_, subst}
 use Prim.Native.Nat.{ℕ, _<_}
 use native.Mathlib.Omega.{arith}
-use lib.ListN.{length}
-use Rattle.questions.specs.Questions.{No, number, Placed}
+use Rattle.questions.specs.Questions.{number, Placed}
 use Rattle.questions.proofs.Every.{Every, every-none, every-ask, every-or, every-first, no-place}
 use Rattle.code.proofs.Placed.{code-placed}
 use Rattle.pack.specs.Layout.{count, operationsOf, operandsOf}
