@@ -19,20 +19,20 @@ use agents::Outcome;
 use questions::Verdict;
 
 // The low 4 bytes of a number.
-fn low(x: usize) -> u32
-    ensures { λ r. ⌜ r ≡ x % 2 ^ 32 ⌝ }
+fn low(number: usize) -> u32
+    ensures { λ r. ⌜ r ≡ number % 2 ^ 32 ⌝ }
 {
-    (x % 4_294_967_296) as u32
+    (number % 4_294_967_296) as u32
 }
 
 // Writes three words at the start of the answer buffer.
-fn write_words(answer: &mut [u8], x: u32, y: u32, z: u32)
+fn write_words(answer: &mut [u8], first: u32, second: u32, third: u32)
     requires { ⌜ 12 ≤ length (now answer) ⌝ }
-    ensures { λ _. ⌜ now (answer .exit) ≡ withWords (now (answer .entry)) (x ∷ y ∷ z ∷ []) ⌝ }
+    ensures { λ _. ⌜ now (answer .exit) ≡ withWords (now (answer .entry)) (first ∷ second ∷ third ∷ []) ⌝ }
 {
-    words::write32(answer, 0, x);
-    words::write32(answer, 4, y);
-    words::write32(answer, 8, z);
+    words::write32(answer, 0, first);
+    words::write32(answer, 4, second);
+    words::write32(answer, 8, third);
 }
 
 // Writes an answer's three words, and gives its number.
@@ -93,14 +93,14 @@ pub fn read_answer(number: u32, answer: &[u8]) -> Answer
 }
 
 // Writes four words behind the three of an answer.
-pub fn write_parts(answer: &mut [u8], x: usize, y: usize, z: usize, u: usize)
+pub fn write_parts(answer: &mut [u8], first: usize, second: usize, third: usize, fourth: usize)
     requires { ⌜ 28 ≤ length (now answer) ⌝ }
-    ensures { λ _. ⌜ now (answer .exit) ≡ puts 4 (now (answer .entry)) 12 (x ∷ y ∷ z ∷ u ∷ []) 4 ⌝ }
+    ensures { λ _. ⌜ now (answer .exit) ≡ puts 4 (now (answer .entry)) 12 (first ∷ second ∷ third ∷ fourth ∷ []) 4 ⌝ }
 {
-    words::write32(answer, 12, low(x));
-    words::write32(answer, 16, low(y));
-    words::write32(answer, 20, low(z));
-    words::write32(answer, 24, low(u));
+    words::write32(answer, 12, low(first));
+    words::write32(answer, 16, low(second));
+    words::write32(answer, 20, low(third));
+    words::write32(answer, 24, low(fourth));
 }
 
 // Questions alone, as an answer.

@@ -27,11 +27,11 @@ pub fn malformed_line(out: &mut [u8], number: u64) -> usize
 }
 
 // An answer in words; with a refusal goes its place.
-fn append_answer(out: &mut [u8], n: usize, answer: Answer) -> usize
-    requires { ⌜ n + 89 ≤ length (now out) ⌝ }
-    ensures { λ r. ⌜ r ≤ n + 89 ⌝ }
+fn append_answer(out: &mut [u8], written: usize, answer: Answer) -> usize
+    requires { ⌜ written + 89 ≤ length (now out) ⌝ }
+    ensures { λ r. ⌜ r ≤ written + 89 ⌝ }
 {
-    let a = lines::append_answer(out, n, answer);
+    let a = lines::append_answer(out, written, answer);
     if let Answer::Refused {
         question: _,
         workflow,
@@ -65,17 +65,17 @@ pub fn used_line(out: &mut [u8], partition: u64, count: u64) -> usize
 }
 
 // The twelve words of a record, each behind a blank.
-fn append_words(out: &mut [u8], n: usize, agent: &[u8]) -> usize
-    requires { ⌜ (n + 252 ≤ length (now out)) × (48 ≤ length (now agent)) ⌝ }
-    ensures { λ r. ⌜ r ≤ n + 252 ⌝ }
+fn append_words(out: &mut [u8], written: usize, agent: &[u8]) -> usize
+    requires { ⌜ (written + 252 ≤ length (now out)) × (48 ≤ length (now agent)) ⌝ }
+    ensures { λ r. ⌜ r ≤ written + 252 ⌝ }
 {
-    let mut at = n;
+    let mut reached = written;
     let mut i = 0;
     while i < 12 {
-        at = lines::append_field(out, at, words::read32(agent, 4 * i) as u64);
+        reached = lines::append_field(out, reached, words::read32(agent, 4 * i) as u64);
         i += 1;
     }
-    at
+    reached
 }
 
 // agent SLOT IN_USE ID POSITION STEP R0 .. R7
@@ -90,8 +90,8 @@ pub fn agent_line(out: &mut [u8], slot: u64, agent: &[u8]) -> usize
 }
 
 // The low digit of a number in hex, in small letters.
-fn hex_digit(n: u8) -> u8 {
-    let low = n % 16;
+fn hex_digit(number: u8) -> u8 {
+    let low = number % 16;
     if low < 10 {
         return b'0' + low;
     }
@@ -99,24 +99,24 @@ fn hex_digit(n: u8) -> u8 {
 }
 
 // A byte in hex.
-fn append_pair(out: &mut [u8], n: usize, b: u8) -> usize
-    requires { ⌜ n + 2 ≤ length (now out) ⌝ }
-    ensures { λ r. ⌜ r ≡ n + 2 ⌝ }
+fn append_pair(out: &mut [u8], written: usize, byte: u8) -> usize
+    requires { ⌜ written + 2 ≤ length (now out) ⌝ }
+    ensures { λ r. ⌜ r ≡ written + 2 ⌝ }
 {
-    let a = text::append_byte(out, n, hex_digit(b / 16));
-    text::append_byte(out, a, hex_digit(b))
+    let a = text::append_byte(out, written, hex_digit(byte / 16));
+    text::append_byte(out, a, hex_digit(byte))
 }
 
 // The bytes in hex, two digits each.
-pub fn append_hex(out: &mut [u8], n: usize, src: &[u8]) -> usize
-    requires { ⌜ n + 2 * length (now src) ≤ length (now out) ⌝ }
-    ensures { λ r. ⌜ r ≤ n + 2 * length (now (src .entry)) ⌝ }
+pub fn append_hex(out: &mut [u8], written: usize, src: &[u8]) -> usize
+    requires { ⌜ written + 2 * length (now src) ≤ length (now out) ⌝ }
+    ensures { λ r. ⌜ r ≤ written + 2 * length (now (src .entry)) ⌝ }
 {
-    let mut at = n;
+    let mut reached = written;
     let mut i = 0;
     while i < src.len() {
-        at = append_pair(out, at, src[i]);
+        reached = append_pair(out, reached, src[i]);
         i += 1;
     }
-    at
+    reached
 }

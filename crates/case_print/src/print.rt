@@ -8,45 +8,45 @@ ghost use lib.ListN.{length};
 ghost use Rattle.store.specs.Layout.{partsOf};
 ghost use Rattle.store.specs.Sound.{Dimensions};
 
-// The first `n` bytes of a line.
-fn write_line(line: &[u8], n: usize)
-    requires { ⌜ n ≤ length (now line) ⌝ }
+// The first `written` bytes of a line.
+fn write_line(line: &[u8], written: usize)
+    requires { ⌜ written ≤ length (now line) ⌝ }
 {
-    io::write_all(STDOUT_FILENO, &line[0..n]);
+    io::write_all(STDOUT_FILENO, &line[0..written]);
 }
 
 // malformed case NUMBER
 pub fn print_malformed(number: u64) {
     let mut line = [0u8; 48];
-    let n = case_lines::malformed_line(&mut line, number);
-    write_line(&line, n);
+    let written = case_lines::malformed_line(&mut line, number);
+    write_line(&line, written);
 }
 
 // answer ANSWER
 pub fn print_answer(answer: Answer) {
     let mut line = [0u8; 97];
-    let n = case_lines::answer_line(&mut line, answer);
-    write_line(&line, n);
+    let written = case_lines::answer_line(&mut line, answer);
+    write_line(&line, written);
 }
 
 fn print_used(partition: usize, count: usize) {
     let mut line = [0u8; 64];
-    let n = case_lines::used_line(&mut line, partition as u64, count as u64);
-    write_line(&line, n);
+    let written = case_lines::used_line(&mut line, partition as u64, count as u64);
+    write_line(&line, written);
 }
 
 fn print_row(partition: usize, key: u64, value: u32) {
     let mut line = [0u8; 88];
-    let n = lines::row_line(&mut line, 0, partition as u64, key, value as u64);
-    write_line(&line, n);
+    let written = lines::row_line(&mut line, 0, partition as u64, key, value as u64);
+    write_line(&line, written);
 }
 
 fn print_agent(slot: usize, agent: &[u8])
     requires { ⌜ 48 ≤ length (now agent) ⌝ }
 {
     let mut line = [0u8; 300];
-    let n = case_lines::agent_line(&mut line, slot as u64, agent);
-    write_line(&line, n);
+    let written = case_lines::agent_line(&mut line, slot as u64, agent);
+    write_line(&line, written);
 }
 
 // At most 512 bytes in hex.
@@ -54,8 +54,8 @@ fn print_piece(src: &[u8])
     requires { ⌜ length (now src) ≤ 512 ⌝ }
 {
     let mut piece = [0u8; 1024];
-    let n = case_lines::append_hex(&mut piece, 0, src);
-    write_line(&piece, n);
+    let written = case_lines::append_hex(&mut piece, 0, src);
+    write_line(&piece, written);
 }
 
 // How many of the bytes that are left are printed at a time.
@@ -72,11 +72,11 @@ fn print_hex(src: &[u8]) {
         io::write_all(STDOUT_FILENO, b"-");
         return;
     }
-    let mut at = 0;
-    while at < src.len() {
-        let n = piece_of(src.len() - at);
-        print_piece(&src[at..at + n]);
-        at += n;
+    let mut printed = 0;
+    while printed < src.len() {
+        let count = piece_of(src.len() - printed);
+        print_piece(&src[printed..printed + count]);
+        printed += count;
     }
 }
 
@@ -90,85 +90,85 @@ pub fn print_opened(pack: &[u8], workflow: u32) {
 }
 
 // used PARTITION COUNT, of each partition, the book last
-fn print_counts(s: &[u8])
-    requires { ⌜ Dimensions (now s) ⌝ }
+fn print_counts(store: &[u8])
+    requires { ⌜ Dimensions (now store) ⌝ }
 {
-    let parts = store::head::partition_count(s);
-    let mut p = 0;
-    while p <= parts {
-        print_used(p, store::head::used_count(s, p));
-        p += 1;
+    let parts = store::head::partition_count(store);
+    let mut partition = 0;
+    while partition <= parts {
+        print_used(partition, store::head::used_count(store, partition));
+        partition += 1;
     }
 }
 
-// The `n` rows with keys from byte `keys` on and values from byte `values` on, by rising stored key, then value.
-fn print_partition(s: &[u8], p: usize, keys: usize, values: usize, n: usize)
-    requires { ⌜ (keys + 8 * n ≤ length (now s)) × (values + 4 * n ≤ length (now s)) × (n ≤ 256) ⌝ }
+// The `used` rows with keys from byte `keys` on and values from byte `values` on, by rising stored key, then value.
+fn print_partition(store: &[u8], partition: usize, keys: usize, values: usize, used: usize)
+    requires { ⌜ (keys + 8 * used ≤ length (now store)) × (values + 4 * used ≤ length (now store)) × (used ≤ 256) ⌝ }
 {
     let mut printed = [0u8; 256];
-    let mut left = n;
+    let mut left = used;
     while 0 < left {
-        let i = rows::next_row(s, keys, values, n, &printed);
-        if i == n {
+        let i = rows::next_row(store, keys, values, used, &printed);
+        if i == used {
             return;
         }
         print_row(
-            p,
-            words::read64(s, keys + 8 * i),
-            words::read32(s, values + 4 * i),
+            partition,
+            words::read64(store, keys + 8 * i),
+            words::read32(store, values + 4 * i),
         );
         printed[i] = 1;
         left -= 1;
     }
 }
 
-// The rows of partition `p`.
-fn print_rows_of(s: &[u8], p: usize)
-    requires { ⌜ Dimensions (now s) × (p ≤ partsOf (now s)) ⌝ }
+// The rows of a partition.
+fn print_rows_of(store: &[u8], partition: usize)
+    requires { ⌜ Dimensions (now store) × (partition ≤ partsOf (now store)) ⌝ }
 {
-    let n = rows::row_count(s, p);
-    let keys = store::head::key_place(s, p, 0);
-    let values = store::head::value_place(s, p, 0);
-    print_partition(s, p, keys, values, n);
+    let used = rows::row_count(store, partition);
+    let keys = store::head::key_place(store, partition, 0);
+    let values = store::head::value_place(store, partition, 0);
+    print_partition(store, partition, keys, values, used);
 }
 
 // The rows of all partitions, the book last.
-fn print_rows(s: &[u8])
-    requires { ⌜ Dimensions (now s) ⌝ }
+fn print_rows(store: &[u8])
+    requires { ⌜ Dimensions (now store) ⌝ }
 {
-    let parts = store::head::partition_count(s);
-    let mut p = 0;
-    while p <= parts {
-        print_rows_of(s, p);
-        p += 1;
+    let parts = store::head::partition_count(store);
+    let mut partition = 0;
+    while partition <= parts {
+        print_rows_of(store, partition);
+        partition += 1;
     }
 }
 
 // bytes HEX: the whole store as it is
-pub fn print_bytes(s: &[u8]) {
+pub fn print_bytes(store: &[u8]) {
     io::write_all(STDOUT_FILENO, b"bytes ");
-    print_hex(s);
+    print_hex(store);
     io::write_all(STDOUT_FILENO, b"\n");
 }
 
 // A store: its used counts and rows if it passes questions 9 and 10, otherwise its bytes; and behind them all its bytes.
-pub fn print_store(s: &[u8]) {
-    if rows::is_laid(s) {
-        print_counts(s);
-        print_rows(s);
+pub fn print_store(store: &[u8]) {
+    if rows::is_laid(store) {
+        print_counts(store);
+        print_rows(store);
     } else {
         io::write_all(STDOUT_FILENO, b"store ");
-        print_hex(s);
+        print_hex(store);
         io::write_all(STDOUT_FILENO, b"\n");
     }
-    print_bytes(s);
+    print_bytes(store);
 }
 
 // Is every byte zero?
-fn is_zero(s: &[u8]) -> bool {
+fn is_zero(bytes: &[u8]) -> bool {
     let mut i = 0;
-    while i < s.len() {
-        if s[i] != 0 {
+    while i < bytes.len() {
+        if bytes[i] != 0 {
             return false;
         }
         i += 1;

@@ -12,31 +12,31 @@ fn export_call(
     store: &mut [u8],
     records: &mut [u8],
     call: u8,
-    w: [u32; 7],
+    words: [u32; 7],
     answer: &mut [u8],
 ) -> u32
     requires { ⌜ (call ≡ 9 → ⊥) ⌝ }
     ensures { λ r. ⌜ Exported (now (pack .entry)) (now (store .entry)) (now (records .entry)) (now (answer .entry))
-        (callBy call w) r (now (store .exit)) (now (records .exit)) (now (answer .exit)) ⌝ }
+        (callBy call words) r (now (store .exit)) (now (records .exit)) (now (answer .exit)) ⌝ }
 {
-    let slot = w[0] as usize;
+    let slot = words[0] as usize;
     if call == 3 {
         return host::sarthule_arrival(
             pack,
             store,
             records,
             slot,
-            w[1],
-            w[2],
-            w[3],
-            w[4],
-            w[5],
-            w[6],
+            words[1],
+            words[2],
+            words[3],
+            words[4],
+            words[5],
+            words[6],
             answer,
         );
     }
     if call == 4 {
-        return host::sarthule_retry(pack, store, records, slot, w[1], answer);
+        return host::sarthule_retry(pack, store, records, slot, words[1], answer);
     }
     if call == 5 {
         return host::sarthule_turn(pack, store, records, slot, answer);
@@ -48,9 +48,15 @@ fn export_call(
 }
 
 // The call by its byte: 0 check, 1 open, 2 create, 9 order, and those that get records. Its answer is what the number and the words say.
-pub fn make_call(pack: &[u8], store: &mut [u8], records: &mut [u8], call: u8, w: [u32; 7]) -> Answer
+pub fn make_call(
+    pack: &[u8],
+    store: &mut [u8],
+    records: &mut [u8],
+    call: u8,
+    words: [u32; 7],
+) -> Answer
     requires { ⌜ length (now records) ≡ 384 ⌝ }
-    ensures { λ r. ⌜ CaseMade call w (now (pack .entry)) (now (store .entry)) (now (records .entry)) r
+    ensures { λ r. ⌜ CaseMade call words (now (pack .entry)) (now (store .entry)) (now (records .entry)) r
         (now (store .exit)) (now (records .exit)) ⌝ }
 {
     let mut answer = [0u8; 28];
@@ -59,17 +65,22 @@ pub fn make_call(pack: &[u8], store: &mut [u8], records: &mut [u8], call: u8, w:
         return answers::read_answer(number, &answer);
     }
     if call == 1 {
-        let number = host::sarthule_open(pack, w[0], &mut answer);
+        let number = host::sarthule_open(pack, words[0], &mut answer);
         return answers::read_answer(number, &answer);
     }
     if call == 2 {
-        let number = host::sarthule_create(store, w[0] as usize, w[1] as usize, &mut answer);
+        let number = host::sarthule_create(
+            store,
+            words[0] as usize,
+            words[1] as usize,
+            &mut answer,
+        );
         return answers::read_answer(number, &answer);
     }
     if call == 9 {
         let number = host::sarthule_order(store, &mut answer);
         return answers::read_answer(number, &answer);
     }
-    let number = export_call(pack, store, records, call, w, &mut answer);
+    let number = export_call(pack, store, records, call, words, &mut answer);
     answers::read_answer(number, &answer)
 }

@@ -37,11 +37,11 @@ pub fn has_parts(c: &[u8]) -> bool
 }
 
 // Is a byte that of a call, 0 to 7 or 9?
-fn is_call(b: u8) -> bool {
-    if b < 8 {
+fn is_call(byte: u8) -> bool {
+    if byte < 8 {
         return true;
     }
-    b == 9
+    byte == 9
 }
 
 // Is the rest of a call there, and its call byte in range? The records' words may be any: some make no record, which 14 is asked about.
@@ -49,11 +49,11 @@ pub fn has_call(c: &[u8]) -> bool
     requires { ⌜ HasParts (now c) ⌝ }
     ensures { λ r. ⌜ (r ≡ true → HasCall (now (c .entry))) ⌝ }
 {
-    let at = parts_end(c);
-    if c.len() - at < 413 {
+    let records_at = parts_end(c);
+    if c.len() - records_at < 413 {
         return false;
     }
-    is_call(c[at + 384])
+    is_call(c[records_at + 384])
 }
 
 // Where a call ends.
@@ -72,26 +72,26 @@ pub fn call_words(c: &[u8]) -> [u32; 7]
 }
 
 // A byte, as a count.
-pub fn wide(b: u8) -> usize
-    ensures { λ r. ⌜ (r ≡ b) × (r < 256) ⌝ }
+pub fn wide(byte: u8) -> usize
+    ensures { λ r. ⌜ (r ≡ byte) × (r < 256) ⌝ }
 {
-    b as usize
+    byte as usize
 }
 
 // Is each call byte, the first of 29, that of one of the six calls on a store, 3 to 7 and 9?
 fn calls_right(calls: &[u8]) -> bool {
-    let mut at = 0;
-    while at < calls.len() {
-        if calls[at] < 3 {
+    let mut call_at = 0;
+    while call_at < calls.len() {
+        if calls[call_at] < 3 {
             return false;
         }
-        if !is_call(calls[at]) {
+        if !is_call(calls[call_at]) {
             return false;
         }
-        if calls.len() - at < 29 {
+        if calls.len() - call_at < 29 {
             return true;
         }
-        at += 29;
+        call_at += 29;
     }
     true
 }
@@ -104,27 +104,27 @@ pub fn list_bytes(rest: &[u8]) -> usize
     if rest.len() < 385 {
         return 0;
     }
-    let n = 385 + 29 * wide(rest[384]);
-    if rest.len() < n {
+    let bytes = 385 + 29 * wide(rest[384]);
+    if rest.len() < bytes {
         return 0;
     }
-    if calls_right(&rest[385..n]) {
-        return n;
+    if calls_right(&rest[385..bytes]) {
+        return bytes;
     }
     0
 }
 
-// Seven words from a place on.
-pub fn words_at(c: &[u8], at: usize) -> [u32; 7]
-    requires { ⌜ at + 28 ≤ length (now c) ⌝ }
+// Seven words from byte `first` on.
+pub fn words_at(c: &[u8], first: usize) -> [u32; 7]
+    requires { ⌜ first + 28 ≤ length (now c) ⌝ }
 {
     [
-        words::read32(c, at),
-        words::read32(c, at + 4),
-        words::read32(c, at + 8),
-        words::read32(c, at + 12),
-        words::read32(c, at + 16),
-        words::read32(c, at + 20),
-        words::read32(c, at + 24),
+        words::read32(c, first),
+        words::read32(c, first + 4),
+        words::read32(c, first + 8),
+        words::read32(c, first + 12),
+        words::read32(c, first + 16),
+        words::read32(c, first + 20),
+        words::read32(c, first + 24),
     ]
 }

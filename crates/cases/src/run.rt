@@ -10,11 +10,18 @@ ghost use Rattle.cases.specs.Parts.{HasParts, HasCall};
 
 // What goes with the answer of a call, behind it: of an opening the parts; of a call that may change them store and records, or without
 // its state the store's bytes alone.
-fn print_left(pack: &[u8], store: &[u8], records: &[u8], call: u8, w: [u32; 7], with_state: bool)
+fn print_left(
+    pack: &[u8],
+    store: &[u8],
+    records: &[u8],
+    call: u8,
+    words: [u32; 7],
+    with_state: bool,
+)
     requires { ⌜ 384 ≤ length (now records) ⌝ }
 {
     if call == 1 {
-        print::print_opened(pack, w[0]);
+        print::print_opened(pack, words[0]);
     }
     if 1 < call {
         print_after(store, records, with_state);
@@ -39,29 +46,29 @@ fn print_outcome(
     store: &mut [u8],
     records: &mut [u8],
     call: u8,
-    w: [u32; 7],
+    words: [u32; 7],
     with_state: bool,
 )
     requires { ⌜ length (now records) ≡ 384 ⌝ }
 {
-    print::print_answer(call::make_call(pack, store, records, call, w));
-    print_left(pack, store, records, call, w, with_state);
+    print::print_answer(call::make_call(pack, store, records, call, words));
+    print_left(pack, store, records, call, words, with_state);
 }
 
 // A call, on a copy of its store in `buffer` and a copy of its records.
 fn print_call(c: &[u8], with_state: bool, buffer: &mut [u8])
     requires { ⌜ HasCall (now c) × (length (now c) ≤ length (now buffer)) ⌝ }
 {
-    let from = parts::pack_end(c);
-    let to = parts::parts_end(c);
-    let n = text::append_bytes(buffer, 0, &c[from..to]);
+    let pack_end = parts::pack_end(c);
+    let parts_end = parts::parts_end(c);
+    let store_bytes = text::append_bytes(buffer, 0, &c[pack_end..parts_end]);
     let mut records = [0u8; 384];
-    text::append_bytes(&mut records, 0, &c[to..to + 384]);
+    text::append_bytes(&mut records, 0, &c[parts_end..parts_end + 384]);
     print_outcome(
-        &c[9..from],
-        &mut buffer[..n],
+        &c[9..pack_end],
+        &mut buffer[..store_bytes],
         &mut records,
-        c[to + 384],
+        c[parts_end + 384],
         parts::call_words(c),
         with_state,
     );
@@ -71,11 +78,11 @@ fn print_call(c: &[u8], with_state: bool, buffer: &mut [u8])
 fn print_answers(pack: &[u8], store: &mut [u8], records: &mut [u8], calls: &[u8])
     requires { ⌜ length (now records) ≡ 384 ⌝ }
 {
-    let mut at = 0;
-    while 29 <= calls.len() - at {
-        let w = parts::words_at(calls, at + 1);
-        print::print_answer(call::make_call(pack, store, records, calls[at], w));
-        at += 29;
+    let mut call_at = 0;
+    while 29 <= calls.len() - call_at {
+        let words = parts::words_at(calls, call_at + 1);
+        print::print_answer(call::make_call(pack, store, records, calls[call_at], words));
+        call_at += 29;
     }
 }
 
@@ -83,19 +90,24 @@ fn print_answers(pack: &[u8], store: &mut [u8], records: &mut [u8], calls: &[u8]
 fn print_list(pack: &[u8], store: &[u8], list: &[u8], with_state: bool, buffer: &mut [u8])
     requires { ⌜ (385 ≤ length (now list)) × (length (now store) ≤ length (now buffer)) ⌝ }
 {
-    let n = text::append_bytes(buffer, 0, store);
+    let store_bytes = text::append_bytes(buffer, 0, store);
     let mut records = [0u8; 384];
     text::append_bytes(&mut records, 0, &list[0..384]);
-    print_answers(pack, &mut buffer[0..n], &mut records, &list[385..]);
-    print_after(&buffer[0..n], &records, with_state);
+    print_answers(
+        pack,
+        &mut buffer[0..store_bytes],
+        &mut records,
+        &list[385..],
+    );
+    print_after(&buffer[0..store_bytes], &records, with_state);
 }
 
 // A schedule: what the schedule program prints.
 fn print_schedule(pack: &[u8], schedule: &[u8]) {
     let mut store = schedule::run::store_buffer();
     let mut text = schedule::run::text_buffer();
-    let n = schedule::run::run(pack, schedule, &mut store, &mut text);
-    io::write_all(STDOUT_FILENO, &text[..n]);
+    let written = schedule::run::run(pack, schedule, &mut store, &mut text);
+    io::write_all(STDOUT_FILENO, &text[..written]);
 }
 
 // A case of kind 1, a call.
@@ -117,21 +129,21 @@ fn print_list_case(c: &[u8], title: &[u8], with_state: bool, buffer: &mut [u8]) 
     requires { ⌜ HasParts (now c) × (length (now c) ≤ length (now buffer)) ⌝ }
     ensures { λ r. ⌜ r ≤ length (now (c .entry)) ⌝ }
 {
-    let from = parts::pack_end(c);
-    let to = parts::parts_end(c);
-    let n = parts::list_bytes(&c[to..]);
-    if n < 385 {
+    let pack_end = parts::pack_end(c);
+    let parts_end = parts::parts_end(c);
+    let bytes = parts::list_bytes(&c[parts_end..]);
+    if bytes < 385 {
         return 0;
     }
     io::write_all(STDOUT_FILENO, title);
     print_list(
-        &c[9..from],
-        &c[from..to],
-        &c[to..to + n],
+        &c[9..pack_end],
+        &c[pack_end..parts_end],
+        &c[parts_end..parts_end + bytes],
         with_state,
         buffer,
     );
-    to + n
+    parts_end + bytes
 }
 
 // A case of kind 0, a schedule.
@@ -139,11 +151,11 @@ fn print_schedule_case(c: &[u8], title: &[u8]) -> usize
     requires { ⌜ HasParts (now c) ⌝ }
     ensures { λ r. ⌜ r ≤ length (now (c .entry)) ⌝ }
 {
-    let from = parts::pack_end(c);
-    let to = parts::parts_end(c);
+    let pack_end = parts::pack_end(c);
+    let parts_end = parts::parts_end(c);
     io::write_all(STDOUT_FILENO, title);
-    print_schedule(&c[9..from], &c[from..to]);
-    to
+    print_schedule(&c[9..pack_end], &c[pack_end..parts_end]);
+    parts_end
 }
 
 // A case by its kind.

@@ -9,8 +9,8 @@ fn print_numbered(c: &[u8], number: u64, buffer: &mut [u8]) -> usize
     ensures { λ r. ⌜ r ≤ length (now (c .entry)) ⌝ }
 {
     let mut line = [0u8; 32];
-    let n = case_print::case_lines::case_line(&mut line, number);
-    let size = cases::run::print_case(c, &line[..n], true, buffer);
+    let written = case_print::case_lines::case_line(&mut line, number);
+    let size = cases::run::print_case(c, &line[..written], true, buffer);
     if size == 0 {
         case_print::print::print_malformed(number);
     }
@@ -21,14 +21,14 @@ fn print_numbered(c: &[u8], number: u64, buffer: &mut [u8]) -> usize
 fn print_cases(file: &[u8], buffer: &mut [u8])
     requires { ⌜ length (now file) ≤ length (now buffer) ⌝ }
 {
-    let mut at = 0;
+    let mut passed = 0;
     let mut number: u64 = 0;
-    while at < file.len() {
-        let n = print_numbered(&file[at..], number, buffer);
-        if n == 0 {
+    while passed < file.len() {
+        let bytes = print_numbered(&file[passed..], number, buffer);
+        if bytes == 0 {
             return;
         }
-        at += n;
+        passed += bytes;
         number += 1;
     }
 }
@@ -46,8 +46,8 @@ fn main() {
         return;
     }
     let mut file = large_buffer();
-    let n = io::read_full(fd, &mut file);
+    let read = io::read_full(fd, &mut file);
     libc::close(fd);
     let mut buffer = large_buffer();
-    print_cases(&file[..n], &mut buffer);
+    print_cases(&file[..read], &mut buffer);
 }

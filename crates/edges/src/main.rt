@@ -4,36 +4,36 @@ ghost use mathlib.Core.Path.{_≡_};
 ghost use Prim.Native.Nat.{_≤_};
 ghost use lib.ListN.{length};
 
-// The edge that `e` begins with. The answer is how many bytes it has, 0 if it is malformed.
-fn print_edge(e: &[u8], buffer: &mut [u8]) -> usize
-    requires { ⌜ length (now e) ≤ length (now buffer) ⌝ }
-    ensures { λ r. ⌜ r ≤ length (now (e .entry)) ⌝ }
+// The edge that `edges` begin with. The answer is how many bytes it has, 0 if it is malformed.
+fn print_edge(edges: &[u8], buffer: &mut [u8]) -> usize
+    requires { ⌜ length (now edges) ≤ length (now buffer) ⌝ }
+    ensures { λ r. ⌜ r ≤ length (now (edges .entry)) ⌝ }
 {
-    if e.len() == 0 {
+    if edges.len() == 0 {
         return 0;
     }
-    let to = 1 + cases::parts::wide(e[0]);
-    if e.len() < to {
+    let words_end = 1 + cases::parts::wide(edges[0]);
+    if edges.len() < words_end {
         return 0;
     }
-    let n = cases::run::print_case(&e[to..], &e[1..to], false, buffer);
-    if n == 0 {
+    let bytes = cases::run::print_case(&edges[words_end..], &edges[1..words_end], false, buffer);
+    if bytes == 0 {
         return 0;
     }
-    to + n
+    words_end + bytes
 }
 
 // All edges.
-fn print_edges(s: &[u8], buffer: &mut [u8])
-    requires { ⌜ length (now s) ≤ length (now buffer) ⌝ }
+fn print_edges(edges: &[u8], buffer: &mut [u8])
+    requires { ⌜ length (now edges) ≤ length (now buffer) ⌝ }
 {
-    let mut at = 0;
-    while at < s.len() {
-        let n = print_edge(&s[at..], buffer);
-        if n == 0 {
+    let mut passed = 0;
+    while passed < edges.len() {
+        let bytes = print_edge(&edges[passed..], buffer);
+        if bytes == 0 {
             return;
         }
-        at += n;
+        passed += bytes;
     }
 }
 
@@ -46,7 +46,7 @@ fn large_buffer() -> [u8; 262_144]
 
 fn main() {
     let mut edges = large_buffer();
-    let n = io::read_full(0, &mut edges);
+    let read = io::read_full(0, &mut edges);
     let mut buffer = large_buffer();
-    print_edges(&edges[..n], &mut buffer);
+    print_edges(&edges[..read], &mut buffer);
 }

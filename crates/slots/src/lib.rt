@@ -20,32 +20,32 @@ fn no_record() -> Agent
     }
 }
 
-// The eight words from `at` on.
-fn read_registers(bytes: &[u8], at: usize) -> [u32; 8]
-    requires { ⌜ at + 32 ≤ length (now bytes) ⌝ }
-    ensures { λ r. ⌜ r ≡ fields 4 (now (bytes .entry)) at 8 ⌝ }
+// The eight words from byte `first` on.
+fn read_registers(bytes: &[u8], first: usize) -> [u32; 8]
+    requires { ⌜ first + 32 ≤ length (now bytes) ⌝ }
+    ensures { λ r. ⌜ r ≡ fields 4 (now (bytes .entry)) first 8 ⌝ }
 {
     [
-        words::read32(bytes, at),
-        words::read32(bytes, at + 4),
-        words::read32(bytes, at + 8),
-        words::read32(bytes, at + 12),
-        words::read32(bytes, at + 16),
-        words::read32(bytes, at + 20),
-        words::read32(bytes, at + 24),
-        words::read32(bytes, at + 28),
+        words::read32(bytes, first),
+        words::read32(bytes, first + 4),
+        words::read32(bytes, first + 8),
+        words::read32(bytes, first + 12),
+        words::read32(bytes, first + 16),
+        words::read32(bytes, first + 20),
+        words::read32(bytes, first + 24),
+        words::read32(bytes, first + 28),
     ]
 }
 
-// The i-th record.
-fn read_record(bytes: &[u8], i: usize) -> Agent
-    requires { ⌜ 48 * i + 48 ≤ length (now bytes) ⌝ }
-    ensures { λ r. ⌜ r ≡ recordIn (now (bytes .entry)) i ⌝ }
+// The record of a slot.
+fn read_record(bytes: &[u8], slot: usize) -> Agent
+    requires { ⌜ 48 * slot + 48 ≤ length (now bytes) ⌝ }
+    ensures { λ r. ⌜ r ≡ recordIn (now (bytes .entry)) slot ⌝ }
 {
-    let at = 48 * i;
-    let in_use = words::read32(bytes, at);
-    let position = words::read32(bytes, at + 8);
-    let step = words::read32(bytes, at + 12);
+    let first = 48 * slot;
+    let in_use = words::read32(bytes, first);
+    let position = words::read32(bytes, first + 8);
+    let step = words::read32(bytes, first + 12);
     if in_use >= 2 {
         return no_record();
     }
@@ -57,10 +57,10 @@ fn read_record(bytes: &[u8], i: usize) -> Agent
     }
     Agent {
         in_use: in_use == 1,
-        id: words::read32(bytes, at + 4),
+        id: words::read32(bytes, first + 4),
         position: position as u16,
         step: step as u16,
-        registers: read_registers(bytes, at + 16),
+        registers: read_registers(bytes, first + 16),
     }
 }
 
@@ -81,30 +81,30 @@ pub fn read_slots(bytes: &[u8]) -> [Agent; 8]
     ]
 }
 
-// Writes eight words from `at` on.
-fn write_registers(bytes: &mut [u8], at: usize, registers: [u32; 8])
-    requires { ⌜ at + 32 ≤ length (now bytes) ⌝ }
-    ensures { λ _. ⌜ now (bytes .exit) ≡ puts 4 (now (bytes .entry)) at registers 8 ⌝ }
+// Writes eight words from byte `first` on.
+fn write_registers(bytes: &mut [u8], first: usize, registers: [u32; 8])
+    requires { ⌜ first + 32 ≤ length (now bytes) ⌝ }
+    ensures { λ _. ⌜ now (bytes .exit) ≡ puts 4 (now (bytes .entry)) first registers 8 ⌝ }
 {
     let mut i = 0;
     while i < 8 {
-        words::write32(bytes, at + i * 4, registers[i]);
+        words::write32(bytes, first + i * 4, registers[i]);
         i += 1;
     }
 }
 
-// Writes `a` as the i-th record.
-fn write_record(bytes: &mut [u8], i: usize, a: Agent)
-    requires { ⌜ 48 * i + 48 ≤ length (now bytes) ⌝ }
-    ensures { λ _. ⌜ now (bytes .exit) ≡ withRecord (now (bytes .entry)) i a ⌝ }
+// Writes the record of a slot.
+fn write_record(bytes: &mut [u8], slot: usize, agent: Agent)
+    requires { ⌜ 48 * slot + 48 ≤ length (now bytes) ⌝ }
+    ensures { λ _. ⌜ now (bytes .exit) ≡ withRecord (now (bytes .entry)) slot agent ⌝ }
 {
-    let at = 48 * i;
-    let registers = a.registers;
-    words::write32(bytes, at, a.in_use as u32);
-    words::write32(bytes, at + 4, a.id);
-    words::write32(bytes, at + 8, a.position as u32);
-    words::write32(bytes, at + 12, a.step as u32);
-    write_registers(bytes, at + 16, registers);
+    let first = 48 * slot;
+    let registers = agent.registers;
+    words::write32(bytes, first, agent.in_use as u32);
+    words::write32(bytes, first + 4, agent.id);
+    words::write32(bytes, first + 8, agent.position as u32);
+    words::write32(bytes, first + 12, agent.step as u32);
+    write_registers(bytes, first + 16, registers);
 }
 
 // Writes eight records, which are then read back as they were.
@@ -113,9 +113,9 @@ pub fn write_slots(bytes: &mut [u8], slots: [Agent; 8])
     ensures { λ _. ⌜ now (bytes .exit) ≡ withSlots (now (bytes .entry)) slots ⌝ }
     ensures { λ _. ⌜ slotsIn (now (bytes .exit)) ≡ slots ⌝ }
 {
-    let mut i = 0;
-    while i < 8 {
-        write_record(bytes, i, slots[i]);
-        i += 1;
+    let mut slot = 0;
+    while slot < 8 {
+        write_record(bytes, slot, slots[slot]);
+        slot += 1;
     }
 }

@@ -23,4 +23,4 @@ write-parts-spec =
     let second = between .before .before .before .before .before in
     let first = second .before .before .before .before .before in
     let s = first .before .before .before .before .before .args in
-    cc (low-parts (s .answer .now) (s .x) (s .y) (s .z) (s .u))))
+    cc (low-parts (s .answer .now) (s .first) (s .second) (s .third) (s .fourth))))

@@ -7,10 +7,10 @@ use Rattle.conformance.proofs.print_cases.Statement.{statement}
 use Rattle.conformance.proofs.print_cases.Tie as tie
 
 abbrev Inv-loop : tie.InvT-loop
-Inv-loop file buffer₀ at₀ number₀ buffer at number = (at ≤ length file) × (length buffer ≡ length buffer₀) × (number ≤ at)
+Inv-loop file buffer₀ passed₀ number₀ buffer passed number = (passed ≤ length file) × (length buffer ≡ length buffer₀) × (number ≤ passed)
 
 abbrev μ-loop : tie.MeasureT-loop
-μ-loop file buffer₀ at₀ number₀ buffer at number = length file - at
+μ-loop file buffer₀ passed₀ number₀ buffer passed number = length file - passed
 
 -- src/main.rt:26:5
 loop-holds : tie.Need-loop-holds Inv-loop μ-loop
@@ -41,8 +41,8 @@ returns : tie.Need-returns Inv-loop μ-loop
 returns c = search needs
 
 -- src/main.rt:31:9
-add-at : tie.Need-add-at Inv-loop μ-loop
-add-at c = search needs
+add-passed : tie.Need-add-passed Inv-loop μ-loop
+add-passed c = search needs
 
 -- src/main.rt:32:9
 add-number : tie.Need-add-number Inv-loop μ-loop
@@ -77,7 +77,7 @@ print-cases-spec =
     print-numbered-requires
     same-length
     returns
-    add-at
+    add-passed
     add-number
     loop-less
     loop-again

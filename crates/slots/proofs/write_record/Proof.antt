@@ -29,4 +29,4 @@ write-record-spec =
     let second = third .before .before .before .before .before in
     let first = second .before .before .before .before .before in
     let s = first .before .before .before .before .before .args in
-    cc (record-written (s .bytes .now) (48 * s .i) (s .a))))
+    cc (record-written (s .bytes .now) (48 * s .slot) (s .agent))))

@@ -11,10 +11,10 @@ use Rattle.slots.proofs.write_registers.Tie as tie
 
 -- the first i registers stand in their places
 abbrev Inv-loop : tie.InvT-loop
-Inv-loop bytes₀ at registers i₀ bytes i = (i ≤ 8) × (bytes ≡ puts 4 bytes₀ at registers i)
+Inv-loop bytes₀ first registers i₀ bytes i = (i ≤ 8) × (bytes ≡ puts 4 bytes₀ first registers i)
 
 abbrev μ-loop : tie.MeasureT-loop
-μ-loop bytes₀ at registers i₀ bytes i = 8 - i
+μ-loop bytes₀ first registers i₀ bytes i = 8 - i
 
 pub write-registers-spec : {M : Type 1} → statement M
 write-registers-spec =
@@ -30,13 +30,14 @@ write-registers-spec =
     (λ c κs.
     let l = c .before .before .loop in
     let s = c .before .before .before .before .args in
-    omega (arith, ap length (l .inv .1) ∙ length-puts 4 (s .bytes .now) (s .at) (s .t3) (l .i)))
+    omega (arith, ap length (l .inv .1) ∙ length-puts 4 (s .bytes .now) (s .first) (s .t3) (l .i)))
     (λ c. search needs)
     (λ c. search needs)
     (λ c.
     let l = c .before .before .before .before .before .loop in
     let s = c .before .before .before .before .before .before .before .args in
-    (search needs, cc (l .inv .1, c .before .before .write32 .ensures, puts-more 4 (s .bytes .now) (s .at) (s .t3) (l .i))))
+    (search needs, cc (l .inv .1, c .before .before .write32 .ensures, puts-more 4 (s .bytes .now) (s .first) (s .t3) (l .i))))
     (λ c. let s = c .before .before .before .args in
-    ap length (c .before .loop .inv .1) ∙ length-puts 4 (s .bytes .now) (s .at) (s .t3) (c .before .loop .i))
-    (λ c. let s = c .before .before .before .args in c .before .loop .inv .1 ∙ ap (puts 4 (s .bytes .now) (s .at) (s .t3)) (omega arith)))
+    ap length (c .before .loop .inv .1) ∙ length-puts 4 (s .bytes .now) (s .first) (s .t3) (c .before .loop .i))
+    (λ c. let s = c .before .before .before .args in
+    c .before .loop .inv .1 ∙ ap (puts 4 (s .bytes .now) (s .first) (s .t3)) (omega arith)))

@@ -30,15 +30,15 @@ write-slots-spec =
     (λ c κs.
     let l = c .before .before .before .loop in
     let s = c .before .before .before .before .before in
-    omega (arith, s .pre, ap length (l .inv .1) ∙ length-records (s .args .bytes .now) (s .args .t2) (l .i)))
+    omega (arith, s .pre, ap length (l .inv .1) ∙ length-records (s .args .bytes .now) (s .args .t2) (l .slot)))
     (λ c. search needs)
     (λ c. search needs)
     (λ c.
     let l = c .before .before .before .before .before .before .loop in
     let s = c .before .before .before .before .before .before .before .before .args in
-    (search needs, cc (l .inv .1, c .before .before .write-record .ensures, records-more (s .bytes .now) (s .t2) (l .i))))
+    (search needs, cc (l .inv .1, c .before .before .write-record .ensures, records-more (s .bytes .now) (s .t2) (l .slot))))
     (λ c. let s = c .before .before .before .args in
-    ap length (c .before .loop .inv .1) ∙ length-records (s .bytes .now) (s .t2) (c .before .loop .i))
+    ap length (c .before .loop .inv .1) ∙ length-records (s .bytes .now) (s .t2) (c .before .loop .slot))
     (λ c.
     let s = c .before .before .before in
     let e = c .before .loop .inv .1 ∙ ap (withRecords (s .args .bytes .now) (s .args .t2)) (omega arith) in (

@@ -19,13 +19,13 @@ print-rows-of-spec =
     let k = c .before .before .row-count in (
       omega (
         arith,
-        keys-within (e .args .s .now) (e .pre .0) (e .args .p) (e .pre .1) (k .result) (k .ensures .0),
+        keys-within (e .args .store .now) (e .pre .0) (e .args .partition) (e .pre .1) (k .result) (k .ensures .0),
         c .before .key-place .ensures,
       ),
       omega (
         arith,
         e .pre .0 .size,
-        before (capOf (e .args .s .now)) {p = e .args .p} {q = partsOf (e .args .s .now) + 1} (omega arith),
+        before (capOf (e .args .store .now)) {p = e .args .partition} {q = partsOf (e .args .store .now) + 1} (omega arith),
         c .value-place .ensures,
         k .ensures .0,
       ),
