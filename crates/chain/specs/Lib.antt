@@ -2,3 +2,4 @@ pub mod Chain
 pub mod Demands
 pub mod InOrder
 pub mod RequestZero
+pub mod Room

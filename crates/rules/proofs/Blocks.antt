@@ -14,11 +14,11 @@ use lib.Seq.{drop-cons, drop-drop}
 use Rattle.questions.specs.Basics.{if_then_else_}
 use Rattle.rules.specs.Instructions.{Code, Place, next, Instruction, BEGIN, RETURN, Act, moves, opens, closes, reads, puts, returns}
 use Rattle.rules.specs.Instructions.{act, actAt, instructionAt}
-use Rattle.rules.specs.Shapes.{outside, inside, shape}
+use Rattle.rules.specs.Shapes.{outside, inside, shape, GoesOn}
 use Rattle.rules.specs.Blocks.{Table, closing, isEnd, throughEnd, behindEnd, Work, Block, yields, close, within, runFrom, runBlock}
 use Rattle.rules.specs.Blocks.{Closed}
 use Rattle.rules.specs.Checked.{sideBehind, sideFrom, sideAt, Lands, GoesTo, Checked}
-use Rattle.rules.proofs.Shapes.{GoesOn, Agrees, agrees}
+use Rattle.rules.proofs.Shapes.{Agrees, agrees}
 use Rattle.rules.proofs.Positions.{side-drop, stays-inside, two-sides, own-side, same-side, begins-inside, block-closed}
 
 -- ── Enough is as good as more ──

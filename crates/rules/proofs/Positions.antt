@@ -10,14 +10,14 @@ use native.Mathlib.Omega.{arith}
 use lib.ListN.{length, drop, length-drop}
 use Rattle.rules.specs.Instructions.{Code, Place, Instruction, BEGIN, Act, moves, opens, closes, reads, puts, returns, act, actAt}
 use Rattle.rules.specs.Instructions.{instructionAt}
-use Rattle.rules.specs.Shapes.{Side, outside, inside, shape}
+use Rattle.rules.specs.Shapes.{Side, outside, inside, shape, GoesOn}
 use Rattle.rules.specs.Blocks.{closing, isEnd, throughEnd, behindEnd, afterBlock, Result, yields}
 use Rattle.rules.specs.Courses.{Course, going, passed, Next, goes, does, says, nextBy, nextOf}
 use Rattle.rules.specs.Store.{Request, Log}
 use Rattle.rules.specs.Logged.{start, at, byNext, follow}
 use Rattle.rules.specs.Checked.{sideBehind, sideFrom, sideAt, Lands, StandsOn, GoesTo, Checked}
 use Rattle.questions.proofs.Updates.{le-cases, false-true}
-use Rattle.rules.proofs.Shapes.{GoesOn, Agrees, agrees}
+use Rattle.rules.proofs.Shapes.{Agrees, agrees}
 use Rattle.rules.proofs.Follow.{behind-at, follow-before, follow-next}
 
 -- ── Sides ──

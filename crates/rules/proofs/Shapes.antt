@@ -8,12 +8,7 @@ use lib.Dec.{ltb, eqb}
 use Rattle.questions.specs.Basics.{if_then_else_}
 use Rattle.rules.specs.Instructions.{Place, register, goto, next, Instruction, SET, COPY, ADD, SUB, JLT, JEQ, BEGIN, END, GET, PUT}
 use Rattle.rules.specs.Instructions.{HAS, RETURN, Act, moves, opens, closes, reads, puts, returns, act}
-use Rattle.rules.specs.Shapes.{outside, inside, Shape, shape}
-
--- the next instruction is one of the same side
-pub record GoesOn (s : Shape) : Type 0 where
-  pub same-side : s .behind ≡ none
-  pub leads-on : s .leadsOn ≡ true
+use Rattle.rules.specs.Shapes.{outside, inside, Shape, shape, GoesOn}
 
 -- an instruction, and what it asks for at a place
 abbrev pub Agrees : Instruction → Place → Act → Type 0

@@ -10,3 +10,5 @@ pub mod Plain
 pub mod Demand3
 pub mod RequestZero
 pub mod NeverWritten
+pub mod Routes
+pub mod Room

@@ -1,6 +1,7 @@
 -- The shape of each instruction, in one table: where it stands, what begins behind it, where it leads.
 use mathlib.Core.Bool.{Bool, true, false}
 use mathlib.Core.Option.{Option, none, some}
+use mathlib.Core.Path.{_≡_}
 use Prim.Native.Nat.{ℕ}
 use Rattle.rules.specs.Instructions.{Instruction, SET, COPY, ADD, SUB, JLT, JEQ, BEGIN, END, GET, PUT, HAS, RETURN}
 
@@ -48,3 +49,8 @@ shape (GET d s) = only inside
 shape (PUT d s) = only inside
 shape (HAS d s) = only inside
 shape (RETURN d) = final outside
+
+-- behind it comes the next instruction, on the same side: it is neither BEGIN, END nor RETURN
+pub record GoesOn (s : Shape) : Type 0 where
+  pub same-side : s .behind ≡ none
+  pub leads-on : s .leadsOn ≡ true
