@@ -61,7 +61,7 @@ module _ (code : Code) (checked : Checked code) where
 -- ── A block comes to its END ──
 
 -- up to the first END all stand inside
-inside-through : (rest : Code) (j : ℕ) → j < throughEnd rest → sideFrom inside rest j ≡ inside
+pub inside-through : (rest : Code) (j : ℕ) → j < throughEnd rest → sideFrom inside rest j ≡ inside
 inside-through [] j h = absurd (not-suc-le-zero h)
 inside-through (x ∷ rest) zero h = refl
 inside-through (x ∷ rest) (suc j) h = go (stays-inside x) (inside-through rest j)
@@ -72,7 +72,7 @@ inside-through (x ∷ rest) (suc j) h = go (stays-inside x) (inside-through rest
     go (inr i) rec = let h′ = rw (i .0) at h in ap (λ w. sideFrom w rest j) (i .1) ∙ rec (omega arith)
 
 -- from any of them on, the first END is the same
-through-from : (rest : Code) (k : ℕ) → k < throughEnd rest → throughEnd rest ≡ k + throughEnd (drop k rest)
+pub through-from : (rest : Code) (k : ℕ) → k < throughEnd rest → throughEnd rest ≡ k + throughEnd (drop k rest)
 through-from [] k h = absurd (not-suc-le-zero h)
 through-from (x ∷ rest) zero h = sym (zero-add (throughEnd (x ∷ rest)))
 through-from (x ∷ rest) (suc k) h = go (isEnd x) h (through-from rest k)

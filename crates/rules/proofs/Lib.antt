@@ -11,6 +11,7 @@ pub mod ByFeed
 pub mod Calls
 pub mod Logged
 pub mod Blocks
+pub mod Routes
 pub mod Theorem
 pub mod RequestZero
 pub mod ByLog
