@@ -18,7 +18,7 @@ use Rattle.rules.specs.Instructions.{instructionAt}
 use Rattle.rules.specs.Shapes.{Side, outside, inside, Shape, shape, GoesOn}
 use Rattle.rules.specs.Blocks.{closing, isEnd, throughEnd, behindEnd}
 use Rattle.rules.specs.Checked.{sideFrom, sideAt, Lands, Jumps, GoesTo, Checked}
-use Rattle.rules.specs.Routes.{Way, Route, putsOf, putsOn, Counting, byTurns, byRows, countOn, Most, MostOf}
+use Rattle.rules.specs.Routes.{Way, Route, putsOf, putsOn, Counting, byTurns, byRows, countOn, Most, MostFrom, MostOf}
 use Rattle.rules.proofs.Positions.{side-drop, own-side, same-side, begins-inside, block-closed}
 use Rattle.rules.proofs.Blocks.{inside-through, through-from}
 
@@ -319,11 +319,6 @@ module _ (code : Code) where
 
 -- ── In a checked workflow ──
 
--- the most from an index on: outside blocks by the counting, inside a block the PUTs to its END
-abbrev pub MostOn : Counting → Code → Side → (index n : ℕ) → Type 0
-MostOn c code outside i n = Counts code c i n
-MostOn c code inside i n = Puts code i n
-
 -- what an instruction that leads on adds, on its side
 abbrev pub own : Counting → Side → Instruction → ℕ
 own c outside x = c .one
@@ -355,13 +350,13 @@ module _ (code : Code) (checked : Checked code) where
 
   module _ (c : Counting) where
     abbrev pub Best : (i n : ℕ) → Type 0
-    Best i n = MostOn c code (sideAt code i) i n
+    Best i n = MostFrom c code (sideAt code i) i n
 
-    on-side : (i : ℕ) (side : Side) (n : ℕ) → sideAt code i ≡ side → MostOn c code side i n → Best i n
-    on-side i side n e m = subst (λ w. MostOn c code w i n) (sym e) m
+    on-side : (i : ℕ) (side : Side) (n : ℕ) → sideAt code i ≡ side → MostFrom c code side i n → Best i n
+    on-side i side n e m = subst (λ w. MostFrom c code w i n) (sym e) m
 
-    at-side : (i : ℕ) (side : Side) (n : ℕ) → sideAt code i ≡ side → Best i n → MostOn c code side i n
-    at-side i side n e m = subst (λ w. MostOn c code w i n) e m
+    at-side : (i : ℕ) (side : Side) (n : ℕ) → sideAt code i ≡ side → Best i n → MostFrom c code side i n
+    at-side i side n e m = subst (λ w. MostFrom c code w i n) e m
 
     pub best-return : (i d : ℕ) → i < length code → X code i ≡ RETURN d → Best i (c .one)
     best-return i d h e =
@@ -489,7 +484,7 @@ module _ (code : Code) (checked : Checked code) where
   pub best-within : (c : Counting) → Small c → (i n : ℕ) → i < length code → Best c i n → i + n ≤ length code
   best-within c small i n h m = go (sideAt code i) refl m
     where
-      go : (side : Side) → sideAt code i ≡ side → MostOn c code side i n → i + n ≤ length code
+      go : (side : Side) → sideAt code i ≡ side → MostFrom c code side i n → i + n ≤ length code
       go outside e m = omega (arith, route-within c small i h e (m .one), m .reaches)
       go inside e m =
           omega (arith, way-within i h e (m .one), m .reaches, length-drop i code, through-length (drop i code))

@@ -6,7 +6,7 @@ use lib.Dec.{eqb}
 use Rattle.questions.specs.Basics.{if_then_else_}
 use Rattle.rules.specs.Instructions.{Code, Instruction, SET, COPY, ADD, SUB, JLT, JEQ, BEGIN, END, GET, PUT, HAS, RETURN}
 use Rattle.rules.specs.Instructions.{instructionAt}
-use Rattle.rules.specs.Shapes.{Shape, shape, GoesOn}
+use Rattle.rules.specs.Shapes.{Side, outside, inside, shape, GoesOn}
 use Rattle.rules.specs.Blocks.{behindEnd}
 
 -- ── Routes ──
@@ -74,6 +74,11 @@ pub record Most {A : Type 0} (count : A → ℕ) (n : ℕ) : Type 0 where
   pub one : A
   pub reaches : count one ≡ n
   pub none-exceeds : (a : A) → count a ≤ n
+
+-- the most from an index on: outside blocks of what is counted on a route, inside a block of the PUTs on a way to its END
+abbrev pub MostFrom : Counting → Code → Side → (index n : ℕ) → Type 0
+MostFrom c code outside i n = Most (countOn c code i) n
+MostFrom c code inside i n = Most (putsOn code i) n
 
 -- the most over all routes through a workflow
 abbrev pub MostOf : Counting → Code → ℕ → Type 0
