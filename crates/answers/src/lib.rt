@@ -103,6 +103,15 @@ pub fn write_parts(answer: &mut [u8], first: usize, second: usize, third: usize,
     words::write32(answer, 24, low(fourth));
 }
 
+// Writes the figures of a workflow, nine words, behind the three of an answer.
+pub fn write_figures(answer: &mut [u8], turns: u32, rows: [u32; 8])
+    requires { ⌜ 48 ≤ length (now answer) ⌝ }
+    ensures { λ _. ⌜ now (answer .exit) ≡ puts 4 (now (answer .entry)) 12 (turns ∷ rows) 9 ⌝ }
+{
+    words::write32(answer, 12, turns);
+    slots::write_eight(answer, 16, rows);
+}
+
 // Questions alone, as an answer.
 pub fn judge(v: Verdict) -> Answer
     ensures { λ r. ⌜ ((o : Option No) → v ≡ verdictOf o → answerOf r ≡ judged o) ⌝ }

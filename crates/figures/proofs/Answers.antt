@@ -44,11 +44,13 @@ module _ (pack : List ℕ) (w : ℕ) (e : openRefusal pack w ≡ none) where
       }))
 
   pub answered : (ops ws : List ℕ) → ops ≡ operationsOf pack w → ws ≡ operandsOf pack w → (r : Figured) → r .verdict ≡ verdictOf none →
-      MostOf byTurns (codeOf ops ws) (r .turns) → ((p : ℕ) → p < 8 → MostOf (byRows p) (codeOf ops ws) (getD (r .rows) p 0)) →
+      length (r .rows) ≡ 8 → MostOf byTurns (codeOf ops ws) (r .turns) →
+      ((p : ℕ) → p < 8 → MostOf (byRows p) (codeOf ops ws) (getD (r .rows) p 0)) →
       Answered pack w r
-  answered ops ws o p r v turns rows =
+  answered ops ws o p r v eight turns rows =
       record {
         verdict = v ∙ ap verdictOf (sym e);
+        eight = eight;
         figures =
             λ _.
             subst (λ (c : Code). Figures c (r .turns) (λ q. getD (r .rows) q 0)) (sym is)
@@ -63,7 +65,7 @@ module _ (pack : List ℕ) (w : ℕ) (e : openRefusal pack w ≡ none) where
 pub refused : (pack : List ℕ) (w : ℕ) (v : Verdict) (q w′ i : ℕ) → v ≡ verdictOf (openRefusal pack w) → v ≡ Refused q w′ i →
     Answered pack w (record { verdict = v; turns = 0; rows = replicate 8 0 })
 refused pack w v q w′ i e r =
-    record { verdict = e; figures = λ f. absurd (clash f); none-given = λ n f. (refl, refl) }
+    record { verdict = e; eight = refl; figures = λ f. absurd (clash f); none-given = λ n f. (refl, refl) }
   where
     clash : openRefusal pack w ≡ none → ⊥
     clash f = let g : verdictOf none ≡ Refused q w′ i = sym (ap verdictOf f) ∙ sym e ∙ r in let z : _≡_ {A = ℕ} 0 1 = cc in omega arith

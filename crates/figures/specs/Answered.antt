@@ -3,7 +3,7 @@ use mathlib.Core.List.{List, []}
 use mathlib.Core.Option.{none, some}
 use mathlib.Core.Path.{_≡_}
 use Prim.Native.Nat.{ℕ}
-use lib.ListN.{getD, replicate}
+use lib.ListN.{length, getD, replicate}
 use Rattle.questions.specs.Questions.{No}
 use Rattle.questions.specs.Verdicts.{verdictOf}
 use Rattle.rules.specs.Routes.{Figures}
@@ -15,6 +15,7 @@ use Rattle.figures.specs.declared.Figured.{Figured}
 -- and no figures: zeros.
 pub record Answered (pack : List ℕ) (workflow : ℕ) (r : Figured) : Type 0 where
   pub verdict : r .verdict ≡ verdictOf (openRefusal pack workflow)
+  pub eight : length (r .rows) ≡ 8
   pub figures : openRefusal pack workflow ≡ none →
       Figures (getD (packOf pack) workflow []) (r .turns) (λ partition. getD (r .rows) partition 0)
   pub none-given : (n : No) → openRefusal pack workflow ≡ some n → (r .turns ≡ 0) × (r .rows ≡ replicate 8 0)

@@ -200,6 +200,7 @@ fn most_of(ops: &[u8], operands: &[u8], by: Counted) -> u32
 // The most rows of each partition.
 fn most_rows(ops: &[u8], operands: &[u8]) -> [u32; 8]
     requires { ⌜ Sized (now ops) (now operands) ⌝ }
+    ensures { λ r. ⌜ length r ≡ 8 ⌝ }
     ensures { λ r. ⌜ ((p : ℕ) → p < 8 → MostOf (byRows p) (codeOf (now (ops .entry)) (now (operands .entry))) (getD r p 0)) ⌝ }
 {
     let mut rows = [0u32; 8];

@@ -3,9 +3,10 @@ use mathlib.Core.List.{List, [], _∷_, _++_}
 use mathlib.Core.Option.{Option, none, some, Option·getD}
 use mathlib.Core.Path.{_≡_, refl, sym, _∙_, ap, subst}
 use Prim.Native.Nat.{ℕ, zero, suc, _+_, _*_, _^_, _≤_, _<_}
+use native.Mathlib.Decide.{decLt}
 use native.Mathlib.Omega.{arith}
 use borrow.Author.Tests.{le-leb, lt-leb}
-use lib.ListN.{length, getD}
+use lib.ListN.{length, getD, replicate, getD-replicate, length-append, List·getD-eq-default}
 use Rattle.questions.specs.Questions.{No, Placed}
 use Rattle.questions.proofs.Every.{Every}
 use Rattle.rules.specs.Blocks.{yields}
@@ -18,6 +19,15 @@ use Rattle.pack.proofs.Sizes.{operations-within, operands-within}
 use Rattle.pack.proofs.Workflows.{open-laid, open-below}
 use Rattle.meaning.proofs.Placed.{create-placed}
 use Rattle.pack.specs.Refusal.{openRefusal}
+use Rattle.questions.proofs.Questions.{orElse-none}
+use Rattle.rules.specs.Routes.{Counting, byTurns, byRows, MostOf}
+use Rattle.rules.proofs.Routes.{turns-small, rows-small, most-within}
+use Rattle.rules.proofs.Routes as Routes
+use Rattle.pack.specs.Meaning.{packOf}
+use Rattle.pack.proofs.Laws.{length-pack, length-workflow, accepted-checked}
+use Rattle.figures.specs.declared.Figured.{Figured}
+use Rattle.figures.specs.Answered.{Answered}
+use Rattle.words.specs.Words.{fields}
 use Rattle.slots.specs.Records.{puts}
 use Rattle.slots.specs.Records as Records
 use Rattle.slots.proofs.Words.{fields-puts}
@@ -25,7 +35,7 @@ use Rattle.store.specs.Questions.{createRefusal}
 use Rattle.store.specs.Created.{Created}
 use Rattle.answers.specs.Answers.{numberOf, valuesOf, withWords, judged}
 use Rattle.answers.specs.Answers as Answers
-use Rattle.host.specs.Told.{openedParts, openedWords, answerShort, Told, Made}
+use Rattle.host.specs.Told.{openedParts, openedWords, answerShort, Told, FiguresTold, Made}
 
 -- numbers that may be missing
 pub same : {m n : ℕ} → some m ≡ some n → m ≡ n
@@ -163,6 +173,103 @@ told-open answer pack w o b number between ws answer′ h q e t p r =
         puts 4 (withWords answer (valuesOf b)) 12 (openedParts pack w o) 4 ≡ withWords answer (valuesOf b ++ openedParts pack w o)
     four none = unfold openedParts in seven-words answer b (operationsAt pack w) (sizeOf pack w) (operandsAt pack w) (4 * sizeOf pack w)
     four (some n) = unfold openedParts in seven-words answer b 0 0 0 0
+
+-- ── figures ──
+
+-- the nine words of the figures behind the three of the answer
+twelve-words : (answer : List ℕ) (a : Answer) (turns : ℕ) (rows : List ℕ) → length rows ≡ 8
+    → puts 4 (withWords answer (valuesOf a)) 12 (turns ∷ rows) 9 ≡ withWords answer (valuesOf a ++ turns ∷ rows)
+unfolding Records.puts Answers.valuesOf
+twelve-words answer done turns rows e = rw e refl
+twelve-words answer moved turns rows e = rw e refl
+twelve-words answer (reply id (yields value)) turns rows e = rw e refl
+twelve-words answer (refused n) turns rows e = rw e refl
+
+-- each has 32 bits: no figure is above 256
+module _ (pack : List ℕ) (w : ℕ) (r : Figured) (a : Answered pack w r) where
+  few : openRefusal pack w ≡ none → (c : Counting) → Routes.Small c → (n : ℕ) → MostOf c (getD (packOf pack) w []) n → n ≤ 256
+  unfolding openRefusal
+  few e c s n m =
+      let p = orElse-none _ _ e .0 in
+      let b = open-below pack w e in
+      let k = accepted-checked pack p w (omega (arith, length-pack pack, b)) in
+      omega (arith, most-within _ k c s n m, length-workflow pack p w b, open-laid pack w e .sizes w b .1)
+
+  nine-small : Small (r .turns ∷ r .rows)
+  nine-small = go (openRefusal pack w) refl
+    where
+      past : (j : ℕ) → 8 ≤ j → getD (r .rows) j 0 < 256 ^ 4
+      past j l = omega (arith, List·getD-eq-default (r .rows) 0 {n = j} (omega (arith, a .eight)))
+
+      zeros : (j : ℕ) → r .rows ≡ replicate 8 0 → getD (r .rows) j 0 < 256 ^ 4
+      zeros j e = within (decLt j 8)
+        where
+          within : Dec (j < 8) → getD (r .rows) j 0 < 256 ^ 4
+          within (yes l) = omega (arith, ap (λ l. getD l j 0) e, getD-replicate {A = ℕ} 8 j 0 0 l)
+          within (no l) = past j (omega arith)
+
+      go : (o : Option No) → openRefusal pack w ≡ o → Small (r .turns ∷ r .rows)
+      go none e zero = let n = few e byTurns turns-small (r .turns) (a .figures e .of-turns) in omega arith
+      go none e (suc j) = within (decLt j 8)
+        where
+          within : Dec (j < 8) → getD (r .rows) j 0 < 256 ^ 4
+          within (yes l) = let n = few e (byRows j) (rows-small j) (getD (r .rows) j 0) (a .figures e .of-rows j l) in omega arith
+          within (no l) = past j (omega arith)
+      go (some n) e zero = omega (arith, a .none-given n e .0)
+      go (some n) e (suc j) = zeros j (a .none-given n e .1)
+
+-- figures, refused for its answer buffer
+pub figures-short : (pack answer : List ℕ) (w : ℕ) → length answer < 48 → FiguresTold pack answer w 100 answer
+unfolding answerShort
+figures-short pack answer w h =
+    let e : answerShort 48 answer ≡ some 100 = rw (lt-leb 48 (length answer) h) refl in
+    record { short = λ n q. (same (sym e ∙ q), refl); told = λ q. absurd (missing (sym q ∙ e)) }
+
+-- figures: the answer b was written, and then the nine words
+pub told-figures : (answer pack : List ℕ) (w : ℕ) (r : Figured) (b : Answer) (number : ℕ) (between answer′ : List ℕ) →
+    48 ≤ length answer → Answered pack w r → b ≡ judged (openRefusal pack w) →
+    (number ≡ numberOf b) × (between ≡ withWords answer (valuesOf b)) → answer′ ≡ puts 4 between 12 (r .turns ∷ r .rows) 9 →
+    FiguresTold pack answer w number answer′
+told-figures answer pack w r b number between answer′ h a e t q =
+    record {
+      short = told-all 48 answer (judged o) words number answer′ h long whole given written .short;
+      told =
+          λ s.
+          let t = told-all 48 answer (judged o) words number answer′ h long whole given written .told s in
+          record {
+            turns = r .turns;
+            rows = r .rows;
+            eight = a .eight;
+            given = given;
+            words = written;
+            read = ap (fields 4 answer′ 0) (sym twelve) ∙ t .2;
+            figures = a .figures;
+            none-given = a .none-given;
+          };
+    }
+  where
+    o : Option No
+    o = openRefusal pack w
+
+    words : List ℕ
+    words = valuesOf (judged o) ++ r .turns ∷ r .rows
+
+    twelve : length words ≡ 12
+    twelve = length-append (valuesOf (judged o)) (r .turns ∷ r .rows) ∙ omega (arith, three-words o, a .eight)
+
+    long : 0 + length words * 4 ≤ 48
+    long = omega (arith, twelve)
+
+    whole : Small words
+    whole = append-small (valuesOf (judged o)) (r .turns ∷ r .rows) (judged-small o (open-placed pack w)) (nine-small pack w r a)
+
+    given : number ≡ numberOf (judged o)
+    given = t .0 ∙ ap numberOf e
+
+    written : answer′ ≡ withWords answer words
+    written =
+        q ∙ ap (λ l. puts 4 l 12 (r .turns ∷ r .rows) 9) (t .1 ∙ ap (λ x. withWords answer (valuesOf x)) e)
+        ∙ twelve-words answer (judged o) (r .turns) (r .rows) (a .eight)
 
 -- create, refused for its answer buffer
 pub made-short : (store answer : List ℕ) (P C : ℕ) → length answer < 12 → Made store answer P C 100 store answer

@@ -1,16 +1,18 @@
--- What the exports promise that put questions and change no slot: check, open, create.
+-- What the exports promise that put questions and change no slot: check, open, figures, create.
 use mathlib.Core.List.{List, [], _∷_, _++_}
 use mathlib.Core.Option.{Option, none, some}
 use mathlib.Core.Path.{_≡_}
 use Prim.Native.Nat.{ℕ, _*_}
 use lib.Dec.{leb}
-use lib.ListN.{length}
+use lib.ListN.{length, getD, replicate}
 use Rattle.words.specs.Words.{fields}
 use Rattle.questions.specs.Basics.{if_then_else_}
 use Rattle.questions.specs.Questions.{No}
 use Rattle.questions.specs.Verdicts.{verdictOf}
 use Rattle.rules.specs.Calls.{Answer}
+use Rattle.rules.specs.Routes.{Figures}
 use Rattle.pack.specs.Layout.{sizeOf, operationsAt, operandsAt}
+use Rattle.pack.specs.Meaning.{packOf}
 use Rattle.pack.specs.Refusal.{openRefusal}
 use Rattle.store.specs.Questions.{createRefusal}
 use Rattle.store.specs.Created.{Created}
@@ -34,6 +36,23 @@ pub record Told (need : ℕ) (answer : List ℕ) (a : Answer) (words : List ℕ)
   pub short : (n : ℕ) → answerShort need answer ≡ some n → (number ≡ n) × (answer′ ≡ answer)
   pub told : answerShort need answer ≡ none →
       (number ≡ numberOf a) × (answer′ ≡ withWords answer words) × (fields 4 answer′ 0 (length words) ≡ words)
+
+-- W-202, the figures of a workflow: twelve words, none of them cut. The three of the answer; then the most turns, and the most rows of
+-- partition 0 to 7. Refused, there are none: zeros.
+pub record FiguresGiven (pack answer : List ℕ) (workflow number : ℕ) (answer′ : List ℕ) : Type 0 where
+  pub turns : ℕ
+  pub rows : List ℕ
+  pub eight : length rows ≡ 8
+  pub given : number ≡ numberOf (judged (openRefusal pack workflow))
+  pub words : answer′ ≡ withWords answer (valuesOf (judged (openRefusal pack workflow)) ++ turns ∷ rows)
+  pub read : fields 4 answer′ 0 12 ≡ valuesOf (judged (openRefusal pack workflow)) ++ turns ∷ rows
+  pub figures : openRefusal pack workflow ≡ none → Figures (getD (packOf pack) workflow []) turns (λ partition. getD rows partition 0)
+  pub none-given : (n : No) → openRefusal pack workflow ≡ some n → (turns ≡ 0) × (rows ≡ replicate 8 0)
+
+-- The answer buffer is too short for them, and nothing is written; or they are given.
+pub record FiguresTold (pack answer : List ℕ) (workflow number : ℕ) (answer′ : List ℕ) : Type 0 where
+  pub short : (n : ℕ) → answerShort 48 answer ≡ some n → (number ≡ n) × (answer′ ≡ answer)
+  pub told : answerShort 48 answer ≡ none → FiguresGiven pack answer workflow number answer′
 
 -- Create: what is told, and what the store's bytes become.
 pub record Made (store answer : List ℕ) (P C number : ℕ) (store′ answer′ : List ℕ) : Type 0 where

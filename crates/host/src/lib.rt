@@ -4,7 +4,7 @@ ghost use Prim.Native.Nat.{ℕ};
 ghost use Rattle.rules.specs.Calls.{Call};
 ghost use Rattle.pack.specs.Refusal.{packRefusal, openRefusal};
 ghost use Rattle.answers.specs.Answers.{valuesOf, judged};
-ghost use Rattle.host.specs.Told.{openedWords, Told, Made};
+ghost use Rattle.host.specs.Told.{openedWords, Told, FiguresTold, Made};
 ghost use Rattle.host.specs.Exports.{Exported, PutInOrder};
 use agents::Request;
 use questions::Verdict;
@@ -54,6 +54,22 @@ pub extern "C" fn sarthule_open(pack: &[u8], workflow: u32, answer: &mut [u8]) -
             number
         }
     }
+}
+
+// How much a workflow takes: its most turns, and its most rows in each partition.
+#[no_mangle]
+pub extern "C" fn sarthule_figures(pack: &[u8], workflow: u32, answer: &mut [u8]) -> u32
+    ensures { λ r. ⌜ FiguresTold (now (pack .entry)) (now (answer .entry)) workflow r (now (answer .exit)) ⌝ }
+{
+    if answer.len() < 48 {
+        return 100;
+    }
+    let f = figures::figures(pack, workflow);
+    let verdict = f.verdict;
+    let rows = f.rows;
+    let number = answers::write_answer(answer, answers::judge(verdict));
+    answers::write_figures(answer, f.turns, rows);
+    number
 }
 
 // Writes a fresh store.

@@ -82,13 +82,13 @@ pub fn read_slots(bytes: &[u8]) -> [Agent; 8]
 }
 
 // Writes eight words from byte `first` on.
-fn write_registers(bytes: &mut [u8], first: usize, registers: [u32; 8])
+pub fn write_eight(bytes: &mut [u8], first: usize, eight: [u32; 8])
     requires { ⌜ first + 32 ≤ length (now bytes) ⌝ }
-    ensures { λ _. ⌜ now (bytes .exit) ≡ puts 4 (now (bytes .entry)) first registers 8 ⌝ }
+    ensures { λ _. ⌜ now (bytes .exit) ≡ puts 4 (now (bytes .entry)) first eight 8 ⌝ }
 {
     let mut i = 0;
     while i < 8 {
-        words::write32(bytes, first + i * 4, registers[i]);
+        words::write32(bytes, first + i * 4, eight[i]);
         i += 1;
     }
 }
@@ -104,7 +104,7 @@ fn write_record(bytes: &mut [u8], slot: usize, agent: Agent)
     words::write32(bytes, first + 4, agent.id);
     words::write32(bytes, first + 8, agent.position as u32);
     words::write32(bytes, first + 12, agent.step as u32);
-    write_registers(bytes, first + 16, registers);
+    write_eight(bytes, first + 16, registers);
 }
 
 // Writes eight records, which are then read back as they were.

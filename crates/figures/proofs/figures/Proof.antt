@@ -30,5 +30,5 @@ figures-spec =
     let p = c .before .before in
     let t = p .before .before in
     answered _ _ (opens t) _ _ (p .before .operations-part .ensures) (p .operands-part .ensures) _ (t .enum-told .given .1)
-    (c .before .most-of .ensures) (c .most-rows .ensures))
+    (c .most-rows .ensures .0) (c .before .most-of .ensures) (c .most-rows .ensures .1))
     (λ c. refused _ _ _ _ _ _ (c .before .before .«open» .ensures) (c .enum-told2 .given .1)))

@@ -1,4 +1,4 @@
--- `slots::write_registers` meets its contract.
+-- `slots::write_eight` meets its contract.
 use borrow.Author.Needs.{needs}
 use mathlib.Core.Path.{_≡_, refl, ap, _∙_}
 use native.Mathlib.Omega.{arith}
@@ -6,18 +6,18 @@ use Prim.Native.Nat.{_-_, _≤_}
 use lib.ListN.{length}
 use Rattle.slots.specs.Records.{puts}
 use Rattle.slots.proofs.Words.{length-puts, puts-more}
-use Rattle.slots.proofs.write_registers.Statement.{statement}
-use Rattle.slots.proofs.write_registers.Tie as tie
+use Rattle.slots.proofs.write_eight.Statement.{statement}
+use Rattle.slots.proofs.write_eight.Tie as tie
 
--- the first i registers stand in their places
+-- the first i words stand in their places
 abbrev Inv-loop : tie.InvT-loop
-Inv-loop bytes₀ first registers i₀ bytes i = (i ≤ 8) × (bytes ≡ puts 4 bytes₀ first registers i)
+Inv-loop bytes₀ first eight i₀ bytes i = (i ≤ 8) × (bytes ≡ puts 4 bytes₀ first eight i)
 
 abbrev μ-loop : tie.MeasureT-loop
-μ-loop bytes₀ first registers i₀ bytes i = 8 - i
+μ-loop bytes₀ first eight i₀ bytes i = 8 - i
 
-pub write-registers-spec : {M : Type 1} → statement M
-write-registers-spec =
+pub write-eight-spec : {M : Type 1} → statement M
+write-eight-spec =
     tie.close
     (tie.spec
     Inv-loop
