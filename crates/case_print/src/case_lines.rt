@@ -64,18 +64,28 @@ pub fn used_line(out: &mut [u8], partition: u64, count: u64) -> usize
     text::append_byte(out, c, b'\n')
 }
 
-// The twelve words of a record, each behind a blank.
-fn append_words(out: &mut [u8], written: usize, agent: &[u8]) -> usize
-    requires { ⌜ (written + 252 ≤ length (now out)) × (48 ≤ length (now agent)) ⌝ }
-    ensures { λ r. ⌜ r ≤ written + 252 ⌝ }
+// So many words, each behind a blank.
+fn append_words(out: &mut [u8], written: usize, bytes: &[u8], count: usize) -> usize
+    requires { ⌜ (count ≤ 12) × (written + 21 * count ≤ length (now out)) × (4 * count ≤ length (now bytes)) ⌝ }
+    ensures { λ r. ⌜ r ≤ written + 21 * count ⌝ }
 {
     let mut reached = written;
     let mut i = 0;
-    while i < 12 {
-        reached = lines::append_field(out, reached, words::read32(agent, 4 * i) as u64);
+    while i < count {
+        reached = lines::append_field(out, reached, words::read32(bytes, 4 * i) as u64);
         i += 1;
     }
     reached
+}
+
+// answer figures TURNS R0 .. R7
+pub fn figures_line(out: &mut [u8], figures: &[u8]) -> usize
+    requires { ⌜ (204 ≤ length (now out)) × (36 ≤ length (now figures)) ⌝ }
+    ensures { λ r. ⌜ r ≤ 204 ⌝ }
+{
+    let a = text::append_bytes(out, 0, b"answer figures");
+    let b = append_words(out, a, figures, 9);
+    text::append_byte(out, b, b'\n')
 }
 
 // agent SLOT IN_USE ID POSITION STEP R0 .. R7
@@ -85,7 +95,7 @@ pub fn agent_line(out: &mut [u8], slot: u64, agent: &[u8]) -> usize
 {
     let a = text::append_bytes(out, 0, b"agent");
     let b = lines::append_field(out, a, slot);
-    let c = append_words(out, b, agent);
+    let c = append_words(out, b, agent, 12);
     text::append_byte(out, c, b'\n')
 }
 

@@ -29,6 +29,15 @@ pub fn print_answer(answer: Answer) {
     write_line(&line, written);
 }
 
+// answer figures TURNS R0 .. R7
+pub fn print_figures(figures: &[u8])
+    requires { ⌜ 36 ≤ length (now figures) ⌝ }
+{
+    let mut line = [0u8; 204];
+    let written = case_lines::figures_line(&mut line, figures);
+    write_line(&line, written);
+}
+
 fn print_used(partition: usize, count: usize) {
     let mut line = [0u8; 64];
     let written = case_lines::used_line(&mut line, partition as u64, count as u64);

@@ -36,12 +36,20 @@ pub fn has_parts(c: &[u8]) -> bool
     true
 }
 
-// Is a byte that of a call, 0 to 7 or 9?
+// Is a byte that of a call, 0 to 9?
 fn is_call(byte: u8) -> bool {
-    if byte < 8 {
-        return true;
+    byte <= 9
+}
+
+// Is it that of one of the six calls on a store, 3 to 7 and 9? Check, open, create and figures, which are 0 to 2 and 8, are no such calls.
+fn is_on_store(byte: u8) -> bool {
+    if byte < 3 {
+        return false;
     }
-    byte == 9
+    if byte == 8 {
+        return false;
+    }
+    is_call(byte)
 }
 
 // Is the rest of a call there, and its call byte in range? The records' words may be any: some make no record, which 14 is asked about.
@@ -78,14 +86,11 @@ pub fn wide(byte: u8) -> usize
     byte as usize
 }
 
-// Is each call byte, the first of 29, that of one of the six calls on a store, 3 to 7 and 9?
+// Is each call byte, the first of 29, that of a call on a store?
 fn calls_right(calls: &[u8]) -> bool {
     let mut call_at = 0;
     while call_at < calls.len() {
-        if calls[call_at] < 3 {
-            return false;
-        }
-        if !is_call(calls[call_at]) {
+        if !is_on_store(calls[call_at]) {
             return false;
         }
         if calls.len() - call_at < 29 {

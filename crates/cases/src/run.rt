@@ -40,7 +40,18 @@ fn print_after(store: &[u8], records: &[u8], with_state: bool)
     print::print_bytes(store);
 }
 
-// The answer of a call, and what goes with it.
+// The figures of a workflow, or the refusal, as a host is told them.
+fn print_figures(pack: &[u8], workflow: u32) {
+    let mut answer = [0u8; 48];
+    let number = host::sarthule_figures(pack, workflow, &mut answer);
+    if number == 0 {
+        print::print_figures(&answer[12..48]);
+        return;
+    }
+    print::print_answer(answers::read_answer(number, &answer));
+}
+
+// The answer of a call, and what goes with it. Figures (8) are all that is printed of theirs.
 fn print_outcome(
     pack: &[u8],
     store: &mut [u8],
@@ -51,6 +62,10 @@ fn print_outcome(
 )
     requires { ⌜ length (now records) ≡ 384 ⌝ }
 {
+    if call == 8 {
+        print_figures(pack, words[0]);
+        return;
+    }
     print::print_answer(call::make_call(pack, store, records, call, words));
     print_left(pack, store, records, call, words, with_state);
 }

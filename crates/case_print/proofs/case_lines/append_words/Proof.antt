@@ -7,10 +7,10 @@ use Rattle.case_print.proofs.case_lines.append_words.Statement.{stateme
 use Rattle.case_print.proofs.case_lines.append_words.Tie as tie
 
 abbrev Inv-loop : tie.InvT-loop
-Inv-loop out₀ n agent at₀ i₀ out at i = (i ≤ 12) × (length out ≡ length out₀) × (at ≤ n + 21 * i)
+Inv-loop out₀ n bytes count at₀ i₀ out at i = (i ≤ count) × (length out ≡ length out₀) × (at ≤ n + 21 * i)
 
 abbrev μ-loop : tie.MeasureT-loop
-μ-loop out₀ n agent at₀ i₀ out at i = 12 - i
+μ-loop out₀ n bytes count at₀ i₀ out at i = count - i
 
 pub append-words-spec : {M : Type 1} → statement M
 append-words-spec =
