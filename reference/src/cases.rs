@@ -6,6 +6,7 @@ use std::fmt::Write;
 use crate::agents::{Agent, Slots, ALL_EMPTY};
 use crate::bytes::{hex, Reader};
 use crate::calls::{Answer, Call, Outcome};
+use crate::figures::{figures, Figures};
 use crate::pack::{self, Workflow};
 use crate::refusal::Refusal;
 use crate::schedule;
@@ -16,6 +17,7 @@ use crate::store::{self, Request, Store};
 pub enum Order {
     Check,
     Open { workflow: u32 },
+    Figures { workflow: u32 },
     Create { partitions: u32, rows: u32 },
     Call(Call),
 }
@@ -71,6 +73,7 @@ impl Order {
             5 => Self::Call(Call::Turn { slot: first }),
             6 => Self::Call(Call::Crash { slot: first }),
             7 => Self::Call(Call::Restart),
+            8 => Self::Figures { workflow: first },
             9 => Self::Call(Call::PutInOrder),
             _ => return None,
         })
@@ -90,6 +93,7 @@ impl Order {
             Self::Call(Call::Turn { slot }) => (5, [slot, 0, 0, 0, 0, 0, 0]),
             Self::Call(Call::Crash { slot }) => (6, [slot, 0, 0, 0, 0, 0, 0]),
             Self::Call(Call::Restart) => (7, [0; 7]),
+            Self::Figures { workflow } => (8, [workflow, 0, 0, 0, 0, 0, 0]),
             Self::Call(Call::PutInOrder) => (9, [0; 7]),
         }
     }
@@ -269,6 +273,8 @@ pub struct Performed<'a> {
     pub outcome: Outcome,
     /// The parts that an opening answered with.
     pub opened: Option<Workflow<'a>>,
+    /// What a call for figures answered with.
+    pub figures: Option<Figures>,
     pub store: Vec<u8>,
     pub slots: Slots,
 }
@@ -279,11 +285,14 @@ impl CallCase {
         let mut store = self.store.clone();
         let mut slots = self.slots;
         let done = |result: Result<(), Refusal>| result.map(|()| Answer::Done);
-        let mut opened = None;
+        let (mut opened, mut counted) = (None, None);
         let outcome = match self.order {
             Order::Check => done(pack::check(&self.pack)),
             Order::Open { workflow } => {
                 done(pack::open(&self.pack, workflow).map(|parts| opened = Some(parts)))
+            }
+            Order::Figures { workflow } => {
+                done(figures(&self.pack, workflow).map(|figures| counted = Some(figures)))
             }
             Order::Create { partitions, rows } => done(store::create(&mut store, partitions, rows)),
             Order::Call(call) => call.perform(&self.pack, &mut store, &mut slots),
@@ -291,6 +300,7 @@ impl CallCase {
         Performed {
             outcome,
             opened,
+            figures: counted,
             store,
             slots,
         }
@@ -298,9 +308,13 @@ impl CallCase {
 
     fn print(&self) -> String {
         let result = self.perform();
-        let mut text = format!("answer {}\n", answer_words(&result.outcome));
+        let words = match result.figures {
+            Some(figures) => figures_words(&figures),
+            None => answer_words(&result.outcome),
+        };
+        let mut text = format!("answer {words}\n");
         match self.order {
-            Order::Check => {}
+            Order::Check | Order::Figures { .. } => {}
             Order::Open { .. } => print_parts(result.opened, &mut text),
             _ => {
                 print_store(&result.store, &mut text);
@@ -320,6 +334,12 @@ fn answer_words(outcome: &Outcome) -> String {
             refusal.question, refusal.workflow, refusal.instruction
         ),
     }
+}
+
+/// The turns, then the rows of partitions 0 to 7.
+fn figures_words(figures: &Figures) -> String {
+    let rows: String = figures.rows.iter().map(|rows| format!(" {rows}")).collect();
+    format!("figures {}{rows}", figures.turns)
 }
 
 /// The opened parts; a refusal comes with empty ones.

@@ -9,8 +9,8 @@ use crate::schedule;
 use crate::store::Store;
 
 /// The things that can be called, in the order of their call bytes.
-pub const ORDERS: [&str; 9] = [
-    "check", "open", "create", "arrival", "retry", "turn", "crash", "restart", "order",
+pub const ORDERS: [&str; 10] = [
+    "check", "open", "create", "arrival", "retry", "turn", "crash", "restart", "figures", "order",
 ];
 
 #[derive(Clone, Debug, Default, PartialEq, Eq)]
@@ -27,6 +27,8 @@ pub struct Coverage {
     pub done: usize,
     pub moved: usize,
     pub replied: usize,
+    /// Accepted calls for figures, which are no `done`.
+    pub figures: usize,
     /// Single and listed calls by what was called: accepted and refused.
     pub orders: [(usize, usize); ORDERS.len()],
     /// Calls that 11 refuses for the order of the rows alone, and stores put in order that
@@ -93,7 +95,10 @@ impl Coverage {
             Ok(_) => *accepted += 1,
             Err(_) => *refused += 1,
         }
-        self.count(outcome, false);
+        match (order, outcome) {
+            (Order::Figures { .. }, Ok(_)) => self.figures += 1,
+            _ => self.count(outcome, false),
+        }
     }
 
     fn count(&mut self, outcome: &Outcome, in_schedule: bool) {
@@ -134,6 +139,7 @@ impl Coverage {
         let _ = writeln!(text, "answer done {}", self.done);
         let _ = writeln!(text, "answer moved {}", self.moved);
         let _ = writeln!(text, "answer reply {}", self.replied);
+        let _ = writeln!(text, "answer figures {}", self.figures);
         let _ = writeln!(text, "answer refused {refused}");
         for (name, (accepted, refused)) in ORDERS.iter().zip(self.orders) {
             let _ = writeln!(text, "call {name} accepted {accepted} refused {refused}");
@@ -159,6 +165,7 @@ fn order_index(order: &Order) -> usize {
         Order::Call(Call::Turn { .. }) => 5,
         Order::Call(Call::Crash { .. }) => 6,
         Order::Call(Call::Restart) => 7,
-        Order::Call(Call::PutInOrder) => 8,
+        Order::Figures { .. } => 8,
+        Order::Call(Call::PutInOrder) => 9,
     }
 }

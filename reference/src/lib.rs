@@ -7,6 +7,7 @@
 //! * [`operations`]: what each operation does
 //! * [`calls`]: arrival, retry, turn, crash and restart (questions 15 to 21 and 24), and what
 //!   puts an earlier store in order
+//! * [`figures`]: the most turns and rows that a workflow takes (W-202)
 //! * [`schedule`]: the schedule program (questions 22 and 23)
 //! * [`plain`]: the plain machine and the check of demand 3 on what was run
 //! * [`cases`]: the file `cases.bin` and what is printed for each of its cases
@@ -18,6 +19,7 @@ pub mod bytes;
 pub mod calls;
 pub mod cases;
 pub mod coverage;
+pub mod figures;
 pub mod generate;
 pub mod operations;
 pub mod pack;
@@ -29,6 +31,7 @@ pub mod store;
 
 pub use agents::{Agent, Slots};
 pub use calls::{Answer, Call, Outcome};
+pub use figures::Figures;
 pub use pack::{Instruction, Operation, Pack, Workflow};
 pub use refusal::Refusal;
 pub use store::Store;

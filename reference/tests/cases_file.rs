@@ -65,6 +65,20 @@ fn an_opening_prints_its_parts() {
 }
 
 #[test]
+fn figures_print_their_numbers_and_no_state() {
+    let block = vec![(0x60, 7), (0x91, 2), END, RETURN];
+    let pack = reference::pack::encode(&[vec![RETURN], block]);
+    let mut state = State::with_move();
+    state.pack = pack;
+    let figures = |state: &State, workflow| print(on_state(state, Order::Figures { workflow }));
+    assert_eq!(figures(&state, 0), "case 0\nanswer figures 1 0 0 0 0 0 0 0 0\n");
+    assert_eq!(figures(&state, 1), "case 0\nanswer figures 2 0 0 0 0 0 0 0 2\n");
+    assert_eq!(figures(&state, 2), "case 0\nanswer refused 17 0 0\n");
+    state.pack[5] = 0x18;
+    assert_eq!(figures(&state, 2), "case 0\nanswer refused 4 0 0\n");
+}
+
+#[test]
 fn a_turn_prints_the_state_afterwards() {
     let mut state = State::with_move();
     state.turn(0).expect("COPY");
@@ -196,6 +210,7 @@ fn all_orders() -> Vec<Case> {
         Order::Call(Call::Turn { slot: 6 }),
         Order::Call(Call::Crash { slot: 7 }),
         Order::Call(Call::Restart),
+        Order::Figures { workflow: 0 },
         Order::Call(Call::PutInOrder),
     ];
     orders.map(|order| on_state(&state, order)).to_vec()
@@ -328,7 +343,7 @@ fn numbers_out_of_range_are_malformed() {
         print_all(&file)
     };
     assert_eq!(with(0, 3), "malformed case 0\n", "no such kind");
-    for code in [8, 10, 255] {
+    for code in [10, 11, 255] {
         assert_eq!(
             with(file.len() - 29, code),
             "malformed case 0\n",
@@ -351,9 +366,10 @@ fn coverage_counts_answers_and_questions() {
     let coverage = Coverage::of_file(&file);
     assert_eq!(
         (coverage.schedules, coverage.calls, coverage.events),
-        (1, 9, 10)
+        (1, 10, 10)
     );
     assert_eq!((coverage.done, coverage.moved, coverage.replied), (6, 5, 1));
+    assert_eq!(coverage.figures, 1);
     assert_eq!(
         [9, 16, 17, 19].map(|number| coverage.question(number)),
         [1, 2, 2, 1]
@@ -364,6 +380,9 @@ fn coverage_counts_answers_and_questions() {
     assert!(coverage
         .print()
         .contains("call order accepted 1 refused 0\nrows not rising, refused 11 0\n"));
+    assert!(coverage
+        .print()
+        .contains("call figures accepted 1 refused 0\n"));
 }
 
 #[test]

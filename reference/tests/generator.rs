@@ -37,6 +37,7 @@ fn a_small_file_covers_every_question_answer_and_call() {
             );
         }
         assert!(coverage.done > 0 && coverage.moved > 0 && coverage.replied > 0);
+        assert!(coverage.figures > 0);
         for number in (1..=21).chain([24]) {
             assert!(
                 coverage.call_refusals[number] > 0,

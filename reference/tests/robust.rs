@@ -5,7 +5,9 @@ mod common;
 use common::*;
 use reference::cases::{print_all, read_all, write_all, Case, Order};
 use reference::coverage::Coverage;
+use reference::figures::figures;
 use reference::generate;
+use reference::pack::check;
 use reference::random::Random;
 use reference::schedule::program;
 use reference::{Call, Store};
@@ -18,6 +20,7 @@ fn random_bytes_never_panic() {
         let (pack, schedule) = (random.bytes(first), random.bytes(second));
         program(&pack, &schedule);
         print_all(&schedule);
+        assert_eq!(figures(&pack, 0).err(), check(&pack).err());
     }
 }
 
@@ -70,7 +73,7 @@ fn calls_on_spoiled_states_change_nothing_when_refused() {
         if result.outcome.is_err() {
             assert_eq!(result.store, call.store);
             assert_eq!(result.slots, call.slots);
-            assert!(result.opened.is_none());
+            assert!(result.opened.is_none() && result.figures.is_none());
         }
     }
 }

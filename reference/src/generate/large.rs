@@ -12,7 +12,7 @@ use crate::random::Random;
 use crate::store::{Key, Shape, Store};
 
 pub fn any(random: &mut Random, lane: usize) -> Case {
-    match lane % 9 {
+    match lane % 10 {
         0 => on_pack(full_pack(random), Order::Check),
         1 => on_pack(full_pack(random), Order::Open { workflow: 7 }),
         2 => schedules::full(random),
@@ -21,6 +21,7 @@ pub fn any(random: &mut Random, lane: usize) -> Case {
         5 => on_full_store(random, 1),
         6 => on_full_store(random, 2),
         7 => order_full_store(random),
+        8 => on_pack(full_pack(random), Order::Figures { workflow: 7 }),
         _ => largest_create(random),
     }
 }

@@ -3,6 +3,7 @@
 
 mod calls;
 mod damage;
+mod figures;
 mod large;
 mod near_miss;
 mod order;
@@ -14,6 +15,7 @@ mod world;
 use crate::cases::{write_all, Case};
 use crate::random::Random;
 
+pub use figures::branching;
 pub use near_miss::near_miss;
 pub use packs::{encoded_pack, Bounds};
 pub use schedules::any_list;
@@ -36,6 +38,9 @@ enum Family {
     /// A pack check or another call on a pack that is nearly right.
     NearMiss(u8),
     NearMissCall,
+    /// Figures of a right pack, and of one or a number that 1 to 8 and 17 refuse.
+    Figures,
+    FiguresRefused,
     /// A call on what a run left.
     AfterRun,
     /// A call on rows and records that no run left, but that are right.
@@ -76,7 +81,7 @@ enum Family {
 use Family::*;
 
 /// Taken in turn. What is likely to find a difference stands more than once.
-const FAMILIES: [Family; 115] = [
+const FAMILIES: [Family; 129] = [
     Schedule,
     NearMiss(1),
     Damaged(9),
@@ -84,6 +89,7 @@ const FAMILIES: [Family; 115] = [
     Check,
     Reading,
     PutInOrder,
+    Figures,
     Older,
     Wrong(24),
     Schedule,
@@ -91,6 +97,7 @@ const FAMILIES: [Family; 115] = [
     Wrong(15),
     AfterRun,
     Merging,
+    FiguresRefused,
     OrderList,
     Schedule,
     NearMiss(3),
@@ -100,6 +107,7 @@ const FAMILIES: [Family; 115] = [
     Reading,
     Schedule,
     NearMiss(4),
+    Figures,
     Wrong(16),
     AfterRun,
     Schedule,
@@ -112,6 +120,7 @@ const FAMILIES: [Family; 115] = [
     AfterRun,
     Schedule,
     NearMiss(7),
+    Figures,
     Damaged(12),
     NotRising,
     Odd,
@@ -119,6 +128,7 @@ const FAMILIES: [Family; 115] = [
     Schedule,
     NearMiss(8),
     Wrong(18),
+    FiguresRefused,
     AfterRun,
     PutInOrder,
     Older,
@@ -128,6 +138,7 @@ const FAMILIES: [Family; 115] = [
     Damaged(13),
     NewId,
     Merging,
+    Figures,
     ExactRoom,
     Schedule,
     BadSchedule(23),
@@ -138,6 +149,7 @@ const FAMILIES: [Family; 115] = [
     Schedule,
     BadSchedule(9),
     Damaged(14),
+    Figures,
     Logged,
     Reading,
     Schedule,
@@ -145,6 +157,7 @@ const FAMILIES: [Family; 115] = [
     Wrong(20),
     PutInOrderRefused,
     AfterRun,
+    FiguresRefused,
     Schedule,
     NearMissCall,
     Damaged(11),
@@ -152,6 +165,7 @@ const FAMILIES: [Family; 115] = [
     Odd,
     Schedule,
     BadPackSchedule,
+    Figures,
     Damaged(14),
     NewId,
     Merging,
@@ -163,12 +177,14 @@ const FAMILIES: [Family; 115] = [
     PutInOrder,
     DamagedTwice,
     OneRowShort,
+    Figures,
     Reading,
     Schedule,
     NearMiss(2),
     Wrong(18),
     Wrong(24),
     Open,
+    FiguresRefused,
     Schedule,
     Noise,
     OrderList,
@@ -177,6 +193,7 @@ const FAMILIES: [Family; 115] = [
     AfterRun,
     Schedule,
     NearMiss(6),
+    Figures,
     Large,
     AfterRun,
     Schedule,
@@ -184,12 +201,14 @@ const FAMILIES: [Family; 115] = [
     NearMiss(5),
     PutInOrderRefused,
     Damaged(14),
+    FiguresRefused,
     Schedule,
     Restart,
     NearMiss(6),
     ExactRoom,
     Reading,
     OneInstruction,
+    Figures,
     BadSchedule(22),
     OneInstruction,
 ];
@@ -219,6 +238,8 @@ pub fn case(seed: u64, number: usize) -> Case {
         Create => calls::create(random),
         NearMiss(question) => calls::near_miss_check(random, question, lane),
         NearMissCall => calls::near_miss_call(random),
+        Figures => figures::right(random, lane),
+        FiguresRefused => figures::refused(random, lane),
         AfterRun => calls::after_run(random),
         Odd => calls::odd(random),
         Damaged(question) => calls::damaged(random, question, lane),

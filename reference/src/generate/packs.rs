@@ -180,7 +180,7 @@ impl Habit {
 }
 
 /// Gives each operation a register and a word in range.
-fn fill_in(random: &mut Random, operations: &[Operation], partitions: usize) -> Rows {
+pub fn fill_in(random: &mut Random, operations: &[Operation], partitions: usize) -> Rows {
     let codes: Vec<u8> = operations.iter().map(|op| op.code() << 4).collect();
     let mut habit = Habit { key: 0, written: 0 };
     let mut rows = Rows::with_capacity(codes.len());
