@@ -2,7 +2,7 @@
 
 use crate::fault::{whole, Fault, No};
 use crate::folder::{assemble_file, load, plan_file, read_bytes, write};
-use crate::{disassemble, names, pack, picture, program, schedule, show, trace};
+use crate::{disassemble, figures, names, pack, picture, program, schedule, show, trace};
 use std::io::Write;
 use std::path::{Path, PathBuf};
 
@@ -13,6 +13,7 @@ wf plan FILE -o schedule.bin [--pack FILE]    a schedule text to a schedule
 wf show schedule.bin [-o FILE] [--pack FILE]  a schedule to its text
 wf run FOLDER                                 the proved program's output, with names
 wf trace FOLDER -o run.svg                    a picture of a run
+wf figures FOLDER                             the most turns and rows of each workflow, and the C that suffices
 ";
 
 /// Exit status of a text or file with faults, and of a wrong command line.
@@ -64,6 +65,7 @@ fn allowed(word: &str) -> Option<(bool, bool, bool)> {
         "show" => Some((false, true, true)),
         "run" => Some((false, false, false)),
         "trace" => Some((true, true, false)),
+        "figures" => Some((false, false, false)),
         _ => None,
     }
 }
@@ -119,6 +121,7 @@ fn perform(word: &str, options: &Options) -> Result<(), Vec<Fault>> {
         }
         "show" => shown(subject, &pack_names(options)?.unwrap_or_default())?.into_bytes(),
         "run" => run(subject, program::find())?.into_bytes(),
+        "figures" => counted(subject)?.into_bytes(),
         _ => traced(subject)?.into_bytes(),
     };
     deliver(options.output.as_deref(), &bytes)
@@ -166,6 +169,16 @@ fn traced(path: &Path) -> Result<String, Vec<Fault>> {
     let folder = load(path)?;
     let run = trace::trace(&folder).map_err(|noes| bytes_faults(path, noes))?;
     Ok(picture::picture(&title(path), &run))
+}
+
+/// The figures of a folder; what they warn of is said, and is no fault.
+fn counted(path: &Path) -> Result<String, Vec<Fault>> {
+    let folder = load(path)?;
+    let report = figures::report(&folder).map_err(|noes| bytes_faults(path, noes))?;
+    for warning in &report.warnings {
+        eprintln!("{}: warning: {warning}", path.display());
+    }
+    Ok(report.text)
 }
 
 /// The folder's own name, also where it is given as `.`.

@@ -6,6 +6,7 @@ pub mod band;
 pub mod command;
 pub mod disassemble;
 pub mod fault;
+pub mod figures;
 pub mod folder;
 pub mod instruction;
 pub mod layout;

@@ -1,5 +1,6 @@
 //! A picture of a run: its title, legend and lists around the bands of events.
 
+use crate::figures::partition_name;
 use crate::layout::Layout;
 use crate::lives::{lives, Life};
 use crate::marks::{self, Mark, LEGEND, STYLE};
@@ -91,7 +92,9 @@ impl Drawing<'_> {
 
     fn footer(&mut self) {
         self.refusals();
-        self.requests();
+        self.rows();
+        let requests = self.run.requests.iter().map(request_line).collect();
+        self.in_columns(requests);
     }
 
     /// The words of each question that refused something.
@@ -121,9 +124,27 @@ impl Drawing<'_> {
         }
     }
 
-    /// All requests, in columns.
-    fn requests(&mut self) {
-        let lines: Vec<String> = self.run.requests.iter().map(request_line).collect();
+    /// The rows used at the end, beside the most that all requests together take.
+    fn rows(&mut self) {
+        let words = format!(
+            "rows at the end of the run, and the most that all requests together take by any route (C {})",
+            self.run.rows
+        );
+        self.svg
+            .text("soft", (MARGIN, self.y), SMALL, Anchor::Start, &words);
+        self.y += 14.0;
+        let line = |(partition, most): (usize, &usize)| {
+            let name = partition_name(partition, self.run.partitions);
+            let used = self.run.steps.last().map_or(0, |step| step.used[partition]);
+            format!("{name}: {used}, at most {most}")
+        };
+        let lines = self.run.most.iter().enumerate().map(line).collect();
+        self.in_columns(lines);
+        self.y += 8.0;
+    }
+
+    /// Short lines, in as many columns as there is room for.
+    fn in_columns(&mut self, lines: Vec<String>) {
         let widest = lines
             .iter()
             .map(|line| text_width(line, SMALL))

@@ -1,8 +1,8 @@
 //! What happened at each event of a run, told by the independent runtime in `reference`.
 
 use crate::fault::No;
+use crate::figures;
 use crate::folder::Folder;
-use crate::pack;
 use crate::schedule::{self, Event, Kind, Request, Schedule};
 use reference::agents::{Slots, ALL_EMPTY};
 use reference::pack::Pack;
@@ -41,6 +41,8 @@ pub struct Run {
     pub rows: usize,
     pub requests: Vec<Named>,
     pub steps: Vec<Step>,
+    /// The most rows that all requests together take, by partition, the book last.
+    pub most: Vec<usize>,
 }
 
 /// A request and what it is called.
@@ -53,7 +55,7 @@ pub struct Named {
 
 /// Runs a folder's schedule; the noes are those for which the program would print only `refused`.
 pub fn trace(folder: &Folder) -> Result<Run, Vec<No>> {
-    pack::accepted(&folder.pack)?;
+    let workflows = figures::of_workflows(&folder.pack)?;
     let schedule = schedule::accepted(&folder.schedule).map_err(|no| vec![no])?;
     let (partitions, rows) = (schedule.partitions as u32, schedule.rows as u32);
     let store = store::fresh(partitions, rows);
@@ -70,6 +72,7 @@ pub fn trace(folder: &Folder) -> Result<Run, Vec<No>> {
         partitions: partitions as usize,
         rows: rows as usize,
         steps: steps.collect(),
+        most: figures::together(&workflows, &schedule).rows,
         requests: requests
             .map(|index| named(folder, &schedule, index))
             .collect(),

@@ -178,7 +178,7 @@ fn files_that_cannot_be_used_are_said() {
         told(wf(&folder, &["asm", "good.wf", "-o", "good.bin"])).0,
         0
     );
-    let cases: [(&[&str], &str); 5] = [
+    let cases: [(&[&str], &str); 6] = [
         (
             &["asm", "none.wf", "-o", "p.bin"],
             "none.wf: cannot be read: ",
@@ -196,6 +196,7 @@ fn files_that_cannot_be_used_are_said() {
             &["trace", "none", "-o", "run.svg"],
             "none: is not a folder\n",
         ),
+        (&["figures", "none"], "none: is not a folder\n"),
     ];
     for (arguments, start) in cases {
         let (status, printed, said) = told(wf(&folder, arguments));
@@ -207,7 +208,7 @@ fn files_that_cannot_be_used_are_said() {
 #[test]
 fn a_wrong_command_line_is_said_with_the_right_ones() {
     let folder = fresh("usage");
-    let cases: [(&[&str], &str); 7] = [
+    let cases: [(&[&str], &str); 9] = [
         (&[], "wf: found no command, expected one of\n"),
         (&["assemble"], "wf: found assemble, expected one of\n"),
         (
@@ -227,12 +228,20 @@ fn a_wrong_command_line_is_said_with_the_right_ones() {
             "wf: found -o, which run does not take\n",
         ),
         (&["run", ".", "x"], "wf: found x, expected no more\n"),
+        (
+            &["figures"],
+            "wf: found nothing behind figures, expected a file or folder\n",
+        ),
+        (
+            &["figures", ".", "-o", "x"],
+            "wf: found -o, which figures does not take\n",
+        ),
     ];
     for (arguments, start) in cases {
         let (status, printed, said) = told(wf(&folder, arguments));
         assert_eq!((status, printed.as_str()), (2, ""), "{arguments:?}");
         assert!(
-            said.starts_with(start) && said.contains("\nwf trace FOLDER -o run.svg"),
+            said.starts_with(start) && said.contains("\nwf figures FOLDER  "),
             "{said}"
         );
     }
@@ -327,6 +336,53 @@ fn the_program_is_found_by_its_variable_or_above() {
         program::find_in(Some("other run".to_string()), &above),
         Some(words)
     );
+}
+
+#[test]
+fn figures_are_printed_and_what_may_not_suffice_is_warned_of() {
+    let folder = fresh("figures");
+    copy(&example("move"), &folder, &["pack.wf", "schedule.plan"]);
+    let table = "           most  most rows in partition
+workflow  turns    0    1    2    3    4    5    6    7
+MOVE          4    2    2    0    0    0    0    0    0
+";
+    let together = "
+the schedule's requests together, different ids: 2
+             most rows    C
+partition 0          4    5
+partition 1          4    5
+book                10    5
+C 10 certainly suffices, the schedule has C 5
+";
+    let warning = ".: warning: C 5 may not suffice: the book may need 10 rows\n";
+    assert_eq!(
+        told(wf(&folder, &["figures", "."])),
+        (0, format!("{table}{together}"), warning.to_string())
+    );
+    fs::remove_file(folder.join("schedule.plan")).expect("a file");
+    assert_eq!(
+        told(wf(&folder, &["figures", "."])),
+        (0, table.to_string(), String::new())
+    );
+}
+
+#[test]
+fn figures_of_a_refused_pack_or_schedule_are_a_fault() {
+    let folder = fresh("figures-refused");
+    let said = |folder: &Path| {
+        let (status, printed, said) = told(wf(folder, &["figures", "."]));
+        assert_eq!((status, printed.as_str()), (1, ""));
+        said
+    };
+    let no_pack = ".: refused 1: Is there a count, 1 to 16? Found no bytes, expected a count\n";
+    assert_eq!(said(&folder), no_pack);
+    fs::write(folder.join("pack.bin"), [1, 1, 0, 0x50, 0, 0, 0, 0]).expect("a pack");
+    assert!(said(&folder).starts_with(".: workflow 0 instruction 0: refused 5: "));
+    fs::write(folder.join("pack.bin"), [1, 1, 0, 0xB0, 0, 0, 0, 0]).expect("a pack");
+    fs::write(folder.join("schedule.bin"), [1, 4, 0, 0, 0, 0]).expect("a schedule");
+    assert!(said(&folder).starts_with(".: refused 9: "));
+    fs::write(folder.join("schedule.plan"), "partitions 1\n").expect("a plan");
+    assert!(said(&folder).starts_with("./schedule.plan:2:1: found end of file, "));
 }
 
 #[test]

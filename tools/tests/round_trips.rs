@@ -2,11 +2,9 @@
 
 mod generated;
 
-use generated::{any_schedule, damaged, right_pack, Random};
+use generated::{any_schedule, damaged, folder, right_pack, Random};
 use wf::trace::Happened;
-use wf::{
-    assemble, disassemble, folder::Folder, names, pack, picture, plan, schedule, show, trace,
-};
+use wf::{assemble, disassemble, names, pack, picture, plan, schedule, show, trace};
 
 #[test]
 fn disasm_of_any_accepted_pack_assembles_to_the_same_bytes() {
@@ -150,20 +148,6 @@ fn garbled_texts_are_faulted_or_right() {
         right > 500 && faulted > 500 && right + faulted == 5000,
         "{right} {faulted}"
     );
-}
-
-fn folder(random: &mut Random) -> Folder {
-    let workflows = right_pack(random);
-    let schedule = generated::lively_schedule(random, workflows.len());
-    Folder {
-        pack: pack::to_bytes(&workflows),
-        workflows: (0..workflows.len())
-            .map(|number| format!("w{number}"))
-            .collect(),
-        requests: show::request_names(&schedule),
-        schedule: schedule::to_bytes(&schedule),
-        from_text: true,
-    }
 }
 
 fn answer(happened: Happened) -> String {

@@ -1,8 +1,11 @@
 //! Seeded packs and schedules.
+#![allow(dead_code)]
 
+use wf::folder::Folder;
 use wf::instruction::{Instruction, BEGIN, END, JEQ, JLT, PUT, RETURN};
 use wf::pack::{self, Workflow};
-use wf::schedule::{Event, Kind, Request, Schedule};
+use wf::schedule::{self, Event, Kind, Request, Schedule};
+use wf::show;
 
 /// A small generator of numbers (xorshift), so that a failing case comes again.
 pub struct Random(u64);
@@ -261,5 +264,20 @@ pub fn lively_event(random: &mut Random, requests: usize) -> Event {
         kind,
         slot: slot as u8,
         request,
+    }
+}
+
+/// A pack and a lively schedule of it.
+pub fn folder(random: &mut Random) -> Folder {
+    let workflows = right_pack(random);
+    let schedule = lively_schedule(random, workflows.len());
+    Folder {
+        pack: pack::to_bytes(&workflows),
+        workflows: (0..workflows.len())
+            .map(|number| format!("w{number}"))
+            .collect(),
+        requests: show::request_names(&schedule),
+        schedule: schedule::to_bytes(&schedule),
+        from_text: true,
     }
 }
