@@ -5,7 +5,7 @@ use crate::lives::{End, Life};
 use crate::marks::{self, Mark};
 use crate::picture::{Drawing, MARGIN, NORMAL, SMALL};
 use crate::questions::question;
-use crate::schedule::Kind;
+use crate::schedule::{partition_name, Kind};
 use crate::show::event_words;
 use crate::svg::{text_width, Anchor};
 use crate::trace::{Happened, Step};
@@ -212,11 +212,7 @@ impl Drawing<'_> {
         self.svg
             .text("soft", (LEFT, head), SMALL, Anchor::Start, &words);
         for partition in 0..self.layout.strips {
-            let label = if partition == self.run.partitions {
-                "book".to_string()
-            } else {
-                format!("partition {partition}")
-            };
+            let label = partition_name(partition, self.run.partitions);
             let bottom = self.y + self.layout.strip(partition) + STRIP - 2.0;
             self.svg.text(
                 "plain",

@@ -4,7 +4,7 @@ use crate::fault::No;
 use crate::folder::Folder;
 use crate::instruction::BEGIN;
 use crate::pack::{self, Workflow};
-use crate::schedule::{self, Schedule};
+use crate::schedule::{self, partition_name, Schedule};
 use reference::pack::Pack;
 use reference::store::{BOOK_ROWS, LEAST_ROWS, MOST_PARTITIONS, MOST_ROWS};
 use reference::Figures;
@@ -80,12 +80,13 @@ fn workflow_table(names: &[String], figures: &[Figures]) -> String {
         .iter()
         .map(String::len)
         .fold("workflow".len(), usize::max);
-    let mut text = format!("{:width$}   most  most rows in partition\n", "");
-    let _ = write!(text, "{:width$}  turns", "workflow");
-    for partition in 0..MOST_PARTITIONS {
-        let _ = write!(text, "{partition:>5}");
-    }
-    text.push('\n');
+    let partitions: String = (0..MOST_PARTITIONS)
+        .map(|partition| format!("{partition:>5}"))
+        .collect();
+    let mut text = format!(
+        "{:width$}   most  most rows in partition\n{:width$}  turns{partitions}\n",
+        "", "workflow"
+    );
     for (name, figures) in names.iter().zip(figures) {
         let rows: String = figures
             .rows
@@ -95,14 +96,6 @@ fn workflow_table(names: &[String], figures: &[Figures]) -> String {
         let _ = writeln!(text, "{name:width$}{:>7}{rows}", figures.turns);
     }
     text
-}
-
-/// A partition by its number, or the book behind the last.
-pub fn partition_name(partition: usize, partitions: usize) -> String {
-    match partition == partitions {
-        true => "book".to_string(),
-        false => format!("partition {partition}"),
-    }
 }
 
 fn together_table(together: &Together, schedule: &Schedule) -> String {

@@ -1,10 +1,10 @@
 //! A picture of a run: its title, legend and lists around the bands of events.
 
-use crate::figures::partition_name;
 use crate::layout::Layout;
 use crate::lives::{lives, Life};
 use crate::marks::{self, Mark, LEGEND, STYLE};
 use crate::questions::question;
+use crate::schedule::partition_name;
 use crate::svg::{text_width, Anchor, Svg};
 use crate::trace::{Happened, Named, Run};
 use std::collections::BTreeSet;

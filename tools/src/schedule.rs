@@ -162,6 +162,14 @@ fn a(kind: Kind) -> String {
     format!("{article} {}", kind.word())
 }
 
+/// A partition by its number, or the book which is numbered P.
+pub fn partition_name(partition: usize, partitions: usize) -> String {
+    match partition == partitions {
+        true => "book".to_string(),
+        false => format!("partition {partition}"),
+    }
+}
+
 /// Question 9, put to P and C.
 pub fn size_no(partitions: u32, rows: u32) -> Option<No> {
     partitions_no(partitions).or_else(|| rows_no(rows))
