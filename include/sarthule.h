@@ -9,7 +9,8 @@
  *   pack    the workflows, as document 01 lays them out; only read
  *   store   SARTHULE_STORE_BYTES(P, C) bytes for P partitions (1 to 8) of C rows (5 to 256); first filled by sarthule_create
  *   slots   SARTHULE_SLOTS_BYTES bytes, eight agent records; 384 zero bytes are eight empty slots
- *   answer  SARTHULE_ANSWER_BYTES bytes (sarthule_open: SARTHULE_OPEN_BYTES), written by every call; what is behind stays
+ *   answer  SARTHULE_ANSWER_BYTES bytes (sarthule_open: SARTHULE_OPEN_BYTES, sarthule_figures: SARTHULE_FIGURES_BYTES),
+ *           written by every call; what is behind stays
  *
  * A record in `slots` is 48 bytes, twelve words of 4 bytes, each low byte first:
  *
@@ -43,7 +44,7 @@
  * Questions. The first no is the number of the refusal; sarthule_question below has them, in the order in which they are
  * put: 24 stands between 16 and 17.
  *
- * The check puts 1 to 8. Open puts 1 to 8 and 17. Create puts 9 and 10. Order puts 9 to 12, of 11 all but the rising keys.
+ * The check puts 1 to 8. Open and figures put 1 to 8 and 17. Create puts 9 and 10. Order puts 9 to 12, of 11 all but the rising keys.
  * Restart puts none. Every other call puts all of them, save those marked for calls that it isn't.
  */
 #ifndef SARTHULE_H
@@ -61,6 +62,7 @@ extern "C" {
 #define SARTHULE_SLOTS_BYTES 384
 #define SARTHULE_ANSWER_BYTES 12
 #define SARTHULE_OPEN_BYTES 28
+#define SARTHULE_FIGURES_BYTES 48
 #define SARTHULE_STORE_BYTES(P, C) (3 + 2 * ((size_t)(P) + 1) + 12 * (size_t)(C) * ((size_t)(P) + 1))
 
 #define SARTHULE_DONE 0u
@@ -117,6 +119,16 @@ uint32_t sarthule_check(const uint8_t *pack, size_t pack_len, uint8_t *answer, s
  * bytes and their number; 0 four times where it is refused.
  */
 uint32_t sarthule_open(const uint8_t *pack, size_t pack_len, uint32_t workflow, uint8_t *answer, size_t answer_len);
+
+/*
+ * How much one workflow will take, for those who choose C: over all routes through it, where a jump may go either way, the
+ * most turns, and for each partition the most rows, one for each block there and one for each PUT. Each figure may have its
+ * own route. Done, or refused with 1 to 8 or 17. `answer` has 48 bytes here: behind its three words stand the turns, then the
+ * rows of partition 0 to 7, whatever P is; 0 nine times where it is refused. A request that an arrival books where each
+ * partition has that many rows free, and no log row of its id, is never refused with 21, as long as no block of another
+ * request runs and each call gets the same pack and what the last one left.
+ */
+uint32_t sarthule_figures(const uint8_t *pack, size_t pack_len, uint32_t workflow, uint8_t *answer, size_t answer_len);
 
 /*
  * Writes a fresh store, with no row used, over the whole buffer. Done, or refused with 9 (the numbers) or 10 (store_len is

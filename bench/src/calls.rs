@@ -1,6 +1,6 @@
 //! Generated single calls and lists of calls on any bytes, done by the library through its C interface and by the reference.
 
-use crate::sides::{answer, bytes, Lent};
+use crate::sides::{answer, bytes, library_figures, Lent, NO_FIGURES};
 use reference::cases::{self, CallCase, Case, ListCase, Order, Performed};
 use reference::generate;
 use reference::refusal::QUESTIONS;
@@ -11,14 +11,21 @@ const CASES: usize = 1000;
 /// The bytes of an opened workflow's two parts; empty on a refusal.
 type Parts = (Vec<u8>, Vec<u8>);
 
-fn ours(case: &CallCase, lent: &mut Lent) -> (sarthule::Answer, Parts) {
-    let none = Parts::default();
+/// What a call gives beside its answer: the parts of an opening, the figures of a workflow.
+type Beside = (Parts, sarthule::Figures);
+
+fn ours(case: &CallCase, lent: &mut Lent) -> (sarthule::Answer, Beside) {
+    let none = (Parts::default(), NO_FIGURES);
     match case.order {
         Order::Check => (sarthule::check(&lent.pack), none),
         Order::Open { workflow } => {
             let (answer, parts) = sarthule::open(&lent.pack, workflow);
             let part = |(from, length): (usize, usize)| lent.pack[from..from + length].to_vec();
-            (answer, (part(parts.operations), part(parts.operands)))
+            (answer, ((part(parts.operations), part(parts.operands)), NO_FIGURES))
+        }
+        Order::Figures { workflow } => {
+            let (answer, figures) = sarthule::figures(&lent.pack, workflow);
+            (answer, (Parts::default(), figures))
         }
         Order::Create { partitions, rows } => {
             (sarthule::create(&mut lent.store, partitions as usize, rows as usize), none)
@@ -31,13 +38,14 @@ fn ours(case: &CallCase, lent: &mut Lent) -> (sarthule::Answer, Parts) {
 /// nothing lent may have changed.
 fn difference(case: &CallCase) -> Option<&'static str> {
     let mut lent = Lent { pack: case.pack.clone(), store: case.store.clone(), slots: bytes(&case.slots) };
-    let (found, parts) = ours(case, &mut lent);
-    let Performed { outcome, opened, store, slots } = case.perform();
+    let (found, (parts, figures)) = ours(case, &mut lent);
+    let Performed { outcome, opened, figures: counted, store, slots } = case.perform();
     let expected = opened.map_or(Parts::default(), |part| (part.operations.to_vec(), part.operands.to_vec()));
     let refused = matches!(found, sarthule::Answer::Refused { .. });
     let tests = [
         ("the answer", found == answer(outcome)),
         ("the parts", parts == expected),
+        ("the figures", figures == library_figures(counted)),
         ("the store", lent.store == store),
         ("the slots", lent.slots == bytes(&slots)),
         ("what a refusal leaves", !refused || (lent.store == case.store && lent.slots == bytes(&case.slots))),

@@ -60,6 +60,13 @@ pub fn pack(m: usize, size: usize, partitions: u32) -> Vec<u8> {
     encode(&vec![workflow(size, partitions); m])
 }
 
+/// A pack of one workflow of 256 instructions: jumps, each of which may go to the RETURN at the end.
+pub fn far_jumps() -> Vec<u8> {
+    let mut code = vec![(0x40, 255 << 4); 255];
+    code.push((0xB0, 0));
+    encode(&[code])
+}
+
 /// The block of the measured turn: 16 GETs and 16 PUTs to 16 different keys, which needs an ADD behind each PUT.
 fn turning(partitions: u32) -> Vec<(u8, u32)> {
     let mut code = vec![(0x17, 0), (0x06, 1), (0x60, partitions - 1)];

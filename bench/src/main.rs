@@ -13,17 +13,17 @@ mod calls;
 mod inputs;
 mod sides;
 
-use inputs::{at_block, at_full, first_id_alone, full, nearly_empty, nearly_full, pack, schedule, standing, turning_pack};
-use inputs::{Keys, Standing, State};
+use inputs::{at_block, at_full, far_jumps, first_id_alone, full, nearly_empty, nearly_full, pack, schedule, standing};
+use inputs::{turning_pack, Keys, Standing, State};
 use reference::store::Request;
 use reference::Call;
-use sides::{answer, bytes, Lent};
+use sides::{answer, bytes, Lent, OnPack};
 use std::hint::black_box;
 use std::time::{Duration, Instant};
 
-/// A pack to be checked, or calls from a state on.
+/// A call on a pack alone, or calls from a state on.
 enum Work {
-    Check(Vec<u8>),
+    Pack(OnPack, Vec<u8>),
     Calls(State, Vec<Call>),
 }
 
@@ -110,7 +110,21 @@ fn cases_of_search() -> Vec<Case> {
     ]
 }
 
-/// The main cases, then how each grows, then those of rows by rising key and of where a search ends.
+/// The figures of a workflow of 256 instructions, blocks and short jumps in it or nothing but jumps to the end, each beside the check of
+/// the same pack, which figures do too.
+fn cases_of_figures() -> Vec<Case> {
+    let figures = OnPack::Figures { workflow: 0 };
+    let on_pack = |what: &str, call, pack: fn() -> Vec<u8>| case(what, move || Work::Pack(call, pack()));
+    let blocks = || pack(1, 256, 8);
+    vec![
+        on_pack("figures 1 x 256", figures, blocks),
+        on_pack("check 1 x 256", OnPack::Check, blocks),
+        on_pack("figures 256 far jumps", figures, far_jumps),
+        on_pack("check 256 far jumps", OnPack::Check, far_jumps),
+    ]
+}
+
+/// The main cases, then how each grows, then those of rows by rising key, of where a search ends and of figures.
 fn cases() -> Vec<Case> {
     let at = |what: &str, call, p, c, m| {
         let total = total(&turning_pack(p, m));
@@ -122,7 +136,7 @@ fn cases() -> Vec<Case> {
             Work::Calls(state, calls)
         })
     };
-    let check = |size| case(&format!("check 8 x {size}"), move || Work::Check(pack(8, size, 8)));
+    let check = |size| case(&format!("check 8 x {size}"), move || Work::Pack(OnPack::Check, pack(8, size, 8)));
     let mut all = vec![check(256), at("turn", TURN, 8, 256, 8), at("arrival", ARRIVAL, 8, 256, 8), events(256)];
     all.extend([64, 128].map(check));
     for c in [32, 64, 128, 256] {
@@ -132,6 +146,7 @@ fn cases() -> Vec<Case> {
     all.extend([32, 64, 128].map(events));
     all.extend(cases_of_order());
     all.extend(cases_of_search());
+    all.extend(cases_of_figures());
     all
 }
 
@@ -178,9 +193,9 @@ fn question(answer: &sarthule::Answer) -> u32 {
 fn compare(name: &str, work: &Work) {
     let (state, calls) = match work {
         Work::Calls(state, calls) => (state, calls),
-        Work::Check(pack) => {
-            assert_eq!(sarthule::check(pack), sarthule::Answer::Done, "{name}");
-            assert!(reference::pack::check(pack).is_ok());
+        Work::Pack(call, pack) => {
+            assert_eq!(call.perform(pack), call.perform_reference(pack), "{name}");
+            assert_eq!(call.perform(pack).0, sarthule::Answer::Done, "{name}");
             return;
         }
     };
@@ -203,7 +218,7 @@ fn pass(bytes: &[u8]) -> u64 {
 /// One pass for each call, over all that it is lent.
 fn passes(work: &Work) {
     match work {
-        Work::Check(pack) => {
+        Work::Pack(_, pack) => {
             black_box(pass(black_box(pack)));
         }
         Work::Calls(state, calls) => {
@@ -220,8 +235,8 @@ fn passes(work: &Work) {
 
 fn time_ours(work: &Work) -> f64 {
     match work {
-        Work::Check(pack) => best(&mut (), |_| (), |_| {
-            black_box(sarthule::check(black_box(pack)));
+        Work::Pack(call, pack) => best(&mut (), |_| (), |_| {
+            black_box(call.perform(black_box(pack)));
         }),
         Work::Calls(state, calls) => {
             let from = Lent::of(state);
@@ -236,8 +251,8 @@ fn time_ours(work: &Work) -> f64 {
 
 fn time_reference(work: &Work) -> f64 {
     match work {
-        Work::Check(pack) => best(&mut (), |_| (), |_| {
-            let _ = black_box(reference::pack::check(black_box(pack)));
+        Work::Pack(call, pack) => best(&mut (), |_| (), |_| {
+            black_box(call.perform_reference(black_box(pack)));
         }),
         Work::Calls(from, calls) => {
             let reset = |state: &mut State| {
@@ -257,11 +272,11 @@ fn time_reference(work: &Work) -> f64 {
 fn once(work: &Work, side: &str) {
     match (work, side) {
         (work, "pass") => bench_measured(&mut || passes(work)),
-        (Work::Check(pack), "ours") => bench_measured(&mut || {
-            black_box(sarthule::check(pack));
+        (Work::Pack(call, pack), "ours") => bench_measured(&mut || {
+            black_box(call.perform(pack));
         }),
-        (Work::Check(pack), _) => bench_measured(&mut || {
-            let _ = black_box(reference::pack::check(pack));
+        (Work::Pack(call, pack), _) => bench_measured(&mut || {
+            black_box(call.perform_reference(pack));
         }),
         (Work::Calls(state, calls), "ours") => {
             let mut lent = Lent::of(state);

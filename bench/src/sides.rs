@@ -1,6 +1,7 @@
 //! One call, done by the library and done by the reference, on the same state.
 
 use crate::inputs::State;
+use reference::figures::figures;
 use reference::{Answer, Call, Refusal, Slots};
 
 /// The slots' bytes, as the library has them.
@@ -48,6 +49,39 @@ impl Lent {
             Call::PutInOrder => sarthule::order(store),
         }
     }
+}
+
+/// A call that is given the pack only.
+#[derive(Clone, Copy)]
+pub enum OnPack {
+    Check,
+    Figures { workflow: u32 },
+}
+
+/// All 0 where there are none: of a refusal, and of a check.
+pub const NO_FIGURES: sarthule::Figures = sarthule::Figures { turns: 0, rows: [0; 8] };
+
+impl OnPack {
+    pub fn perform(self, pack: &[u8]) -> (sarthule::Answer, sarthule::Figures) {
+        match self {
+            Self::Check => (sarthule::check(pack), NO_FIGURES),
+            Self::Figures { workflow } => sarthule::figures(pack, workflow),
+        }
+    }
+
+    /// The same by the reference.
+    pub fn perform_reference(self, pack: &[u8]) -> (sarthule::Answer, sarthule::Figures) {
+        let found = match self {
+            Self::Check => reference::pack::check(pack).map(|()| None),
+            Self::Figures { workflow } => figures(pack, workflow).map(Some),
+        };
+        (answer(found.map(|_| Answer::Done)), library_figures(found.ok().flatten()))
+    }
+}
+
+/// The reference's figures, in the library's form.
+pub fn library_figures(figures: Option<reference::Figures>) -> sarthule::Figures {
+    figures.map_or(NO_FIGURES, |found| sarthule::Figures { turns: found.turns, rows: found.rows })
 }
 
 /// The reference's answer, in the library's form.

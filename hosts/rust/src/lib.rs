@@ -23,6 +23,13 @@ pub struct Parts {
     pub operands: (usize, usize),
 }
 
+/// How much a workflow will take: the most turns over all routes, and for each partition the most rows over all routes.
+#[derive(Clone, Copy, Debug, PartialEq, Eq)]
+pub struct Figures {
+    pub turns: u32,
+    pub rows: [u32; 8],
+}
+
 /// A request: id, workflow and arguments.
 #[derive(Clone, Copy, Debug, PartialEq, Eq)]
 pub struct Request {
@@ -35,6 +42,7 @@ mod c {
     extern "C" {
         pub fn sarthule_check(pack: *const u8, pack_len: usize, answer: *mut u8, answer_len: usize) -> u32;
         pub fn sarthule_open(pack: *const u8, pack_len: usize, workflow: u32, answer: *mut u8, answer_len: usize) -> u32;
+        pub fn sarthule_figures(pack: *const u8, pack_len: usize, workflow: u32, answer: *mut u8, answer_len: usize) -> u32;
         pub fn sarthule_create(
             store: *mut u8,
             store_len: usize,
@@ -166,6 +174,14 @@ pub fn open(pack: &[u8], workflow: u32) -> (Answer, Parts) {
     let n = unsafe { c::sarthule_open(pack.as_ptr(), pack.len(), workflow, a.as_mut_ptr(), a.len()) };
     let at = |i| word(&a, i) as usize;
     (answer(n, &a), Parts { operations: (at(3), at(4)), operands: (at(5), at(6)) })
+}
+
+/// The figures are all 0 where the answer is a refusal.
+pub fn figures(pack: &[u8], workflow: u32) -> (Answer, Figures) {
+    let mut a = [0; 48];
+    let n = unsafe { c::sarthule_figures(pack.as_ptr(), pack.len(), workflow, a.as_mut_ptr(), a.len()) };
+    let rows = std::array::from_fn(|partition| word(&a, 4 + partition));
+    (answer(n, &a), Figures { turns: word(&a, 3), rows })
 }
 
 pub fn create(store: &mut [u8], partitions: usize, rows: usize) -> Answer {
