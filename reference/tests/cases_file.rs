@@ -71,8 +71,14 @@ fn figures_print_their_numbers_and_no_state() {
     let mut state = State::with_move();
     state.pack = pack;
     let figures = |state: &State, workflow| print(on_state(state, Order::Figures { workflow }));
-    assert_eq!(figures(&state, 0), "case 0\nanswer figures 1 0 0 0 0 0 0 0 0\n");
-    assert_eq!(figures(&state, 1), "case 0\nanswer figures 2 0 0 0 0 0 0 0 2\n");
+    assert_eq!(
+        figures(&state, 0),
+        "case 0\nanswer figures 1 0 0 0 0 0 0 0 0\n"
+    );
+    assert_eq!(
+        figures(&state, 1),
+        "case 0\nanswer figures 2 0 0 0 0 0 0 0 2\n"
+    );
     assert_eq!(figures(&state, 2), "case 0\nanswer refused 17 0 0\n");
     state.pack[5] = 0x18;
     assert_eq!(figures(&state, 2), "case 0\nanswer refused 4 0 0\n");

@@ -57,7 +57,7 @@ pub fn refused(random: &mut Random, lane: usize) -> Case {
     let m = bounds.workflows as u32;
     let out_of_range = random.pick(&[m, m, m + 1, 16, 255, 256, 65_536, 1 << 24, u32::MAX]);
     let (pack, workflow) = match lane % 10 {
-        0 | 1 => (encoded_pack(random, bounds), out_of_range.max(m)),
+        0 | 1 => (encoded_pack(random, bounds), out_of_range),
         question => {
             let pack = near_miss(random, question as u8 - 1, lane / 10);
             let workflow = random.pick(&[0, 0, 1, out_of_range]);

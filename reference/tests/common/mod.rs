@@ -1,6 +1,8 @@
 //! What the tests share: document 01's own pack and schedule, and short ways to write more.
 #![allow(dead_code)]
 
+pub mod routes;
+
 use reference::agents::{Slots, ALL_EMPTY};
 use reference::bytes::write_at;
 use reference::pack::encode;
