@@ -10,7 +10,7 @@ import os
 import struct
 
 CHECK, OPEN, CREATE, ARRIVAL, RETRY, TURN, CRASH, RESTART = range(8)
-ORDER = 9
+FIGURES, ORDER = 8, 9
 RETURN = (0xB0, 0)
 SET = (0x00, 0)
 COPY = (0x10, 0)
@@ -74,7 +74,7 @@ def one_call(code, words):
 def call(code, words=(), pack=b"", store=b"", slots=None):
     """A call."""
     head = struct.pack("<BII", 1, len(pack), len(store)) + pack + store
-    return Case(head + records(slots) + one_call(code, words), store if code > OPEN else None)
+    return Case(head + records(slots) + one_call(code, words), None if code in (CHECK, OPEN, FIGURES) else store)
 
 
 def calls(pack, store, made, slots=None):
@@ -98,6 +98,16 @@ def opens(workflow, p):
     return call(OPEN, [workflow], p)
 
 
+def figures(*code):
+    """The figures of a pack's only workflow."""
+    return call(FIGURES, [0], pack(code))
+
+
+def takes(turns, *rows):
+    """The most turns, and the most rows of partition 0 to 7, of which those behind the last that is given are 0."""
+    return "answer figures %s\n" % " ".join(map(str, [turns, *rows, *[0] * (8 - len(rows))]))
+
+
 def parts(*code):
     """The parts that an opening hands out, of the workflow that it opened; of none where it is refused."""
     operations = bytes(b for b, _ in code)
@@ -118,6 +128,8 @@ MOVING = [(0x14, 0), (0x60, 0), (0x85, 4), (0x35, 2), (0x94, 5), (0x75, 0),
           (0x60, 1), (0x85, 1), (0x25, 2), (0x91, 5), (0x75, 0), (0xB0, 0)]
 MOVE = pack(MOVING)
 SEVEN = [7, 0, 100, 200, 30, 0]
+# a PUT of register 1 at register 0's key; then, in another block, PUTs of registers 2 and 3 at the keys in registers 1 and 2
+FIVE = [BEGIN, (0x90, 1), END, BEGIN, PUT, (0x92, 3), END, RETURN]
 EIGHT = [8, 0, 100, 200, 30, 0]
 BOOKED = [(7, 0, [100, 200, 30, 0])]
 # what a runtime before W-201 could book
@@ -728,6 +740,43 @@ log 0 4294967295 0 0
 log 1 8 0 4
 log 1 9 0 3
 """),
+    # W-202: figures
+    ("a block of partition 7", figures((0x60, 7), END, RETURN), takes(2, 0, 0, 0, 0, 0, 0, 0, 1)),
+    ("a key that is PUT twice", figures(BEGIN, (0x90, 1), (0x90, 1), END, RETURN), takes(2, 3)),
+    ("a jump over a block, or through it", figures((0x50, 0x30), BEGIN, END, RETURN), takes(3, 1)),
+    ("a jump that must go to come to the block", figures((0x50, 0x20), RETURN, BEGIN, END, RETURN), takes(3, 1)),
+    ("a jump that values never let go: register 1 is below itself", figures((0x41, 0x21), RETURN, BEGIN, PUT, END, RETURN), takes(3, 2)),
+    ("a block behind RETURN, to which no route leads", figures(RETURN, BEGIN, END, RETURN), takes(1)),
+    ("only RETURN", figures(RETURN), takes(1)),
+    ("255 jumps to the last instruction", figures(*[(0x40, 16 * 255)] * 255, RETURN), takes(256)),
+    ("127 blocks", figures(*[BEGIN, END] * 127, RETURN), takes(128, 127)),
+    ("a block with 16 PUTs behind one of each other partition",
+     figures(*[x for p in range(7) for x in ((0x60, p), END)], (0x60, 7), *[PUT] * 16, END, RETURN), takes(9, *[1] * 7, 17)),
+    ("two blocks of one partition: their sum", figures(BEGIN, PUT, END, BEGIN, PUT, PUT, END, RETURN), takes(3, 5)),
+    ("two routes, of which each has a partition's figure", figures((0x50, 0x40), BEGIN, END, RETURN, (0x60, 1), PUT, END, RETURN),
+     takes(3, 1, 2)),
+    ("the most turns and the most rows on two routes", figures((0x50, 0x50), BEGIN, PUT, END, RETURN, SET, SET, SET, RETURN), takes(5, 2)),
+    ("a jump inside a block, over its PUTs", figures(BEGIN, (0x50, 0x40), PUT, PUT, END, RETURN), takes(2, 3)),
+    ("jumps inside a block, each over a PUT", figures(BEGIN, (0x50, 0x30), PUT, (0x50, 0x50), PUT, END, RETURN), takes(2, 3)),
+    ("the figures of MOVE", figures(*MOVING), takes(4, 2, 2)),
+    ("the second of two workflows", call(FIGURES, [1], pack([RETURN], [SET, (0x60, 2), END, RETURN])), takes(3, 0, 0, 1)),
+    ("figures of a workflow that the pack has not", call(FIGURES, [1], ONE), refused(17)),
+    ("figures of workflow 2^32 - 1", call(FIGURES, [2**32 - 1], ONE), refused(17)),
+    ("figures of an empty pack, 1 before 17", call(FIGURES, [1]), refused(1)),
+    ("figures of a pack whose other workflow has a wrong operation", call(FIGURES, [0], pack([RETURN], [SET, (0xC0, 0)])),
+     refused(4, 1, 1)),
+    ("figures of a pack whose last instruction is no RETURN", call(FIGURES, [0], pack([RETURN, SET])), refused(8, 0, 1)),
+    ("figures get no store and no slots", call(FIGURES, [0], ONE, b"\1\2\3", {0: agent(9, 9, 9, in_use=2)}), takes(1)),
+    ("a workflow that takes five rows", figures(*FIVE), takes(3, 5)),
+    ("its run in five rows, with a crash and a retry in it", calls(pack(FIVE), store(1, 5), [
+        (ARRIVAL, [0, 7, 0, 100, 200, 300, 400]), (TURN, [0]), (CRASH, [0]), (RETRY, [0, 7]), (TURN, [0]), (TURN, [0]), (TURN, [0])]),
+     DONE + MOVED + DONE * 2 + MOVED * 2 + "answer reply 7 100\n",
+     store(1, 5, [(0, log(7, 0), 100), (0, log(7, 1), 100), (0, data(100), 200), (0, data(200), 300), (0, data(300), 400)],
+           [(7, 0, [100, 200, 300, 400])])),
+    ("its run with four rows free", calls(pack(FIVE), store(1, 5, [(0, data(9), 1)]), [
+        (ARRIVAL, [0, 7, 0, 100, 200, 300, 400]), (TURN, [0]), (TURN, [0])]),
+     DONE + MOVED + refused(21),
+     store(1, 5, [(0, log(7, 0), 100), (0, data(9), 1), (0, data(100), 200)], [(7, 0, [100, 200, 300, 400])])),
     # 22, 23 and 9 of a schedule
     ("a schedule with no bytes", Case(struct.pack("<BII", 0, len(ONE), 0) + ONE), "refused 22\n"),
     ("no pack and no schedule", Case(struct.pack("<BII", 0, 0, 0)), "refused 1\n"),
