@@ -94,7 +94,7 @@ some-through (y ∷ rest) l = go (isEnd y)
 module _ (code : Code) (checked : Checked code) (begin p : ℕ) (opened : begin < length code)
     (begins : instructionAt code begin ≡ BEGIN p) where
   -- between BEGIN and the first END behind it, that END included
-  record Between (j : ℕ) : Type 0 where
+  pub record Between (j : ℕ) : Type 0 where
     pub behind : begin < j
     pub before : j < behindEnd code begin
 
@@ -102,7 +102,7 @@ module _ (code : Code) (checked : Checked code) (begin p : ℕ) (opened : begin 
     abbrev x : Instruction
     x = instructionAt code j
 
-    in-code : j < length code
+    pub in-code : j < length code
     in-code = let c = block-closed code checked begin p opened begins in omega (arith, c .0, h .before)
 
     -- j - begin - 1 instructions lie between
@@ -143,21 +143,21 @@ module _ (code : Code) (checked : Checked code) (begin p : ℕ) (opened : begin 
     not-end e = let t = here ∙ ap (λ o. if_then_else_ (closing o) 1 (suc (throughEnd (drop (suc j) code)))) e in omega (arith, t, same-end)
 
     -- on to the next instruction of the block
-    next-between : GoesOn (shape x) → Between (suc j)
+    pub next-between : GoesOn (shape x) → Between (suc j)
     next-between g =
         let l = same-side code checked j in-code g .0 in
         let t = some-through (drop (suc j) code) (omega (arith, length-drop (suc j) code, l)) in
         record { behind = omega (arith, h .behind); before = omega (arith, t, not-end (g .same-side)) }
 
     -- a jump passes no END
-    jump-between : GoesOn (shape x) → (target : ℕ) → shape x .target ≡ some target → Between target
+    pub jump-between : GoesOn (shape x) → (target : ℕ) → shape x .target ≡ some target → Between target
     jump-between g target e =
         let t = subst (GoesTo code j) e (checked .stands j in-code .1) in
         let l : target < behindEnd code j = subst (λ w. Lands w code j target) side (t .2) in
         record { behind = omega (arith, h .behind, t .0); before = omega (arith, l, not-end (g .same-side)) }
 
     -- nothing there stands outside
-    not-outside : {A : Type 0} → shape x .stands ≡ some outside → A
+    pub not-outside : {A : Type 0} → shape x .stands ≡ some outside → A
     not-outside e = two-sides side (own-side code checked j in-code outside e)
 
   -- one instruction, if the rest comes to END
@@ -173,7 +173,7 @@ module _ (code : Code) (checked : Checked code) (begin p : ℕ) (opened : begin 
       rec _ (subst (GoesTo code (w .place .position)) p (checked .stands (w .place .position) (in-code (w .place .position) h) .1) .0) b
   one-inside w f rec h (reads k to) (s, on, p) =
       rec _ (omega (arith, p (w .table k))) (subst Between (sym (p (w .table k))) (next-between (w .place .position) h on))
-  one-inside w f rec h (puts k v) (s, on) = rec _ (omega arith) (next-between (w .place .position) h on)
+  one-inside w f rec h (puts k v) (s, on, one) = rec _ (omega arith) (next-between (w .place .position) h on)
   one-inside w f rec h (closes v) (s, b, ends) =
       let last = at-end (w .place .position) h b in
       record {
@@ -198,7 +198,7 @@ module _ (code : Code) (checked : Checked code) (begin p : ℕ) (opened : begin 
       one-inside w (runFrom code ahead) (λ v f b. comes-to-end ahead v b (omega arith)) h
       (actAt code (w .place)) (agrees (instructionAt code (w .place .position)) (w .place))
 
-  first-between : Between (suc begin)
+  pub first-between : Between (suc begin)
   first-between =
       let l = begins-inside code checked begin p opened begins .0 in
       let t = some-through (drop (suc begin) code) (omega (arith, length-drop (suc begin) code, l)) in

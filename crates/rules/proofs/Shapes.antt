@@ -9,6 +9,7 @@ use Rattle.questions.specs.Basics.{if_then_else_}
 use Rattle.rules.specs.Instructions.{Place, register, goto, next, Instruction, SET, COPY, ADD, SUB, JLT, JEQ, BEGIN, END, GET, PUT}
 use Rattle.rules.specs.Instructions.{HAS, RETURN, Act, moves, opens, closes, reads, puts, returns, act}
 use Rattle.rules.specs.Shapes.{outside, inside, Shape, shape, GoesOn}
+use Rattle.rules.specs.Routes.{putsOf}
 
 -- an instruction, and what it asks for at a place
 abbrev pub Agrees : Instruction → Place → Act → Type 0
@@ -18,7 +19,7 @@ Agrees x at (closes v) =
     (shape x .stands ≡ some inside) × (shape x .behind ≡ some outside) × ((d : ℕ) × (x ≡ END d) × (v ≡ register at d))
 Agrees x at (reads k onFound) =
     (shape x .stands ≡ some inside) × GoesOn (shape x) × ((found : Option ℕ) → onFound found .position ≡ suc (at .position))
-Agrees x at (puts k v) = (shape x .stands ≡ some inside) × GoesOn (shape x)
+Agrees x at (puts k v) = (shape x .stands ≡ some inside) × GoesOn (shape x) × (putsOf x ≡ 1)
 Agrees x at (returns v) = shape x .stands ≡ some outside
 
 on : {s : Shape} → s .behind ≡ none → s .leadsOn ≡ true → GoesOn s
@@ -42,6 +43,6 @@ agrees (JEQ d s target) at = (on refl refl, either at target (eqb (register at d
 agrees (BEGIN p) at = refl
 agrees (END d) at = (refl, refl, (d, refl, refl))
 agrees (GET d s) at = (refl, on refl refl, λ found. refl)
-agrees (PUT d s) at = (refl, on refl refl)
+agrees (PUT d s) at = (refl, on refl refl, refl)
 agrees (HAS d s) at = (refl, on refl refl, λ found. refl)
 agrees (RETURN d) at = refl
