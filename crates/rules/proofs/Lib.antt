@@ -12,6 +12,7 @@ pub mod Calls
 pub mod Logged
 pub mod Blocks
 pub mod Routes
+pub mod Taken
 pub mod Theorem
 pub mod RequestZero
 pub mod ByLog
