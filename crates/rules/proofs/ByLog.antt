@@ -46,7 +46,7 @@ stays-on s s′ s″ x y id q e =
     (k .0, λ p t r f. k .1 p t r (h .1 p t r f))
 
 -- a log row that isn't found isn't there
-not-found : (o : Option ℕ) → sought o ≡ none → o ≡ none
+pub not-found : (o : Option ℕ) → sought o ≡ none → o ≡ none
 not-found none e = refl
 not-found (some v) e = none-some _ e refl
 

@@ -16,6 +16,7 @@ pub mod Taken
 pub mod Theorem
 pub mod RequestZero
 pub mod ByLog
+pub mod Room
 pub mod NeverWritten
 pub mod WholeCase
 pub mod States
