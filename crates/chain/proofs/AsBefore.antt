@@ -6,7 +6,6 @@ use mathlib.Core.Path.{_≡_, refl, sym, _∙_, ap, subst}
 use Prim.Native.Nat.{ℕ, suc}
 use native.Mathlib.Omega.{arith}
 use lib.ListN.{replicate}
-use Rattle.rules.proofs.States.{same-state}
 use Rattle.meaning.proofs.Tests.{booked-of-13}
 use Rattle.contents.specs.Contents.{contentsOf}
 use Rattle.questions.specs.Basics.{isSome}
@@ -35,14 +34,14 @@ use Rattle.meaning.proofs.Asked.{lent-pack, lent-13}
 use Rattle.meaning.proofs.Sense.{booked-workflow}
 use Rattle.chain.specs.Demands.{InTime}
 use Rattle.chain.specs.RequestZero.{ChainOn, from-here, on-from, AsBefore}
-use Rattle.chain.proofs.Each.{met-none}
+use Rattle.chain.proofs.Each.{met-none, left-state}
 
 module _ (pack older : List ℕ) where
-  abbrev first : Rules.Store
+  abbrev pub first : Rules.Store
   first = contentsOf (storeOf older)
 
   -- agents and replies go by the log
-  abbrev GoesByLog : List Event → Lent → Type 0
+  abbrev pub GoesByLog : List Event → Lent → Type 0
   GoesByLog events lent = ByLog (packOf pack) first (stateOf lent) (talliesOf events) (repliesOf events)
 
   module _ (events : List Event) (lent : Lent) (inv : GoesByLog events lent) where
@@ -58,13 +57,10 @@ module _ (pack older : List ℕ) where
             ByLog (packOf pack) first s (tallied (talliesOf events) (feedOf (record { made = c; answer = x })))
             (withAnswer x (repliesOf events))
 
-        left : refusalFor pack lent c ≡ none → stateOf lent′ ≡ ruled pack lent c .state
-        left e = let l = h .carried e .1 in same-state (l .written .holds) (l .slots)
-
         go : (o : Option No) → refusalFor pack lent c ≡ o → Goes (stateOf lent′) (answerOf answer)
         go none e =
             subst (Goes (stateOf lent′)) (sym (h .carried e .0))
-            (subst (λ (s : State). Goes s (ruled pack lent c .answer)) (sym (left e))
+            (subst (λ (s : State). Goes s (ruled pack lent c .answer)) (sym (left-state pack lent c answer lent′ h e))
             (subst (λ (f : Feed). ByLog (packOf pack) first (ruled pack lent c .state) (tallied (talliesOf events) f)
             (withAnswer (ruled pack lent c .answer) (repliesOf events)))
             (sym (feed-accepted c (ruled pack lent c .answer) (rule-accepted (packOf pack) (stateOf lent) c)))
@@ -122,7 +118,7 @@ module _ (pack older : List ℕ) where
                 );
           }
 
-  by-log-on : (events : List Event) (lent : Lent) → ChainOn pack older events lent →
+  pub by-log-on : (events : List Event) (lent : Lent) → ChainOn pack older events lent →
       GoesByLog events lent
   unfolding talliesOf repliesOf stateOf
   by-log-on events lent from-here =

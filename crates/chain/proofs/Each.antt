@@ -9,13 +9,14 @@ use Rattle.rules.specs.Calls.{Call}
 use Rattle.rules.specs.Calls as Calls
 use Rattle.rules.specs.Plain.{accepted}
 use Rattle.rules.proofs.Calls.{rule-accepted}
+use Rattle.rules.proofs.States.{same-state}
 use Rattle.questions.proofs.Updates.{false-true}
 use Rattle.pack.specs.Meaning.{packOf}
 use Rattle.agents.specs.declared.Answer.{Answer}
 use Rattle.agents.specs.Answers.{answerOf}
 use Rattle.meaning.specs.State.{stateOf, Lent}
 use Rattle.meaning.specs.Questions.{refusalFor}
-use Rattle.meaning.specs.Carried.{Carried}
+use Rattle.meaning.specs.Carried.{Carried, ruled}
 use Rattle.chain.specs.Demands.{Demand1, Demand2}
 
 same-no : (n m : No) → Calls.refused n ≡ Calls.refused m → n ≡ m
@@ -34,6 +35,11 @@ module _ (pack : List ℕ) (lent : Lent) (c : Call) (answer : Answer) (lent′ :
       go : (o : Option No) → refusalFor pack lent c ≡ o → refusalFor pack lent c ≡ none
       go none e = e
       go (some n) e = false-true (ap accepted (h .refused n e .0)) t
+
+  -- what such a call leaves is what the rule leaves
+  pub left-state : refusalFor pack lent c ≡ none → stateOf lent′ ≡ ruled pack lent c .state
+  unfolding stateOf
+  left-state e = let l = h .carried e .1 in same-state (l .written .holds) (l .slots)
 
   pub demand1 : Demand1 pack lent c answer lent′
   demand1 = record { says-no = h .refused; says-why = λ n e. go n e (refusalFor pack lent c) refl }

@@ -27,6 +27,7 @@ use Rattle.meaning.specs.State.{stateOf, Lent}
 use Rattle.meaning.specs.Questions.{refusalFor}
 use Rattle.meaning.specs.Carried.{Carried, ruled}
 use Rattle.chain.specs.Chain.{Chain, begins, goes-on}
+use Rattle.chain.proofs.Each.{left-state}
 
 -- ── a fresh store ──
 
@@ -121,15 +122,11 @@ module _ (pack : List ℕ) (C : ℕ) (events : List Event) (lent : Lent) (m : Mi
     pub answered-as : refusalFor pack lent c ≡ none → answerOf answer ≡ answerTo (packOf pack) C (m .calls) c
     answered-as e = h .carried e .0 ∙ ap (λ (o : Outcome). o .answer) (same-outcome e)
 
-    left-state : refusalFor pack lent c ≡ none → stateOf lent′ ≡ ruled pack lent c .state
-    unfolding stateOf
-    left-state e = let l = h .carried e .1 in same-state (l .written .holds) (l .slots)
-
     pub mirror-next : Mirror pack C (event ∷ events) lent′
     mirror-next = go (refusalFor pack lent c) refl
       where
         go : (o : Option No) → refusalFor pack lent c ≡ o → Mirror pack C (event ∷ events) lent′
-        go none e = mirrored (answered-as e) (left-state e ∙ ap (λ (o : Outcome). o .state) (same-outcome e))
+        go none e = mirrored (answered-as e) (left-state pack lent c answer lent′ h e ∙ ap (λ (o : Outcome). o .state) (same-outcome e))
         go (some n) e = mirror-stopped n (h .refused n e .0) (kept-state (h .refused n e .1))
 
 pub mirror : (pack : List ℕ) (P C : ℕ) (events : List Event) (lent : Lent) → Chain pack P C events lent → Mirror pack C events lent

@@ -23,7 +23,7 @@ use Rattle.rules.specs.Calls.{codeBy, Agent, State, Call, turn, withStor
 use Rattle.rules.specs.Calls.{turnOn, turnIn, canWrite, canDo, canTurn, rule}
 use Rattle.rules.specs.Checked.{sideAt, Checked}
 use Rattle.rules.specs.Routes.{Route, putsOn, byRows, countOn}
-use Rattle.rules.specs.Room.{FindsRoom, BlockAhead, NoOther}
+use Rattle.rules.specs.Room.{FindsRoom, NoOther}
 use Rattle.questions.proofs.Updates.{none-some, le-cases, eqb-same, eqb-cases, update-same, update-other, update-each}
 use Rattle.rules.proofs.Follow.{Free, Grows, free-none, row-grows, row-later, row-here, follow-stays, follow-before, follow-below}
 use Rattle.rules.proofs.Follow.{follow-next}
@@ -47,49 +47,49 @@ rows-through code i j k x y r = let v = y r in let w = x (v .0) in (w .0, λ p. 
 
 module _ (code : Code) (checked : Checked code) (P : ℕ) (below : OpensBelow code P) (log : Log) (id : ℕ) (q : Request) where
   -- a move by the log without a row of the step leaves the step, and all rows that are still to come
-  coasts : (c : Course) → c .place .position < length code → sideAt code (c .place .position) ≡ outside → (t : ℕ) →
+  single-move : (c : Course) → c .place .position < length code → sideAt code (c .place .position) ≡ outside → (t : ℕ) →
       ((p : ℕ) → p < P → Free log p id t) → (c′ : Course) (t′ : ℕ) (y : Next) → nextOf code c ≡ y → byNext log id t y ≡ some (at c′ t′) →
       (t′ ≡ t) × SameRows code (c .place .position) (c′ .place .position)
   unfolding behind
-  coasts c h o t dry c′ t′ (goes to) e s =
+  single-move c h o t unlogged c′ t′ (goes to) e s =
       let same : to ≡ c′ = cc in
       let u : t ≡ t′ = cc in (
         sym u,
         λ r. let m = move-makes code checked c h o c′ (e ∙ ap goes same) r in (m .0, λ p. omega (arith, m .1 (byRows p))),
       )
-  coasts c h o t dry c′ t′ (says v) e s = absurd (let z : _≡_ {A = ℕ} 0 1 = cc in omega arith)
-  coasts c h o t dry c′ t′ (does from p onto) e s =
+  single-move c h o t unlogged c′ t′ (says v) e s = absurd (let z : _≡_ {A = ℕ} 0 1 = cc in omega arith)
+  single-move c h o t unlogged c′ t′ (does from p onto) e s =
       let l = below (c .place .position) p (begins-here code c from p onto e) in
-      none-some (at c′ t′) (ap (behind onto t) (free-none log p id t (dry p l))) s
+      none-some (at c′ t′) (ap (behind onto t) (free-none log p id t (unlogged p l))) s
 
   -- from a stage on, if no row is logged of its step and of later ones
   module _ (far : ℕ) (c : Course) (t : ℕ) (f : follow log id code q far ≡ some (at c t))
-      (dry : (p u : ℕ) → p < P → t ≤ u → Free log p id u) where
+      (unlogged : (p u : ℕ) → p < P → t ≤ u → Free log p id u) where
     abbrev Ahead : Course → (step : ℕ) → Type 0
     Ahead c′ t′ = (t′ ≡ t) × SameRows code (c .place .position) (c′ .place .position)
 
-    coast : (k : ℕ) (c′ : Course) (t′ : ℕ) → follow log id code q (k + far) ≡ some (at c′ t′) → Ahead c′ t′
-    coast zero c′ t′ e =
+    single-moves : (k : ℕ) (c′ : Course) (t′ : ℕ) → follow log id code q (k + far) ≡ some (at c′ t′) → Ahead c′ t′
+    single-moves zero c′ t′ e =
         let z : follow log id code q far ≡ some (at c′ t′) =
         subst (λ n. follow log id code q n ≡ some (at c′ t′)) (omega arith) e in
         let a : c ≡ c′ = cc in
         let u : t ≡ t′ = cc in
         (sym u, subst (λ (x : Course). SameRows code (c .place .position) (x .place .position)) a (λ r. (r, λ p. refl)))
-    coast (suc k) c′ t′ e =
+    single-moves (suc k) c′ t′ e =
         let e′ : follow log id code q (suc (k + far)) ≡ some (at c′ t′) =
         subst (λ n. follow log id code q n ≡ some (at c′ t′)) (omega arith) e in
         let b = follow-before log id code q (k + far) (at c′ t′) e′ in
-        let i = coast k (b .0) (b .1) (b .2) in
+        let i = single-moves k (b .0) (b .1) (b .2) in
         let h = follow-position code checked log id q (k + far) (b .0) (b .1) (b .2) in
-        let m = coasts (b .0) (h .1) (h .2) (b .1) (λ p l. dry p (b .1) l (omega (arith, i .0))) c′ t′ (nextOf code (b .0)) refl
+        let m = single-move (b .0) (h .1) (h .2) (b .1) (λ p l. unlogged p (b .1) l (omega (arith, i .0))) c′ t′ (nextOf code (b .0)) refl
         (sym (follow-next log id code q (k + far) (b .0) (b .1) _ _ (b .2) refl refl) ∙ e′) in
         (m .0 ∙ i .0, rows-through code _ _ _ (i .1) (m .1))
 
     -- an agent before a block that isn't logged is at that stage, or has come from there by single instructions
-    at-front : (n : ℕ) (c′ : Course) (t′ : ℕ) (from : Place) (p : ℕ) (onto : Result → Course) →
+    before-block : (n : ℕ) (c′ : Course) (t′ : ℕ) (from : Place) (p : ℕ) (onto : Result → Course) →
         follow log id code q n ≡ some (at c′ t′) → nextOf code c′ ≡ does from p onto → found log p id t′ ≡ none → Ahead c′ t′
     unfolding behind
-    at-front n c′ t′ from p onto e o z = go (decLt n far)
+    before-block n c′ t′ from p onto e o z = go (decLt n far)
       where
         stops : follow log id code q (suc n) ≡ none
         stops = follow-next log id code q n c′ t′ (does from p onto) none e o (ap (behind onto t′) z)
@@ -100,7 +100,7 @@ module _ (code : Code) (checked : Checked code) (P : ℕ) (below : OpensBelow co
 
         go : Dec (n < far) → Ahead c′ t′
         go (yes l) = later (le-cases (suc n) far l)
-        go (no l) = coast (n - far) c′ t′ (subst (λ m. follow log id code q m ≡ some (at c′ t′)) (omega arith) e)
+        go (no l) = single-moves (n - far) c′ t′ (subst (λ m. follow log id code q m ≡ some (at c′ t′)) (omega arith) e)
 
 -- ── The invariant ──
 
@@ -120,7 +120,7 @@ module _ (pack : Pack) (P id : ℕ) (q : Request) (checked : Checked (requestCod
     course : Course
     step : ℕ
     stands : follow (s .store .log) id code q far ≡ some (at course step)
-    dry : (p u : ℕ) → p < P → step ≤ u → Free (s .store .log) p id u
+    unlogged : (p u : ℕ) → p < P → step ≤ u → Free (s .store .log) p id u
     room : (p : ℕ) → p < P → (r : Route code (course .place .position)) →
         s .store .used p + countOn (byRows p) code _ r ≤ s .store .room
     agents : (slot : ℕ) (a : Agent) → s .slots slot ≡ some a → a .id ≡ id → Led (s .store .log) a
@@ -136,7 +136,7 @@ module _ (pack : Pack) (P id : ℕ) (q : Request) (checked : Checked (requestCod
         course = h .course;
         step = h .step;
         stands = h .stands;
-        dry = h .dry;
+        unlogged = h .unlogged;
         room = h .room;
         agents = g;
       }
@@ -191,10 +191,10 @@ module _ (pack : Pack) (P id : ℕ) (q : Request) (checked : Checked (requestCod
     -- a block that isn't logged
     module _ (from : Place) (p : ℕ) (onto : Result → Course) (o : nextOf code c ≡ does from p onto)
         (not-logged : found (s .store .log) p id t ≡ none) where
-      front : (t ≡ h .step) × SameRows code (h .course .place .position) (c .place .position)
-      front =
-          at-front code checked P below (s .store .log) id q (h .far) (h .course) (h .step) (h .stands) (h .dry) n c t from p onto f o
-          not-logged
+      furthest : (t ≡ h .step) × SameRows code (h .course .place .position) (c .place .position)
+      furthest =
+          before-block code checked P below (s .store .log) id q (h .far) (h .course) (h .step) (h .stands) (h .unlogged)
+          n c t from p onto f o not-logged
 
       in-parts : p < P
       in-parts = below (c .place .position) p (begins-here code c from p onto o)
@@ -222,7 +222,7 @@ module _ (pack : Pack) (P id : ℕ) (q : Request) (checked : Checked (requestCod
       takes k l r = go (eqb p k) (lead r .1 (byRows k))
         where
           free : s .store .used k + countOn (byRows k) code (c .place .position) (lead r .0) ≤ s .store .room
-          free = let w = front .1 (lead r .0) in omega (arith, h .room k l (w .0), w .1 k)
+          free = let w = furthest .1 (lead r .0) in omega (arith, h .room k l (w .0), w .1 k)
 
           go : (e : Bool) →
               countOn (byRows k) code (c .place .position) (lead r .0)
@@ -283,7 +283,7 @@ module _ (pack : Pack) (P id : ℕ) (q : Request) (checked : Checked (requestCod
             course = to;
             step = suc t;
             stands = next-stage;
-            dry = λ k u i l. row-later (s .store .log) p id t (b .result) k u l (h .dry k u i (omega (arith, front .0)));
+            unlogged = λ k u i l. row-later (s .store .log) p id t (b .result) k u l (h .unlogged k u i (omega (arith, furthest .0)));
             room = room-after;
             agents =
                 update-each (s .slots) slot (some (agentAt to (suc t))) (λ j a. a .id ≡ id → Led log′ a)
@@ -326,7 +326,7 @@ module _ (pack : Pack) (P id : ℕ) (q : Request) (checked : Checked (requestCod
           course = h .course;
           step = h .step;
           stands = h .stands;
-          dry = h .dry;
+          unlogged = h .unlogged;
           room = h .room;
           agents = h .agents;
         }
@@ -432,7 +432,7 @@ module _ (pack : Pack) (P id : ℕ) (q : Request) (checked : Checked (requestCod
         course = start q;
         step = 0;
         stands = refl;
-        dry = λ p u i l. not-found (s .store .log .usual p id u) (finds .no-log p u i);
+        unlogged = λ p u i l. not-found (s .store .log .usual p id u) (finds .no-log p u i);
         room = λ p i r. let g = finds .free p i in omega (arith, g .2, g .1 .none-exceeds r);
         agents =
             update-each (s .slots) slot (some (agentAt (start q) 0)) (λ j a. a .id ≡ id → Led (s .store .log) a)
