@@ -148,8 +148,8 @@ module _ (pack : Pack) (P id : ℕ) (q : Request) (checked : Checked (requestCod
       (update-each (s .slots) slot o (λ j a. a .id ≡ id → Led (s .store .log) a) g (λ j a n e. h .agents j a e))
 
   -- nobody, an agent of the request, one of another
-  emptied : (s : State) → HasRoom s → (slot : ℕ) → HasRoom (withSlot s slot none)
-  emptied s h slot = in-slot s h slot none (λ a e. none-some a refl e)
+  slot-emptied : (s : State) → HasRoom s → (slot : ℕ) → HasRoom (withSlot s slot none)
+  slot-emptied s h slot = in-slot s h slot none (λ a e. none-some a refl e)
 
   its-own : (log : Log) (b : Agent) → Led log b → (a : Agent) → some b ≡ some a → a .id ≡ id → Led log a
   its-own log b l a e f = subst (Led log) (Option·some-injective b a e) l
@@ -164,7 +164,7 @@ module _ (pack : Pack) (P id : ℕ) (q : Request) (checked : Checked (requestCod
         ((from : Place) (p : ℕ) (onto : Result → Course) → x ≡ does from p onto → found (s .store .log) p (a .id) (a .step) ≡ none → ⊥) →
         HasRoom (turnOn s slot a its x .state)
     unfolding turnOn throughBlock
-    other-turn (says r) k = emptied s h slot
+    other-turn (says r) k = slot-emptied s h slot
     other-turn (goes to) k = in-slot s h slot _ (another (s .store .log) _ other)
     other-turn (does from p onto) k = go (found (s .store .log) p (a .id) (a .step)) refl
       where
@@ -295,7 +295,7 @@ module _ (pack : Pack) (P id : ℕ) (q : Request) (checked : Checked (requestCod
 
     own-turn : (x : Next) → nextOf code c ≡ x → HasRoom (turnOn s slot (agentAt c t) code x .state)
     unfolding turnOn
-    own-turn (says r) o = emptied s h slot
+    own-turn (says r) o = slot-emptied s h slot
     own-turn (goes to) o = own-moves to t (goes to) o refl
     own-turn (does from p onto) o = go (found (s .store .log) p id t) refl
       where
