@@ -3,6 +3,7 @@
 use mathlib.Core.Bool.{Bool, true, false}
 use mathlib.Core.Path.{_≡_, refl, sym, _∙_, ap, ap₂, subst}
 use mathlib.Core.List.{[], _∷_}
+use mathlib.Core.Logic.{_⊎_, inl, inr}
 use mathlib.Core.Option.{Option, none, some, Option·some-injective}
 use Prim.Native.Nat.{ℕ, zero, suc, _+_, _-_, _≤_, _<_}
 use native.Mathlib.Nat.{zero-add}
@@ -12,7 +13,7 @@ use lib.Dec.{eqb, ltb}
 use lib.ListN.{length, drop, length-drop}
 use lib.Seq.{drop-cons, drop-drop}
 use Rattle.questions.specs.Basics.{if_then_else_}
-use Rattle.questions.proofs.Updates.{none-some, false-true}
+use Rattle.questions.proofs.Updates.{none-some, false-true, eqb-cases}
 use Rattle.rules.specs.Instructions.{Code, Instruction, SET, COPY, ADD, SUB, JLT, JEQ, BEGIN, END, GET, PUT, HAS, RETURN}
 use Rattle.rules.specs.Instructions.{instructionAt}
 use Rattle.rules.specs.Shapes.{Side, outside, inside, Shape, shape, GoesOn}
@@ -48,11 +49,11 @@ pub turns-rise : Rising byTurns
 turns-rise p n m l = omega arith
 
 pub rows-rise : (q : ℕ) → Rising (byRows q)
-rows-rise q p n m l = go (eqb p q)
+rows-rise q p n m l = go (eqb-cases p q)
   where
-    go : (b : Bool) → if_then_else_ b (1 + n) 0 ≤ if_then_else_ b (1 + m) 0
-    go true = omega arith
-    go false = omega arith
+    go : ((p ≡ q) × (eqb p q ≡ true)) ⊎ ((p ≡ q → ⊥) × (eqb p q ≡ false)) → byRows q .block p n ≤ byRows q .block p m
+    go (inl h) = rw (h .1) (omega arith)
+    go (inr h) = rw (h .1) (omega arith)
 
 -- it counts at most one for an instruction, and for a block one more than its PUTs
 pub record Small (c : Counting) : Type 0 where
@@ -63,11 +64,11 @@ pub turns-small : Small byTurns
 turns-small = record { one = omega arith; block = λ p n. omega arith }
 
 pub rows-small : (q : ℕ) → Small (byRows q)
-rows-small q = record { one = omega arith; block = λ p n. go n (eqb p q) }
+rows-small q = record { one = omega arith; block = λ p n. go p n (eqb-cases p q) }
   where
-    go : (n : ℕ) (b : Bool) → if_then_else_ b (1 + n) 0 ≤ suc n
-    go n true = omega arith
-    go n false = omega arith
+    go : (p n : ℕ) → ((p ≡ q) × (eqb p q ≡ true)) ⊎ ((p ≡ q → ⊥) × (eqb p q ≡ false)) → byRows q .block p n ≤ suc n
+    go p n (inl h) = rw (h .1) (omega arith)
+    go p n (inr h) = rw (h .1) (omega arith)
 
 -- two that are the most are one
 pub most-same : {A : Type 0} {count : A → ℕ} {n m : ℕ} → Most count n → Most count m → n ≡ m

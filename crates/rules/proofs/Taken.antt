@@ -16,12 +16,12 @@ use Rattle.rules.specs.Courses.{Course, going, passed, Next, goes, does,
 use Rattle.rules.specs.Store.{Request, Log}
 use Rattle.rules.specs.Logged.{start, at, byNext, follow}
 use Rattle.rules.specs.Checked.{sideAt, GoesTo, Checked}
-use Rattle.rules.specs.Routes.{Way, Route, putsOf, putsOn, Counting, byTurns, countOn, MostOf}
+use Rattle.rules.specs.Routes.{Way, Route, putsOf, putsOn, Counting, byTurns, countOn, MostOf, MostFrom}
 use Rattle.rules.proofs.Shapes.{Agrees, agrees}
 use Rattle.rules.proofs.Follow.{behind-at, follow-before, follow-next}
 use Rattle.rules.proofs.Positions.{own-side, two-sides, does-begins, follow-position, goes-forward, does-forward}
 use Rattle.rules.proofs.Blocks.{Between, in-code, next-between, jump-between, not-outside, first-between}
-use Rattle.rules.proofs.Routes.{turns-rise, MostOn, best-exists}
+use Rattle.rules.proofs.Routes.{turns-rise, best-exists}
 
 -- ── The run of a block is a way ──
 
@@ -104,7 +104,7 @@ module _ (code : Code) (checked : Checked code) where
   pub some-route : (i : ℕ) → i < length code → sideAt code i ≡ outside → Route code i
   some-route i h o =
       let m = best-exists code checked byTurns turns-rise (length code) i h (omega arith) in
-      subst (λ side. MostOn byTurns code side i (m .0)) o (m .1) .one
+      subst (λ side. MostFrom byTurns code side i (m .0)) o (m .1) .one
 
   -- and through each block a way
   some-way : (i p : ℕ) → i < length code → instructionAt code i ≡ BEGIN p → Way code (suc i)
