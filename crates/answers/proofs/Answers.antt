@@ -40,7 +40,8 @@ low-parts answer x y z u =
     (put-mod 4 (put 4 (put 4 (put 4 answer 12 x) 16 y) 20 z) 24 u)
 
 -- a word, and eight behind it
-pub nine-words : (answer : List ℕ) (turns : ℕ) (rows : List ℕ) → puts 4 (put 4 answer 12 turns) 16 rows 8 ≡ puts 4 answer 12 (turns ∷ rows) 9
+pub nine-words : (answer : List ℕ) (turns : ℕ) (rows : List ℕ) →
+    puts 4 (put 4 answer 12 turns) 16 rows 8 ≡ puts 4 answer 12 (turns ∷ rows) 9
 unfolding Records.puts
 nine-words answer turns rows = refl
 

@@ -188,7 +188,11 @@ module _ (code : Code) where
   pub puts-next : (i n : ℕ) → GoesOn (shape (X i)) → shape (X i) .target ≡ none → Puts (suc i) n → Puts i (putsOf (X i) + n)
   unfolding putsOn
   puts-next i n g o m =
-      record { one = Way.passes i g (m .one); reaches = ap (λ k. putsOf (X i) + k) (m .reaches); none-exceeds = bound i g o (m .none-exceeds) }
+      record {
+        one = Way.passes i g (m .one);
+        reaches = ap (λ k. putsOf (X i) + k) (m .reaches);
+        none-exceeds = bound i g o (m .none-exceeds);
+      }
     where
       bound : (i : ℕ) → GoesOn (shape (X i)) → shape (X i) .target ≡ none → ((w : Way code (suc i)) → putsOn code (suc i) w ≤ n) →
           (w : Way code i) → putsOn code i w ≤ putsOf (X i) + n
@@ -443,7 +447,8 @@ module _ (code : Code) (checked : Checked code) where
   way-within : (i : ℕ) → i < length code → sideAt code i ≡ inside → (w : Way code i) → putsOn code i w < throughEnd (drop i code)
   unfolding putsOn
   way-within _ h s (Way.ends i d e) =
-      let t = ap throughEnd (drop-cons code i (RETURN 0) h) ∙ ap (λ y. if_then_else_ (isEnd y) 1 (suc (throughEnd (drop (suc i) code)))) e in
+      let t = ap throughEnd (drop-cons code i (RETURN 0) h)
+      ∙ ap (λ y. if_then_else_ (isEnd y) 1 (suc (throughEnd (drop (suc i) code)))) e in
       omega (arith, t)
   way-within _ h s (Way.passes i g w) =
       let n = same-side code checked i h g in

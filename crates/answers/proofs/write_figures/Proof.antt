@@ -19,4 +19,5 @@ write-figures-spec =
     let e = c .before .before in
     let w = e .before .before .before .before in
     let a = w .before .before .before .args in
-    e .write-eight .ensures ∙ ap (λ (l : List ℕ). puts 4 l 16 (a .rows) 8) (w .write32 .ensures) ∙ nine-words (a .answer .now) (a .turns) (a .rows)))
+    e .write-eight .ensures ∙ ap (λ (l : List ℕ). puts 4 l 16 (a .rows) 8) (w .write32 .ensures)
+    ∙ nine-words (a .answer .now) (a .turns) (a .rows)))

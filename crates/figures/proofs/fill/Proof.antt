@@ -62,7 +62,8 @@ side-known : (i : tie.After-inside-before Inv-loop μ-loop) →
 side-known i =
     let t = test-before i in
     i .inside-before .ensures
-    ∙ ap (λ n. if_then_else_ (eqb n opEnd) true (if_then_else_ (eqb n opBegin) false (l t .loop .inside))) (i .before .operation-of .ensures)
+    ∙ ap (λ n. if_then_else_ (eqb n opEnd) true (if_then_else_ (eqb n opBegin) false (l t .loop .inside)))
+    (i .before .operation-of .ensures)
     ∙ side-before _ _ (s t .pre .0) (k t) (in-code t) (l t .loop .inside)
     (l t .loop .inv .1 ∙ ap (insideAt (s t .args .ops .now)) (is-next t))
 

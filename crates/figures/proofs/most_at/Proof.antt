@@ -53,7 +53,8 @@ by-block c =
     subst
     (λ n. MostAt (s t .args .by) (s t .args .ops .now) (s t .args .operands .now) (s t .args .index)
     (n + getD (s t .args .most .now) (s t .args .behind) 0))
-    (ap (λ w. countingOf (s t .args .by) .block w (getD (s t .args .most .now) (s t .args .index + 1) 0)) (sym (c .before .before .word-in .ensures))
+    (ap (λ w. countingOf (s t .args .by) .block w (getD (s t .args .most .now) (s t .args .index + 1) 0))
+    (sym (c .before .before .word-in .ensures))
     ∙ sym (c .block-of .ensures))
     (begin-most _ _ _ _ _ (s t .pre .0) (s t .args .by) _ (s t .pre .1) (is-begin t))
 
@@ -63,7 +64,8 @@ most-at-spec =
     (tie.spec
     (λ c. search needs)
     (λ c κs. search needs)
-    (λ c. let s = start (c .before) in end-most _ _ _ _ _ (s .pre .0) (s .args .by) (sym (c .before .operation-of .ensures) ∙ c .if1 .taken))
+    (λ c. let s = start (c .before) in
+    end-most _ _ _ _ _ (s .pre .0) (s .args .by) (sym (c .before .operation-of .ensures) ∙ c .if1 .taken))
     (λ c κs. search needs)
     (λ c. let o = c .before .before .before in
     let s = start o in
@@ -76,7 +78,8 @@ most-at-spec =
     (λ c κs. next-few (c .before .before))
     (λ c. let b = behind-few (c .before .before .before) in omega arith)
     (λ c. behind-there (c .before .before .before .before))
-    (λ c. let t = c .before .before .before .before in omega (arith, most-few _ _ _ _ _ (s t .pre .0) (s t .args .by) _ (by-block (c .before))))
+    (λ c. let t = c .before .before .before .before in
+    omega (arith, most-few _ _ _ _ _ (s t .pre .0) (s t .args .by) _ (by-block (c .before))))
     (λ c. by-block (c .before))
     (λ c κs. search needs)
     (λ c. search needs))

@@ -29,5 +29,9 @@ most-rows-spec =
     (λ c. search needs)
     (λ c. let l = c .before .before in
     let n = l .loop .inv .1 in
-    (omega (arith, c .before .loop-test .taken), simp length-set n, one-more _ _ (l .loop .partition) (l .loop .rows) _ (omega (arith, n, c .before .loop-test .taken)) (l .loop .inv .2) (c .most-of .ensures)))
+    let below = c .before .loop-test .taken in (
+      omega (arith, below),
+      simp length-set n,
+      one-more _ _ (l .loop .partition) (l .loop .rows) _ (omega (arith, n, below)) (l .loop .inv .2) (c .most-of .ensures),
+    ))
     (λ c. (c .before .loop .inv .1, λ p l. c .before .loop .inv .2 p (omega (arith, c .loop-test .left)))))
