@@ -1,20 +1,19 @@
 -- From the figures of a workflow's bytes to the answer of the call.
 use mathlib.Core.List.{List, []}
-use mathlib.Core.Option.{Option, none, some}
+use mathlib.Core.Option.{none}
 use mathlib.Core.Path.{_≡_, refl, sym, ap, _∙_, subst}
 use Prim.Native.Nat.{ℕ, _<_}
 use native.Mathlib.Omega.{arith}
 use lib.ListN.{length, getD, replicate}
 use Rattle.questions.specs.declared.Verdict.{Verdict}
 use Rattle.questions.specs.declared.Verdict.the-variants.{Refused}
-use Rattle.questions.specs.Questions.{No}
 use Rattle.questions.specs.Verdicts.{verdictOf}
 use Rattle.questions.proofs.Questions.{orElse-none}
 use Rattle.questions.proofs.Updates.{none-some}
 use Rattle.rules.specs.Instructions.{Code}
 use Rattle.rules.specs.Routes.{byTurns, byRows, MostOf, Figures}
 use Rattle.code.specs.Meaning.{codeOf}
-use Rattle.pack.specs.Layout.{count, sizeOf, operationsOf, operandsOf}
+use Rattle.pack.specs.Layout.{operationsOf, operandsOf}
 use Rattle.pack.specs.Meaning.{packOf}
 use Rattle.pack.specs.Refusal.{packRefusal, openRefusal}
 use Rattle.pack.proofs.Laws.{accepted-laid, accepted-right, workflow-at}

@@ -11,10 +11,10 @@ use lib.ListN.{length, getD}
 use Rattle.questions.specs.Basics.{if_then_else_}
 use Rattle.questions.proofs.Updates.{false-true}
 use Rattle.rules.specs.Instructions.{Code, Instruction, BEGIN, END, RETURN, instructionAt}
-use Rattle.rules.specs.Shapes.{Side, outside, inside, Shape, shape, GoesOn}
+use Rattle.rules.specs.Shapes.{Shape, shape, GoesOn}
 use Rattle.rules.specs.Blocks.{behindEnd}
 use Rattle.rules.specs.Checked.{sideAt, Checked}
-use Rattle.rules.specs.Routes.{putsOf, Counting}
+use Rattle.rules.specs.Routes.{putsOf}
 use Rattle.rules.proofs.Positions.{same-side, begins-inside, block-closed}
 use Rattle.rules.proofs.Routes.{larger, Rising, turns-rise, rows-rise, Small, turns-small, rows-small, own, Landing, jump-lands}
 use Rattle.rules.proofs.Routes.{best-return, best-end, best-next, best-jump, best-begin, best-within}
@@ -24,12 +24,11 @@ use Rattle.operation.specs.Parts.{targetOf}
 use Rattle.operation.specs.Operations.{opBegin, opEnd, opPut, opReturn, operandOf}
 use Rattle.code.specs.Layout.{operationAt, registerAt, wordAt}
 use Rattle.code.specs.Meaning.{decode, codeOf}
-use Rattle.code.specs.Questions.{insideAt}
 use Rattle.code.proofs.Decoded.{by-operation, _also_, sideFor, targetBy, decoded-shape, length-code, instruction-at, side-known}
 use Rattle.code.proofs.Right.{known-at, right-checked}
 use Rattle.figures.specs.declared.Counted.{Counted}
 use Rattle.figures.specs.declared.Counted.the-variants.{Turns, Rows}
-use Rattle.figures.specs.Counted.{countingOf, isJump, MostAt, Filled, Sized, Reached}
+use Rattle.figures.specs.Counted.{countingOf, isJump, MostAt, Filled, Reached}
 
 -- ── What an operation stands for ──
 

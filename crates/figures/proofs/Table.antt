@@ -1,9 +1,8 @@
 -- The loop over a workflow from its last instruction to its first: the side, the index behind the next END, and the table.
 use mathlib.Core.Bool.{Bool, true, false}
-use mathlib.Core.List.{List, []}
+use mathlib.Core.List.{List}
 use mathlib.Core.Path.{_≡_, refl, sym, ap, _∙_, subst}
 use Prim.Native.Nat.{ℕ, suc, _+_, _-_, _≤_, _<_}
-use native.Mathlib.Numerals.{add-one}
 use native.Mathlib.Omega.{arith}
 use native.Mathlib.Decide.{ℕ-discrete}
 use borrow.Author.Tests.{eqb-true}
@@ -11,8 +10,8 @@ use lib.Dec.{eqb}
 use lib.ListN.{length, getD, set, drop, length-set, drop-of-length-le}
 use lib.Seq.{drop-cons, getD-set-same, getD-set-other}
 use Rattle.questions.specs.Basics.{if_then_else_}
-use Rattle.rules.specs.Instructions.{Code, BEGIN, END, RETURN, instructionAt}
-use Rattle.rules.specs.Shapes.{Side, outside, inside, shape}
+use Rattle.rules.specs.Instructions.{Code, END, RETURN, instructionAt}
+use Rattle.rules.specs.Shapes.{outside, inside, shape}
 use Rattle.rules.specs.Blocks.{isEnd, throughEnd}
 use Rattle.rules.specs.Checked.{sideBehind, sideAt, Checked}
 use Rattle.rules.specs.Routes.{byRows, MostOf}
@@ -20,11 +19,11 @@ use Rattle.rules.proofs.Positions.{own-side, side-next, two-sides}
 use Rattle.operation.specs.Operations.{opBegin, opEnd}
 use Rattle.code.specs.Layout.{operationAt, registerAt, wordAt}
 use Rattle.code.specs.Meaning.{decode, codeOf}
-use Rattle.code.specs.Questions.{insideAt, insideBehind}
+use Rattle.code.specs.Questions.{insideAt}
 use Rattle.code.proofs.Decoded.{sideFor, decoded-end, length-code, instruction-at, side-known}
 use Rattle.code.proofs.Right.{known-at, right-checked}
 use Rattle.figures.specs.declared.Counted.{Counted}
-use Rattle.figures.specs.Counted.{MostAt, Filled, Sized, Reached}
+use Rattle.figures.specs.Counted.{MostAt, Filled, Sized}
 
 -- the flag of a side
 flag-outside : (b : Bool) → sideFor b ≡ outside → b ≡ false

@@ -6,7 +6,7 @@ use Prim.Native.Nat.{ℕ, _≤_, _<_}
 use lib.ListN.{length, getD}
 use Rattle.rules.specs.Blocks.{behindEnd}
 use Rattle.rules.specs.Checked.{sideAt}
-use Rattle.rules.specs.Routes.{Counting, byTurns, byRows, MostFrom, MostOf}
+use Rattle.rules.specs.Routes.{Counting, byTurns, byRows, MostFrom}
 use Rattle.operation.specs.declared.Operand.{Operand}
 use Rattle.operation.specs.declared.Operand.the-variants.{Any, Below8, Jump, Zero}
 use Rattle.code.specs.Meaning.{codeOf}

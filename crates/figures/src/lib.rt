@@ -1,7 +1,7 @@
 // How much a workflow takes: its most turns and, for each partition, its most rows, over all routes through it. Each figure is worked out
 // in one pass from the workflow's last instruction to its first, with a table of the most from each instruction on.
 ghost use mathlib.Core.Path.{_≡_};
-ghost use mathlib.Core.Bool.{Bool, true, false};
+ghost use mathlib.Core.Bool.{true, false};
 ghost use Prim.Native.Nat.{ℕ, _+_, _≤_, _<_};
 ghost use lib.Dec.{eqb, ltb};
 ghost use lib.ListN.{length, getD};

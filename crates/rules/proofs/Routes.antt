@@ -16,7 +16,7 @@ use Rattle.questions.specs.Basics.{if_then_else_}
 use Rattle.questions.proofs.Updates.{none-some, false-true, eqb-cases}
 use Rattle.rules.specs.Instructions.{Code, Instruction, SET, COPY, ADD, SUB, JLT, JEQ, BEGIN, END, GET, PUT, HAS, RETURN}
 use Rattle.rules.specs.Instructions.{instructionAt}
-use Rattle.rules.specs.Shapes.{Side, outside, inside, Shape, shape, GoesOn}
+use Rattle.rules.specs.Shapes.{Side, outside, inside, shape, GoesOn}
 use Rattle.rules.specs.Blocks.{closing, isEnd, throughEnd, behindEnd}
 use Rattle.rules.specs.Checked.{sideFrom, sideAt, Lands, Jumps, GoesTo, Checked}
 use Rattle.rules.specs.Routes.{Way, Route, putsOf, putsOn, Counting, byTurns, byRows, countOn, Most, MostFrom, MostOf}
@@ -26,20 +26,6 @@ use Rattle.rules.proofs.Blocks.{inside-through, through-from}
 -- the larger of two numbers
 abbrev pub larger : (a b : ℕ) → ℕ
 larger a b = if_then_else_ (ltb a b) b a
-
-larger-left : (a b : ℕ) → a ≤ larger a b
-larger-left a b = go (ltb a b) refl
-  where
-    go : (t : Bool) → ltb a b ≡ t → a ≤ if_then_else_ t b a
-    go true e = let l = ltb-true a b e in omega arith
-    go false e = omega arith
-
-larger-right : (a b : ℕ) → b ≤ larger a b
-larger-right a b = go (ltb a b) refl
-  where
-    go : (t : Bool) → ltb a b ≡ t → b ≤ if_then_else_ t b a
-    go true e = omega arith
-    go false e = let l = ltb-false a b e in omega arith
 
 -- a block counts no less where more PUTs are passed in it
 abbrev pub Rising : Counting → Type 0

@@ -1,6 +1,6 @@
 -- `figures::figures` meets its contract.
 use borrow.Author.Needs.{needs}
-use mathlib.Core.Path.{_≡_, sym, _∙_}
+use mathlib.Core.Path.{_≡_}
 use mathlib.Core.Option.{none}
 use Rattle.questions.proofs.Chains.{accepted}
 use Rattle.pack.specs.Refusal.{openRefusal}

@@ -1,5 +1,4 @@
 -- `figures::inside_before` meets its contract.
-use borrow.Author.Needs.{needs}
 use borrow.Author.Tests.{eq-eqb, ne-eqb}
 use Rattle.figures.proofs.inside_before.Statement.{statement}
 use Rattle.figures.proofs.inside_before.Tie as tie

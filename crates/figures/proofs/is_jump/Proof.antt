@@ -1,6 +1,6 @@
 -- `figures::is_jump` meets its contract.
 use borrow.Author.Needs.{needs}
-use mathlib.Core.Path.{_≡_, sym, _∙_, ap}
+use mathlib.Core.Path.{sym, _∙_, ap}
 use Rattle.operation.specs.declared.Entry.{Entry}
 use Rattle.figures.specs.Counted.{isJump}
 use Rattle.figures.proofs.is_jump.Statement.{statement}

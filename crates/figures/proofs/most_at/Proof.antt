@@ -5,7 +5,7 @@ use Prim.Native.Nat.{_+_, _≤_, _<_}
 use native.Mathlib.Omega.{arith}
 use lib.ListN.{length, getD}
 use Rattle.operation.specs.Operations.{opBegin}
-use Rattle.code.specs.Layout.{operationAt, wordAt}
+use Rattle.code.specs.Layout.{operationAt}
 use Rattle.figures.specs.Counted.{countingOf, MostAt}
 use Rattle.figures.proofs.Steps.{most-few, end-most, return-most, begin-next, begin-few, behind-in, begin-most}
 use Rattle.figures.proofs.most_at.Statement.{statement}

@@ -1,10 +1,9 @@
 -- `figures::most_leading` meets its contract: a jump by both ways, and what is no jump by the next.
 use borrow.Author.Needs.{needs}
-use mathlib.Core.Bool.{true, false}
+use mathlib.Core.Bool.{true}
 use mathlib.Core.Path.{_≡_, sym, _∙_, ap, subst}
 use Prim.Native.Nat.{_+_, _<_}
 use native.Mathlib.Omega.{arith}
-use borrow.Author.Tests.{not-true, not-false}
 use lib.Dec.{eqb}
 use lib.ListN.{length, getD}
 use Rattle.questions.specs.Basics.{if_then_else_}
