@@ -30,7 +30,7 @@ use Rattle.delivered.specs.Demands.{RefusedFirst, AsRuled, ByTheList}
 use Rattle.delivered.proofs.Lists.{wrong-unheard, as-chain}
 
 -- an answer that was heard
-same-heard : (a b : Answer) → some a ≡ some b → a ≡ b
+pub same-heard : (a b : Answer) → some a ≡ some b → a ≡ b
 same-heard a b e i = taken (e i)
   where
     taken : Option Answer → Answer

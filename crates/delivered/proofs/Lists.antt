@@ -79,31 +79,35 @@ served-long pack store slots answer c number store′ slots′ answer′ s = ap 
     go (Calls.reply id value) = unfold Answers.slotsAfter in length-records slots (slotsIn slots′) 8
     go (Calls.refused n) = unfold Answers.slotsAfter in refl
 
+-- ---- the number 0
+
+-- a short answer buffer gives 100, so this one was long enough
+pub zero-long : (need : ℕ) (answer : List ℕ) (number : ℕ) → ((n : ℕ) → answerShort need answer ≡ some n → number ≡ n) → number ≡ 0 →
+    answerShort need answer ≡ none
+zero-long need answer number short zero = go (leb need (length answer)) refl
+  where
+    go : (a : Bool) → leb need (length answer) ≡ a → answerShort need answer ≡ none
+    go true p = unfold answerShort in rw p refl
+    go false p =
+        let e : answerShort need answer ≡ some 100 = unfold answerShort in rw p refl in
+        let z : _≡_ {A = ℕ} 100 0 = sym (short 100 e) ∙ zero in absurd (omega (arith, z))
+
+-- a no gives 3, so no question said no
+pub zero-yes : (o : Option No) → numberOf (judged o) ≡ 0 → o ≡ none
+unfolding judged Answers.numberOf
+zero-yes none e = refl
+zero-yes (some n) e = let z : _≡_ {A = ℕ} 3 0 = e in absurd (omega (arith, z))
+
 -- ---- a fresh store
 
 -- create that returned 0 was accepted
 module _ (buffer answer : List ℕ) (P C number : ℕ) (store answer′ : List ℕ) (made : Made buffer answer P C number store answer′)
     (zero : number ≡ 0) where
   was-long : answerShort 12 answer ≡ none
-  was-long = go (leb 12 (length answer)) refl
-    where
-      go : (a : Bool) → leb 12 (length answer) ≡ a → answerShort 12 answer ≡ none
-      go true p = unfold answerShort in rw p refl
-      go false p =
-          let e : answerShort 12 answer ≡ some 100 = unfold answerShort in rw p refl in
-          let z : _≡_ {A = ℕ} 100 0 = sym (made .told .short 100 e .0) ∙ zero in absurd (omega (arith, z))
+  was-long = zero-long 12 answer number (λ n e. made .told .short n e .0) zero
 
   no-question : createRefusal P C (length buffer) ≡ none
-  no-question = go (createRefusal P C (length buffer)) refl
-    where
-      go : (o : Option No) → createRefusal P C (length buffer) ≡ o → createRefusal P C (length buffer) ≡ none
-      go none e = e
-      go (some n) e =
-          let z : _≡_ {A = ℕ} 3 0 = sym (made .told .told was-long .0 ∙ ap (λ o. numberOf (judged o)) e ∙ three n) ∙ zero in
-          absurd (omega (arith, z))
-        where
-          three : (n : No) → numberOf (judged (some n)) ≡ 3
-          three n = unfold judged in unfold Answers.numberOf in refl
+  no-question = zero-yes (createRefusal P C (length buffer)) (sym (made .told .told was-long .0) ∙ zero)
 
   accepted-create : Created buffer store P C Accepted
   accepted-create =

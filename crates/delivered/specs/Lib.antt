@@ -1,3 +1,4 @@
 pub mod Delivered
 pub mod Demands
 pub mod Malformed
+pub mod Room
