@@ -91,11 +91,12 @@ module _ (pack : List ℕ) (id : ℕ) (store₀ slots₀ : List ℕ) where
   abbrev Linked : (store slots : List ℕ) → Type 0
   Linked store slots = (events : List Event) × Chains.Undisturbed pack id (lentIn store₀ slots₀) events (lentIn store slots)
 
-  call-on : (store slots answer : List ℕ) (c : Call) (given : ℕ) (store′ slots′ answer′ : List ℕ) → Linked store slots →
+  call-linked : (store slots answer : List ℕ) (c : Call) (given : ℕ) (store′ slots′ answer′ : List ℕ) → Linked store slots →
       Exported pack store slots answer c given store′ slots′ answer′ →
-      ((said : Answer) → heard given answer′ ≡ some said → accepted said ≡ true → NoOther (packOf pack) id (stateOf (lentIn store slots)) c)
-      → Linked store′ slots′
-  call-on store slots answer c given store′ slots′ answer′ h x alone = go (buffersWrong answer slots) refl
+      ((said : Answer) → heard given answer′ ≡ some said → accepted said ≡ true →
+      NoOther (packOf pack) id (stateOf (lentIn store slots)) c) →
+      Linked store′ slots′
+  call-linked store slots answer c given store′ slots′ answer′ h x alone = go (buffersWrong answer slots) refl
     where
       go : (o : Option ℕ) → buffersWrong answer slots ≡ o → Linked store′ slots′
       go (some n) e = let w = x .wrong n e in rw (w .1, w .2) h
@@ -106,9 +107,9 @@ module _ (pack : List ℕ) (id : ℕ) (store₀ slots₀ : List ℕ) where
                 (alone (answerOf (s .said)) (s .read)),
           )
 
-  order-on : (store slots answer : List ℕ) (given : ℕ) (store′ answer′ : List ℕ) → Linked store slots →
+  order-linked : (store slots answer : List ℕ) (given : ℕ) (store′ answer′ : List ℕ) → Linked store slots →
       PutInOrder store answer given store′ answer′ → Linked store′ slots
-  order-on store slots answer given store′ answer′ h x = go (answerShort 12 answer) refl
+  order-linked store slots answer given store′ answer′ h x = go (answerShort 12 answer) refl
     where
       go : (o : Option ℕ) → answerShort 12 answer ≡ o → Linked store′ slots
       go (some n) e = rw (x .short n e .1) h
@@ -122,9 +123,9 @@ module _ (pack : List ℕ) (id : ℕ) (store₀ slots₀ : List ℕ) where
   as-linked : (store slots : List ℕ) → Undisturbed pack id store₀ slots₀ store slots → Linked store slots
   as-linked _ _ from-first = ([], Chains.from-first)
   as-linked _ _ (calls store slots answer c given store′ slots′ answer′ u x alone) =
-      call-on store slots answer c given store′ slots′ answer′ (as-linked store slots u) x alone
+      call-linked store slots answer c given store′ slots′ answer′ (as-linked store slots u) x alone
   as-linked _ _ (orders store slots answer given store′ answer′ u x) =
-      order-on store slots answer given store′ answer′ (as-linked store slots u) x
+      order-linked store slots answer given store′ answer′ (as-linked store slots u) x
 
 -- ── The arrival ──
 
@@ -174,7 +175,17 @@ module _ (pack store slots answer : List ℕ) (slot id w : ℕ) (args : List ℕ
             λ store₂ slots₂ u k its answer₂ given₂ store₃ slots₃ answer₃ y h.
             let links = as-linked pack id store₁ slots₁ store₂ slots₂ u in
             let s = as-served pack store₂ slots₂ answer₂ (turn k) given₂ store₃ slots₃ answer₃ y (refused (number 21)) h in
-            never-full .no-21 (links .0) (lentIn store₂ slots₂) (links .1) k its (s .0 .said) (lentIn store₃ slots₃) (s .0 .carried) (s .1);
+            never-full .no-21 (links .0) (lentIn store₂ slots₂) (links .1) k its (s .0 .said) (lentIn store₃ slots₃) (s .0 .carried)
+            (s .1);
+        goes-on =
+            λ store₂ slots₂ u k its below yes answer₂ given₂ store₃ slots₃ answer₃ y right.
+            let links = as-linked pack id store₁ slots₁ store₂ slots₂ u in
+            let s = y .served right in (
+              answerOf (s .said),
+              s .read,
+              never-full .goes-on (links .0) (lentIn store₂ slots₂) (links .1) k its below yes (s .said) (lentIn store₃ slots₃)
+                  (s .carried),
+            );
       }
 
 -- Where the rows told are free, no turn of an agent of the request is answered 21.

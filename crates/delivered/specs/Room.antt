@@ -15,10 +15,11 @@ use Rattle.pack.specs.Meaning.{packOf}
 use Rattle.store.specs.Layout.{partsOf, capOf}
 use Rattle.store.specs.Rows.{storeOf}
 use Rattle.meaning.specs.State.{stateOf}
+use Rattle.meaning.specs.Questions.{lentRefusal}
 use Rattle.chain.specs.Room.{HasAgent}
 use Rattle.answers.specs.Answers.{heard}
 use Rattle.host.specs.Told.{FiguresTold}
-use Rattle.host.specs.Exports.{lentIn, Exported, PutInOrder}
+use Rattle.host.specs.Exports.{lentIn, buffersWrong, Exported, PutInOrder}
 
 -- The rows of a workflow that a host was told: a call of figures was accepted, and this is what stands in its answer buffer.
 pub record ToldRows (pack : List ℕ) (workflow : ℕ) (rows : (partition : ℕ) → ℕ) : Type 0 where
@@ -49,13 +50,18 @@ pub data Undisturbed (pack : List ℕ) (id : ℕ) (store₀ slots₀ : List ℕ)
       Undisturbed pack id store₀ slots₀ store′ slots
 
 -- From any bytes: behind an accepted arrival that books the id where the rows told are free, an agent of it stands in the slot, and
--- whatever calls follow, no turn of an agent of it is answered 21.
+-- whatever calls follow, no turn of an agent of it is answered 21: with right buffers each to which 1 to 14 say yes is accepted.
 pub record NeverTold21 (pack : List ℕ) (id slot : ℕ) (store slots : List ℕ) : Type 0 where
   pub starts : HasAgent (lentIn store slots) slot id
   pub no-21 : (store₁ slots₁ : List ℕ) → Undisturbed pack id store slots store₁ slots₁ →
       (k : ℕ) → HasAgent (lentIn store₁ slots₁) k id →
       (answer : List ℕ) (given : ℕ) (store₂ slots₂ answer₂ : List ℕ) →
       Exported pack store₁ slots₁ answer (turn k) given store₂ slots₂ answer₂ → heard given answer₂ ≡ some (refused (number 21)) → ⊥
+  pub goes-on : (store₁ slots₁ : List ℕ) → Undisturbed pack id store slots store₁ slots₁ →
+      (k : ℕ) → HasAgent (lentIn store₁ slots₁) k id → k < 8 → lentRefusal pack (lentIn store₁ slots₁) ≡ none →
+      (answer : List ℕ) (given : ℕ) (store₂ slots₂ answer₂ : List ℕ) →
+      Exported pack store₁ slots₁ answer (turn k) given store₂ slots₂ answer₂ → buffersWrong answer slots₁ ≡ none →
+      (said : Answer) × (heard given answer₂ ≡ some said) × (accepted said ≡ true)
 
 abbrev pub ToldRoomIsEnough : Type 0
 ToldRoomIsEnough =
