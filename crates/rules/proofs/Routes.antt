@@ -59,8 +59,8 @@ rows-small q = record { one = omega arith; block = λ p n. go p n (eqb-cases p q
 -- two that are the most are one
 pub most-same : {A : Type 0} {count : A → ℕ} {n m : ℕ} → Most count n → Most count m → n ≡ m
 most-same {A} {count} {n} {m} a b =
-    let l = a .none-exceeds (b .one) in
-    let k = b .none-exceeds (a .one) in
+    let l = a .none-exceeds (b .best) in
+    let k = b .none-exceeds (a .best) in
     omega (arith, l, k, a .reaches, b .reaches)
 
 -- ── What stands at an index ──
@@ -164,7 +164,7 @@ module _ (code : Code) where
 
   pub puts-end : (i d : ℕ) → X i ≡ END d → Puts i 0
   unfolding putsOn
-  puts-end i d e = record { one = Way.ends i d e; reaches = refl; none-exceeds = bound i e }
+  puts-end i d e = record { best = Way.ends i d e; reaches = refl; none-exceeds = bound i e }
     where
       bound : (i : ℕ) → X i ≡ END d → (w : Way code i) → putsOn code i w ≤ 0
       bound _ e (Way.ends i d₁ f) = omega arith
@@ -175,7 +175,7 @@ module _ (code : Code) where
   unfolding putsOn
   puts-next i n g o m =
       record {
-        one = Way.passes i g (m .one);
+        best = Way.passes i g (m .best);
         reaches = ap (λ k. putsOf (X i) + k) (m .reaches);
         none-exceeds = bound i g o (m .none-exceeds);
       }
@@ -208,15 +208,15 @@ module _ (code : Code) where
       go true e =
           let l = ltb-true n m e in
           record {
-            one = Way.leaps i t o (there .one);
+            best = Way.leaps i t o (there .best);
             reaches = there .reaches;
             none-exceeds = bound i m g o (λ w. let k = next .none-exceeds w in omega arith) (there .none-exceeds);
           }
       go false e =
           let l = ltb-false n m e in
           record {
-            one = Way.passes i g (next .one);
-            reaches = ap (λ k. k + putsOn code (suc i) (next .one)) no-put ∙ zero-add (putsOn code (suc i) (next .one)) ∙ next .reaches;
+            best = Way.passes i g (next .best);
+            reaches = ap (λ k. k + putsOn code (suc i) (next .best)) no-put ∙ zero-add (putsOn code (suc i) (next .best)) ∙ next .reaches;
             none-exceeds = bound i n g o (next .none-exceeds) (λ w. let k = there .none-exceeds w in omega arith);
           }
 
@@ -228,7 +228,7 @@ module _ (code : Code) where
 
     pub count-return : (i d : ℕ) → X i ≡ RETURN d → Counts i (c .one)
     unfolding countOn
-    count-return i d e = record { one = Route.replies i d e; reaches = refl; none-exceeds = bound i e }
+    count-return i d e = record { best = Route.replies i d e; reaches = refl; none-exceeds = bound i e }
       where
         bound : (i : ℕ) → X i ≡ RETURN d → (r : Route code i) → countOn c code i r ≤ c .one
         bound _ e (Route.replies i d₁ f) = omega arith
@@ -240,7 +240,7 @@ module _ (code : Code) where
     unfolding countOn
     count-next i n g o m =
         record {
-          one = Route.goes i g (m .one);
+          best = Route.goes i g (m .best);
           reaches = ap (λ k. c .one + k) (m .reaches);
           none-exceeds = bound i g o (m .none-exceeds);
         }
@@ -272,14 +272,14 @@ module _ (code : Code) where
         go true e =
             let l = ltb-true n m e in
             record {
-              one = Route.jumps i t o (there .one);
+              best = Route.jumps i t o (there .best);
               reaches = ap (λ k. c .one + k) (there .reaches);
               none-exceeds = bound i m g o (λ r. let k = next .none-exceeds r in omega arith) (there .none-exceeds);
             }
         go false e =
             let l = ltb-false n m e in
             record {
-              one = Route.goes i g (next .one);
+              best = Route.goes i g (next .best);
               reaches = ap (λ k. c .one + k) (next .reaches);
               none-exceeds = bound i n g o (next .none-exceeds) (λ r. let k = there .none-exceeds r in omega arith);
             }
@@ -290,7 +290,7 @@ module _ (code : Code) where
     unfolding countOn
     count-block rising i p n m e puts rest =
         record {
-          one = Route.through i p e (puts .one) (rest .one);
+          best = Route.through i p e (puts .best) (rest .best);
           reaches = ap₂ (λ k l. c .block p k + l) (puts .reaches) (rest .reaches);
           none-exceeds = bound i e (puts .none-exceeds) (rest .none-exceeds);
         }
@@ -477,10 +477,10 @@ module _ (code : Code) (checked : Checked code) where
   best-within c small i n h m = go (sideAt code i) refl m
     where
       go : (side : Side) → sideAt code i ≡ side → MostFrom c code side i n → i + n ≤ length code
-      go outside e m = omega (arith, route-within c small i h e (m .one), m .reaches)
+      go outside e m = omega (arith, route-within c small i h e (m .best), m .reaches)
       go inside e m =
-          omega (arith, way-within i h e (m .one), m .reaches, length-drop i code, through-length (drop i code))
+          omega (arith, way-within i h e (m .best), m .reaches, length-drop i code, through-length (drop i code))
 
   -- the figure of turns, and each figure of rows, is at most the workflow's size
   pub most-within : (c : Counting) → Small c → (n : ℕ) → MostOf c code n → n ≤ length code
-  most-within c small n m = omega (arith, route-within c small 0 (checked .some-instruction) refl (m .one), m .reaches)
+  most-within c small n m = omega (arith, route-within c small 0 (checked .some-instruction) refl (m .best), m .reaches)

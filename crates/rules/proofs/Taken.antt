@@ -104,7 +104,7 @@ module _ (code : Code) (checked : Checked code) where
   pub some-route : (i : ℕ) → i < length code → sideAt code i ≡ outside → Route code i
   some-route i h o =
       let m = best-exists code checked byTurns turns-rise (length code) i h (omega arith) in
-      subst (λ side. MostFrom byTurns code side i (m .0)) o (m .1) .one
+      subst (λ side. MostFrom byTurns code side i (m .0)) o (m .1) .best
 
   -- and through each block a way
   some-way : (i p : ℕ) → i < length code → instructionAt code i ≡ BEGIN p → Way code (suc i)

@@ -71,8 +71,8 @@ countOn c code _ (through i p e w r) = c .block p (putsOn code (suc i) w) + coun
 
 -- n is the most: some one reaches it and none exceeds it.
 pub record Most {A : Type 0} (count : A → ℕ) (n : ℕ) : Type 0 where
-  pub one : A
-  pub reaches : count one ≡ n
+  pub best : A
+  pub reaches : count best ≡ n
   pub none-exceeds : (a : A) → count a ≤ n
 
 -- the most from an index on: outside blocks of what is counted on a route, inside a block of the PUTs on a way to its END
