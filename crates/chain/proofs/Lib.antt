@@ -1,3 +1,6 @@
+pub mod Sums
+pub mod Counted
+pub mod Shifted
 pub mod Mirror
 pub mod Each
 pub mod Theorem
@@ -5,4 +8,6 @@ pub mod RequestZero
 pub mod AsBefore
 pub mod Room
 pub mod Never
+pub mod NothingLost
+pub mod CutCase
 pub mod InOrder

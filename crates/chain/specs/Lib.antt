@@ -3,3 +3,4 @@ pub mod Demands
 pub mod InOrder
 pub mod RequestZero
 pub mod Room
+pub mod NothingLost

@@ -55,7 +55,7 @@ some-same (some v) (some v′) a b e = ap some e
 
 module _ (rows : List Row) (whole : bookOk (keysIn rows) ≡ true) (id : ℕ) where
   -- an id whose first row is missing has none
-  none-booked : (k : ℕ) → bookedId k ≡ id → lookup (bookKey id 0) rows ≡ none → lookup k rows ≡ none
+  pub none-booked : (k : ℕ) → bookedId k ≡ id → lookup (bookKey id 0) rows ≡ none → lookup k rows ≡ none
   none-booked k e z = go (lookup k rows) refl
     where
       go : (o : Option ℕ) → lookup k rows ≡ o → lookup k rows ≡ none

@@ -2,3 +2,4 @@ pub mod Lists
 pub mod Demands
 pub mod Malformed
 pub mod Room
+pub mod NothingLost

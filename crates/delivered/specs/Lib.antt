@@ -2,3 +2,4 @@ pub mod Delivered
 pub mod Demands
 pub mod Malformed
 pub mod Room
+pub mod NothingLost

@@ -8,6 +8,7 @@ pub mod Positions
 pub mod Stands
 pub mod Turn
 pub mod ByFeed
+pub mod Changes
 pub mod Calls
 pub mod Logged
 pub mod Blocks
@@ -18,5 +19,6 @@ pub mod RequestZero
 pub mod ByLog
 pub mod Room
 pub mod NeverWritten
+pub mod Move
 pub mod WholeCase
 pub mod States

@@ -4,7 +4,8 @@ use mathlib.Core.List.{List, [], _∷_}
 use mathlib.Core.Option.{Option, none, some}
 use Prim.Native.Nat.{ℕ}
 use Rattle.questions.specs.Questions.{number, ask}
-use Rattle.rules.specs.Instructions.{Pack, Code, COPY, BEGIN, GET, SUB, PUT, END, ADD, RETURN, act, actAt}
+use Rattle.rules.specs.Instructions.{Pack, act, actAt}
+use Rattle.rules.specs.Move.{MOVE}
 use Rattle.rules.specs.Blocks.{Result, yields, within, runFrom, runBlock, afterBlock}
 use Rattle.rules.specs.Courses.{passed, nextBy, nextOf}
 use Rattle.rules.specs.Store.{Store, withRow}
@@ -13,23 +14,6 @@ use Rattle.rules.specs.Calls.{arrival, retry, turn, crash, Answer, done,
 use Rattle.rules.specs.Calls.{canWrite, unless, rule, arrive, again, throughBlock, turnOn, turnIn, call, stateAfter, answerTo}
 use Rattle.rules.specs.Plain.{oneMore, tallied, fedArrival, fedRun, fedTurn, fed, moveOn, move, talliesOf, machineOf}
 use Rattle.rules.specs.Plain.{eventsAfter, machineAfter}
-
--- MOVE takes the amount in register 2 from the key in register 0 of partition 0, and adds it to the key in register 1 of partition 1.
-abbrev pub MOVE : Code
-MOVE =
-    COPY 4 0
-    ∷ BEGIN 0
-    ∷ GET 5 4
-    ∷ SUB 5 2
-    ∷ PUT 4 5
-    ∷ END 5
-    ∷ BEGIN 1
-    ∷ GET 5 1
-    ∷ ADD 5 2
-    ∷ PUT 1 5
-    ∷ END 5
-    ∷ RETURN 0
-    ∷ []
 
 -- from key 100 to key 200, 30 pieces
 abbrev pub arguments : List ℕ

@@ -1,6 +1,7 @@
 pub mod Instructions
 pub mod Shapes
 pub mod Blocks
+pub mod Move
 pub mod Courses
 pub mod Checked
 pub mod Store

@@ -1,15 +1,19 @@
 -- From a store's bytes to what it holds: rows read, and rows written.
-use mathlib.Core.List.{List, []}
-use mathlib.Core.Path.{_≡_, refl, sym, ap, ap₂, _∙_}
-use Prim.Native.Nat.{ℕ, _+_, _*_, _≤_, _<_}
+use mathlib.Core.Bool.{Bool, true, false}
+use mathlib.Core.List.{List, [], _∷_}
+use mathlib.Core.Option.{some}
+use mathlib.Core.Path.{_≡_, refl, sym, ap, ap₂, subst, _∙_}
+use Prim.Native.Nat.{ℕ, zero, suc, _+_, _*_, _^_, _≤_, _<_}
 use native.Mathlib.Omega.{arith}
 use borrow.Author.Tests.{le-leb, lt-leb}
+use lib.Dec.{eqb}
 use lib.ListN.{length, getD, take, drop, length-drop}
 use lib.Seq.{take-all}
 use Rattle.words.specs.Words.{le, fields}
+use Rattle.words.specs.Words as Words
 use Rattle.words.proofs.Laws.{length-fields, fields-part, getD-fields}
-use Rattle.store.specs.Layout.{partsOf, capOf, usedAt, keyAt, valueAt, usedOf}
-use Rattle.store.specs.Rows.{Row, pairs, keysIn, rowsOf}
+use Rattle.store.specs.Layout.{AllBytes, partsOf, capOf, usedAt, keyAt, valueAt, usedOf}
+use Rattle.store.specs.Rows.{Row, pairs, keysIn, lookup, rowsOf}
 use Rattle.store.specs.Sound.{Dimensions, Formed}
 use Rattle.store.proofs.Lists.{before, within, length-pairs, keys-pairs, getD-pairs, keys-drop}
 
@@ -104,3 +108,27 @@ module _ (xs : List ℕ) (f : Formed xs) (p : ℕ) (l : p ≤ partsOf xs) where
   -- the places of a used row lie within the bytes
   pub row-within : (i : ℕ) → i < length (rowsOf xs p) → (keyAt xs p i + 8 ≤ length xs) × (valueAt xs p i + 4 ≤ length xs)
   row-within i h = (key-within xs (f .shape) p l i (row-below i h), value-within xs (f .shape) p l i (row-below i h))
+
+-- ---- a value is a number of four bytes
+
+module _ (xs : List ℕ) (bytes : AllBytes xs) where
+  four-bytes : (o : ℕ) → le 4 xs o < 2 ^ 32
+  unfolding Words.le
+  four-bytes o = omega (arith, bytes o, bytes (o + 1), bytes (o + 1 + 1), bytes (o + 1 + 1 + 1))
+
+  value-among : (ks : List ℕ) (o n k v : ℕ) → lookup k (pairs ks (fields 4 xs o n)) ≡ some v → v < 2 ^ 32
+  unfolding fields pairs lookup
+  value-among [] o n k v e = absurd (let z : _≡_ {A = ℕ} 0 1 = cc in omega arith)
+  value-among (x ∷ ks) o zero k v e = absurd (let z : _≡_ {A = ℕ} 0 1 = cc in omega arith)
+  value-among (x ∷ ks) o (suc n) k v e = go (eqb x k) refl (value-among ks (o + 4) n k v)
+    where
+      go : (b : Bool) → eqb x k ≡ b → (lookup k (pairs ks (fields 4 xs (o + 4) n)) ≡ some v → v < 2 ^ 32) → v < 2 ^ 32
+      go true q rec =
+          let f : some (le 4 xs o) ≡ some v = rw q at e in
+          let same : le 4 xs o ≡ v = cc in
+          subst (λ (m : ℕ). m < 2 ^ 32) same (four-bytes o)
+      go false q rec = rec (rw q at e)
+
+  pub value-below : (p k v : ℕ) → lookup k (rowsOf xs p) ≡ some v → v < 2 ^ 32
+  unfolding rowsOf
+  value-below p k v e = value-among _ _ _ k v e

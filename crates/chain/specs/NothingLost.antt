@@ -1,0 +1,75 @@
+-- W-207, nothing lost on the way: what a technician adds up from the rows that stand in a store's bytes.
+use mathlib.Core.Bool.{Bool, not, _&&_}
+use mathlib.Core.List.{List, [], _∷_}
+use mathlib.Core.Path.{_≡_}
+use Prim.Native.Nat.{ℕ, zero, suc, _+_, _%_, _^_}
+use lib.Dec.{eqb}
+use Rattle.questions.specs.Basics.{if_then_else_, each, isSome}
+use Rattle.keys.specs.Keys.{isDataKey, logKey, bookedId, bookRow}
+use Rattle.rules.specs.Move.{MOVE}
+use Rattle.rules.specs.Plain.{Event}
+use Rattle.contents.specs.Contents.{bookRows}
+use Rattle.pack.specs.Meaning.{packOf}
+use Rattle.store.specs.Layout.{AllBytes, partsOf}
+use Rattle.store.specs.Rows.{Row, rowsOf, lookup}
+use Rattle.meaning.specs.State.{Lent}
+use Rattle.chain.specs.Chain.{Chain}
+
+-- ── Sums ──
+
+-- of f at the numbers below n
+unfoldable pub sumBelow : (n : ℕ) → (ℕ → ℕ) → ℕ
+sumBelow zero f = 0
+sumBelow (suc n) f = sumBelow n f + f n
+
+-- of what each row counts
+unfoldable pub sumOver : (counts : Row → ℕ) → List Row → ℕ
+sumOver counts [] = 0
+sumOver counts (r ∷ rows) = counts r + sumOver counts rows
+
+-- ── All data values ──
+
+-- a data row counts its value, a log row nothing
+abbrev pub dataValue : Row → ℕ
+dataValue r = if isDataKey (r .0) then r .1 else 0
+
+-- of all partitions; the book is none of them
+abbrev pub allData : (store : List ℕ) → ℕ
+allData store = sumBelow (partsOf store) (λ p. sumOver dataValue (rowsOf store p))
+
+-- ── The amounts booked for requests whose step 0 is logged and step 1 isn't ──
+
+-- is a step of a request logged? Not every partition is without its log row.
+abbrev pub isLogged : (store : List ℕ) → (id step : ℕ) → Bool
+isLogged store id t = not (each (partsOf store) (λ p. not (isSome (lookup (logKey id t) (rowsOf store p)))))
+
+-- by whether its step 0 and its step 1 are logged: the first is, the other isn't
+abbrev pub betweenSteps : (zeroLogged oneLogged : Bool) → Bool
+betweenSteps zeroLogged oneLogged = zeroLogged && not oneLogged
+
+-- is a request under way?
+abbrev pub isUnderWay : (store : List ℕ) → (id : ℕ) → Bool
+isUnderWay store id = betweenSteps (isLogged store id 0) (isLogged store id 1)
+
+-- The amount of a move is argument 2; arguments 0 to 3 are rows 1 to 4 of the request.
+abbrev pub amountRow : ℕ
+amountRow = 3
+
+-- a book row counts if it is the amount of a request that is under way
+abbrev pub amountIf : (underWay : (id : ℕ) → Bool) → Row → ℕ
+amountIf underWay r = if eqb (bookRow (r .0)) amountRow && underWay (bookedId (r .0)) then r .1 else 0
+
+abbrev pub amountsUnderWay : (store : List ℕ) → ℕ
+amountsUnderWay store = sumOver (amountIf (isUnderWay store)) (bookRows store)
+
+-- ── Nothing is lost ──
+
+-- both have a sum divisible by 2^32
+abbrev pub AddsUp : (store : List ℕ) → Type 0
+AddsUp store = (allData store + amountsUnderWay store) % 2 ^ 32 ≡ 0
+
+-- For a pack whose only workflow is MOVE, a fresh store without agents and calls in any sequence: after each of them.
+abbrev pub NothingLost : Type 0
+NothingLost =
+    (pack : List ℕ) (P C : ℕ) → packOf pack ≡ MOVE ∷ [] →
+    (events : List Event) (lent : Lent) → Chain pack P C events lent → AllBytes (lent .store) → AddsUp (lent .store)
