@@ -9,10 +9,11 @@
 //!   puts an earlier store in order
 //! * [`figures`]: the most turns and rows that a workflow takes (W-202)
 //! * [`schedule`]: the schedule program (questions 22 and 23)
-//! * [`plain`]: the plain machine and the check of demand 3 on what was run
+//! * [`sums`]: what is added up while moves are under way (W-207)
+//! * [`plain`]: the plain machine, and the check of demand 3 and of W-207 on what was run
 //! * [`cases`]: the file `cases.bin` and what is printed for each of its cases
 //! * [`coverage`]: which questions and answers a file of cases reaches
-//! * [`generate`]: seeded cases
+//! * [`generate`]: seeded cases and lists of calls
 
 pub mod agents;
 pub mod bytes;
@@ -28,6 +29,7 @@ pub mod random;
 pub mod refusal;
 pub mod schedule;
 pub mod store;
+pub mod sums;
 
 pub use agents::{Agent, Slots};
 pub use calls::{Answer, Call, Outcome};
@@ -35,3 +37,4 @@ pub use figures::Figures;
 pub use pack::{Instruction, Operation, Pack, Workflow};
 pub use refusal::Refusal;
 pub use store::Store;
+pub use sums::Sums;

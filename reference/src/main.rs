@@ -9,13 +9,13 @@ use std::process::ExitCode;
 use reference::coverage::Coverage;
 use reference::plain::{check_list, Tally};
 use reference::random::Random;
-use reference::{cases, generate, schedule};
+use reference::{cases, generate, schedule, Call};
 
 const USAGE: &str = "usage:
   reference run FOLDER                the schedule program on pack.bin and schedule.bin
   reference cases FILE                what each case of a file comes to
   reference generate SEED COUNT FILE  writes a file of cases
-  reference demand3 SEED COUNT        demand 3 on generated lists of calls
+  reference demand3 SEED COUNT        demand 3 on generated lists of calls, W-207 on some
   reference coverage FILE             how often each question and answer occurs in a file
 ";
 
@@ -86,22 +86,35 @@ fn print_coverage(file: &str) -> Done {
 
 fn demand3(seed: &str, count: &str) -> Done {
     let (seed, count) = (number(seed)?, number(count)?);
-    let mut total = Tally::default();
-    for list in 0..count {
-        let mut random = Random::of_item(seed, list);
-        let (pack, store, calls) = generate::any_list(&mut random);
-        match check_list(&pack, store, &calls) {
-            Ok(tally) => total.add(&tally),
-            Err(violation) => {
-                print(&format!("violation seed {seed} list {list}: {violation}\n"))?;
+    let makers: [(&str, ListMaker); 2] = [
+        ("", generate::any_list),
+        (" with MOVE", generate::move_list),
+    ];
+    for (sort, make) in makers {
+        match watch_lists(seed, count, make) {
+            Ok(total) => print(&format!("lists{sort} {count}\n{}", tally_text(&total)))?,
+            Err((list, violation)) => {
+                let place = format!("seed {seed} list{sort} {list}");
+                print(&format!("violation {place}: {violation}\n"))?;
                 return Ok(ExitCode::FAILURE);
             }
-        }
+        };
     }
-    print(&format!(
-        "lists {count}\n{}violations 0\n",
-        tally_text(&total)
-    ))
+    print("violations 0\n")
+}
+
+/// Pack, fresh store and calls of a list.
+type ListMaker = fn(&mut Random) -> (Vec<u8>, Vec<u8>, Vec<Call>);
+
+/// What was counted in all lists, or the first list with a violation.
+fn watch_lists(seed: u64, count: u64, make: ListMaker) -> Result<Tally, (u64, String)> {
+    let mut total = Tally::default();
+    for list in 0..count {
+        let (pack, store, calls) = make(&mut Random::of_item(seed, list));
+        let tally = check_list(&pack, store, &calls);
+        total.add(&tally.map_err(|violation| (list, violation))?);
+    }
+    Ok(total)
 }
 
 fn tally_text(tally: &Tally) -> String {
@@ -122,6 +135,11 @@ fn tally_text(tally: &Tally) -> String {
             tally.full_lives
         ),
         format!("data rows compared {}", tally.data_rows),
+        format!("times added up {}", tally.times_added_up),
+        format!(
+            "times an amount other than 0 was under way {}",
+            tally.times_under_way
+        ),
     ];
     for (question, times) in tally.refused.iter().enumerate() {
         if *times > 0 {

@@ -1,4 +1,4 @@
-//! The plain machine, and a witness that holds a list of calls to demand 3.
+//! The plain machine, and a witness that holds a list of calls to demand 3 and to W-207.
 
 use std::collections::BTreeMap;
 
@@ -9,6 +9,7 @@ use crate::pack::{Operation, Pack};
 use crate::refusal::QUESTIONS;
 use crate::schedule;
 use crate::store::{self, Key, Request, Store, MOST_PARTITIONS};
+use crate::sums::{is_only_move, under_way, Sums, DIVISOR};
 
 /// A booked request's agent in the plain machine.
 #[derive(Clone, Debug)]
@@ -109,6 +110,10 @@ pub struct Tally {
     pub later_replies: usize,
     pub full_lives: usize,
     pub data_rows: usize,
+    /// How many times the data values and the amounts under way were added up, and how many of
+    /// these times an amount other than 0 was under way.
+    pub times_added_up: usize,
+    pub times_under_way: usize,
     /// Refused calls by question number.
     pub refused: [usize; QUESTIONS.len() + 1],
 }
@@ -128,6 +133,8 @@ impl Tally {
         self.later_replies += other.later_replies;
         self.full_lives += other.full_lives;
         self.data_rows += other.data_rows;
+        self.times_added_up += other.times_added_up;
+        self.times_under_way += other.times_under_way;
         for (own, more) in self.refused.iter_mut().zip(other.refused) {
             *own += more;
         }
@@ -141,25 +148,31 @@ struct Life {
     turns: usize,
 }
 
-/// Watches a list of calls from its start, feeds the plain machine, and says at the
-/// end whether demand 3 holds of the list.
+/// Watches a list of calls from its start, a fresh store with all slots empty, feeds the plain
+/// machine, and says at the end whether demand 3 holds of the list, and W-207 after each call.
 pub struct Witness<'a> {
     machine: Machine<'a>,
+    /// Whether MOVE is the only workflow, of which alone W-207 speaks.
+    only_move: bool,
     lives: [Option<Life>; SLOTS],
     replied: BTreeMap<u32, u32>,
     first_replies: Vec<(u32, u32)>,
+    /// The first violation of demand 3, and the first of W-207: neither hides the other.
     violation: Option<String>,
+    not_divisible: Option<String>,
     tally: Tally,
 }
 
 impl<'a> Witness<'a> {
     pub fn new(pack: Pack<'a>) -> Self {
         Self {
+            only_move: is_only_move(&pack),
             machine: Machine::new(pack),
             lives: [None; SLOTS],
             replied: BTreeMap::new(),
             first_replies: Vec::new(),
             violation: None,
+            not_divisible: None,
             tally: Tally::default(),
         }
     }
@@ -195,6 +208,31 @@ impl<'a> Witness<'a> {
         }
         if given.store != left.store {
             self.see_store(&left.store);
+        }
+        if self.only_move {
+            self.add_up(&left.store);
+        }
+    }
+
+    /// W-207 of what a call left, whether or not it was accepted and changed anything.
+    fn add_up(&mut self, bytes: &[u8]) {
+        // A call that left bytes which are no store was blamed for them.
+        let Ok(store) = Store::lay_out(bytes) else {
+            return;
+        };
+        let sums = Sums::of(&store);
+        self.tally.times_added_up += 1;
+        self.tally.times_under_way += usize::from(sums.under_way > 0);
+        if !sums.is_divisible() {
+            let what = format!(
+                "after {} calls data {} and under way {} {:?} come to {}, not divisible by {DIVISOR}",
+                self.tally.calls,
+                sums.data,
+                sums.under_way,
+                under_way(&store),
+                sums.together()
+            );
+            self.not_divisible.get_or_insert(what);
         }
     }
 
@@ -267,7 +305,7 @@ impl<'a> Witness<'a> {
         }
     }
 
-    /// Keeps the first thing that was wrong.
+    /// Keeps the first thing that was wrong with demand 3.
     fn blame(&mut self, what: String) {
         self.violation.get_or_insert(what);
     }
@@ -282,9 +320,11 @@ impl<'a> Witness<'a> {
             Ok(store) => self.compare_tables(&store),
             Err(refusal) => self.blame(format!("the store is refused: {}", refusal.question)),
         }
-        match self.violation {
-            Some(violation) => Err(violation),
-            None => Ok(self.tally),
+        let found = [self.violation, self.not_divisible];
+        let found: Vec<String> = found.into_iter().flatten().collect();
+        match found.is_empty() {
+            true => Ok(self.tally),
+            false => Err(found.join("; ")),
         }
     }
 
@@ -335,7 +375,7 @@ impl State {
     }
 }
 
-/// Demand 3 of a list of calls on a fresh store.
+/// Demand 3, and W-207 after each call, of a list of calls on a fresh store.
 pub fn check_list(pack: &[u8], store: Vec<u8>, calls: &[Call]) -> Result<Tally, String> {
     let read = Pack::read(pack).map_err(|_| "a refused pack ran".to_string())?;
     let mut witness = Witness::new(read);
@@ -349,7 +389,7 @@ pub fn check_list(pack: &[u8], store: Vec<u8>, calls: &[Call]) -> Result<Tally, 
     witness.close(&state.store)
 }
 
-/// Demand 3 of a schedule's run. A schedule that is refused has no list to speak of.
+/// The same of a schedule's run. A schedule that is refused has no list to speak of.
 pub fn check_run(pack: &[u8], schedule: &[u8]) -> Result<Tally, String> {
     match schedule::begin(pack, schedule) {
         Ok((schedule, store)) => check_list(pack, store, &schedule.calls()),

@@ -2,6 +2,7 @@
 
 mod common;
 
+use common::spoiled::*;
 use common::*;
 use reference::generate::any_list;
 use reference::plain::{self, check_list, check_run, Tally, Witness};
@@ -52,85 +53,12 @@ fn the_empty_list_and_the_whole_case() {
     assert_eq!((tally.first_replies, tally.data_rows), (1, 2));
 }
 
-/// A runtime that someone spoiled: may meddle with the state before a call and with the
-/// outcome after it.
-trait Spoiled {
-    fn before(&mut self, _call: &Call, _store: &mut Vec<u8>, _slots: &mut Slots) {}
-    fn after(&mut self, _outcome: &mut Outcome, _slots: &mut Slots) {}
-    fn leave(&mut self, _call: &Call, _given: &[u8], _left: &mut plain::State) {}
-    fn at_end(&mut self, _store: &mut Vec<u8>) {}
-}
-
-fn watch(
-    pack: &[u8],
-    store: Vec<u8>,
-    calls: &[Call],
-    spoiled: &mut impl Spoiled,
-) -> Result<Tally, String> {
-    let mut state = plain::State::new(store);
-    let mut witness = Witness::new(Pack::read(pack).expect("a right pack"));
-    for call in calls {
-        let given = state.clone();
-        spoiled.before(call, &mut state.store, &mut state.slots);
-        let mut outcome = call.perform(pack, &mut state.store, &mut state.slots);
-        spoiled.after(&mut outcome, &mut state.slots);
-        spoiled.leave(call, &given.store, &mut state);
-        witness.see(call, &outcome);
-        witness.see_left(call, &given, &state);
-    }
-    spoiled.at_end(&mut state.store);
-    witness.close(&state.store)
-}
-
 fn violations(mut make: impl FnMut() -> Box<dyn Spoiled>) -> usize {
-    struct Boxed(Box<dyn Spoiled>);
-    impl Spoiled for Boxed {
-        fn before(&mut self, call: &Call, store: &mut Vec<u8>, slots: &mut Slots) {
-            self.0.before(call, store, slots);
-        }
-        fn after(&mut self, outcome: &mut Outcome, slots: &mut Slots) {
-            self.0.after(outcome, slots);
-        }
-        fn leave(&mut self, call: &Call, given: &[u8], left: &mut plain::State) {
-            self.0.leave(call, given, left);
-        }
-        fn at_end(&mut self, store: &mut Vec<u8>) {
-            self.0.at_end(store);
-        }
-    }
     let caught = |list: &u64| {
         let (pack, store, calls) = any_list(&mut Random::of_item(5, *list));
-        watch(&pack, store, &calls, &mut Boxed(make())).is_err()
+        watch(&pack, store, &calls, make().as_mut()).is_err()
     };
     (0..300).filter(caught).count()
-}
-
-/// Keeps only the rows that `keep` says.
-fn keep_rows(bytes: &mut Vec<u8>, keep: impl Fn(usize, Key) -> bool) {
-    let store = Store::lay_out(bytes.as_slice()).expect("laid out");
-    let shape = store.shape();
-    let empty = fresh(shape.partitions as u32, shape.rows as u32).expect("in range");
-    let mut kept = Store::lay_out(empty).expect("fresh");
-    for partition in 0..=shape.book() {
-        for (key, value) in store.rows(partition) {
-            let of_book = partition == shape.book();
-            if of_book || Key::of_stored(key).is_some_and(|key| keep(partition, key)) {
-                assert!(kept.put(partition, key, value));
-            }
-        }
-    }
-    *bytes = kept.bytes().to_vec();
-}
-
-struct Honest;
-impl Spoiled for Honest {}
-
-/// Right without crashes, never reads its log.
-struct NoLog;
-impl Spoiled for NoLog {
-    fn before(&mut self, _: &Call, store: &mut Vec<u8>, _: &mut Slots) {
-        keep_rows(store, |_, key| matches!(key, Key::Data(_)));
-    }
 }
 
 /// Replies always 0.
@@ -248,6 +176,8 @@ fn putting_in_order_may_stand_anywhere_in_a_list() {
     let without = Tally {
         calls: 10,
         orders: 0,
+        times_added_up: 10,
+        times_under_way: 5,
         ..tally
     };
     assert_eq!(without, plain);

@@ -5,6 +5,7 @@ mod calls;
 mod damage;
 mod figures;
 mod large;
+mod moves;
 mod near_miss;
 mod order;
 mod packs;
@@ -16,6 +17,7 @@ use crate::cases::{write_all, Case};
 use crate::random::Random;
 
 pub use figures::branching;
+pub use moves::move_list;
 pub use near_miss::near_miss;
 pub use packs::{encoded_pack, Bounds};
 pub use schedules::any_list;

@@ -2,6 +2,7 @@
 #![allow(dead_code)]
 
 pub mod routes;
+pub mod spoiled;
 
 use reference::agents::{Slots, ALL_EMPTY};
 use reference::bytes::write_at;
