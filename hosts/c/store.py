@@ -22,6 +22,18 @@ def put_together(c, parts, slots):
     return head + keys + values + slots
 
 
+def sums(data):
+    """W-207's numbers: the requests under way, as (id, amount) by rising id; then the sum of all data values and that
+    of the amounts under way, remainders by 2^32."""
+    _, (*partitions, book), _ = take_apart(data)
+    rows = [row for partition in partitions for row in partition]
+    logged = {(key // 65536, key % 65536) for key, _ in rows if key < 2**63}
+    amounts = sorted((key // 8, value) for key, value in book if key % 8 == 3)
+    under_way = [(ident, amount) for ident, amount in amounts if (ident, 0) in logged and (ident, 1) not in logged]
+    total = sum(value for key, value in rows if key >= 2**63)
+    return under_way, total % 2**32, sum(amount for _, amount in under_way) % 2**32
+
+
 def in_order(data):
     """The only bytes that a file of this contents has now."""
     c, parts, slots = take_apart(data)

@@ -3,14 +3,21 @@
 //!     stock FILE init P C                        a fresh stock of P partitions of C rows
 //!     stock FILE move FROM TO AMOUNT --id N      takes AMOUNT from shelf FROM of partition 0 to shelf TO of partition 1
 //!     stock FILE retry ID                        has the reply of an earlier move again
-//!     stock FILE show                            the rows and log rows
+//!     stock FILE show                            the rows and log rows, the requests under way, and what they come to
 //!
-//! The file holds the store and behind it the eight slots. After each call it is written whole to a temporary file, brought to the
-//! disk, and renamed over the old one. A program that is killed at any place leaves a file from which the next one goes on: agents
-//! that were under way are emptied by a restart and started again from the book; what was logged is not done a second time.
+//! The file holds the store and behind it the eight slots. After each call it is written whole to a temporary file,
+//! brought to the disk, and renamed over the old one. A program that is killed at any place leaves a file from which
+//! the next one goes on: the slots are emptied by a restart and their agents started again from the book; what was
+//! logged is not done a second time.
 //!
 //! An earlier library left rows in the order in which they came. The first move or retry on such a file puts them in order, writes the
 //! file back the same way, says so on the standard error, and only then goes on; show never writes.
+//!
+//! A request is under way while its step 0, which takes the amount, is logged in some partition and its step 1, which
+//! puts it, in none. Nothing is lost meanwhile (W-207): all data values and the amounts under way come to 0, remainder
+//! by 2^32. That speaks of every file of these hosts, since they only ever run their built-in MOVE on a store that
+//! their own init made: where show finds another sum, it says so on the standard error and ends with 1. A file into
+//! which something else wrote data rows, or another pack, need not come to 0.
 
 use sarthule::{arrival, create, order, question, restart, retry, store_bytes, turn, word, Answer, Request, Slots, EMPTY};
 use std::error::Error;
@@ -36,6 +43,9 @@ const MOVE: [(u8, u32); 12] = [
     (0x75, 0),
     (0xB0, 0),
 ];
+
+/// Which of an id's five book rows has AMOUNT: row 0 has the workflow, rows 1 to 4 have the arguments.
+const AMOUNT_ROW: u64 = 3;
 
 fn pack() -> Vec<u8> {
     let mut bytes = vec![1, MOVE.len() as u8, 0];
@@ -151,20 +161,41 @@ impl Stock {
         self.store[at..at + bytes].iter().rev().fold(0, |n, byte| n << 8 | u64::from(*byte))
     }
 
-    /// The stored keys of a partition and their values, as they stand.
-    fn rows(&self, part: usize) -> impl Iterator<Item = (u64, u64)> + '_ {
-        let (p, c) = (usize::from(self.store[0]), self.number_at(1, 2) as usize);
+    fn partitions(&self) -> usize {
+        usize::from(self.store[0])
+    }
+
+    /// The stored keys of a partition, or of the book (number P), and their values, as they stand.
+    fn rows(&self, part: usize) -> impl Iterator<Item = (u64, u32)> + '_ {
+        let (p, c) = (self.partitions(), self.number_at(1, 2) as usize);
         let keys = 3 + 2 * (p + 1);
         let values = keys + 8 * c * (p + 1);
         let used = self.number_at(3 + 2 * part, 2) as usize;
-        (part * c..part * c + used).map(move |row| (self.number_at(keys + 8 * row, 8), self.number_at(values + 4 * row, 4)))
+        let row_at = move |row| (self.number_at(keys + 8 * row, 8), self.number_at(values + 4 * row, 4) as u32);
+        (part * c..part * c + used).map(row_at)
+    }
+
+    /// The rows of all partitions; the book is none of them.
+    fn partition_rows(&self) -> impl Iterator<Item = (u64, u32)> + '_ {
+        (0..self.partitions()).flat_map(|part| self.rows(part))
+    }
+
+    /// Whether the log row of a request's step stands in some partition.
+    fn is_logged(&self, id: u32, step: u64) -> bool {
+        self.partition_rows().any(|(key, _)| key == u64::from(id) << 16 | step)
+    }
+
+    /// The requests under way and their amounts, in the order of the book, which is by rising id.
+    fn under_way(&self) -> impl Iterator<Item = (u32, u32)> + '_ {
+        let booked = self.rows(self.partitions()).filter(|(key, _)| key & 7 == AMOUNT_ROW);
+        let amounts = booked.map(|(key, amount)| ((key >> 3) as u32, amount));
+        amounts.filter(|(id, _)| self.is_logged(*id, 0) && !self.is_logged(*id, 1))
     }
 
     /// By rising key a partition's log rows stand first; data rows are printed first all the same, as the schedule program does.
-    fn show(&self) {
-        for part in 0..usize::from(self.store[0]) {
-            // data keys have their highest bit set
-            let (data, log): (Vec<_>, Vec<_>) = self.rows(part).partition(|(key, _)| key >> 63 == 1);
+    fn show_rows(&self) {
+        for part in 0..self.partitions() {
+            let (data, log): (Vec<_>, Vec<_>) = self.rows(part).partition(|(key, _)| is_data(*key));
             for (key, value) in data {
                 println!("row {part} {} {value}", key as u32);
             }
@@ -173,6 +204,30 @@ impl Stock {
             }
         }
     }
+
+    /// An error where data and amounts under way do not come to 0.
+    fn show(&self) -> Try<()> {
+        self.show_rows();
+        let mut amounts = 0u32;
+        for (id, amount) in self.under_way() {
+            println!("under way {id} {amount}");
+            amounts = amounts.wrapping_add(amount);
+        }
+        let data = self.partition_rows().filter(|(key, _)| is_data(*key));
+        let total = data.fold(0u32, |sum, (_, value)| sum.wrapping_add(value));
+        let together = total.wrapping_add(amounts);
+        println!("total {total}\namounts under way {amounts}\ntogether {together}");
+        if together != 0 {
+            let path = self.path.display();
+            return Err(format!("{path}: data and amounts under way come to {together}, not to 0").into());
+        }
+        Ok(())
+    }
+}
+
+/// A row of a partition is a data row, whose key has its highest bit set, or a log row.
+fn is_data(key: u64) -> bool {
+    key >> 63 == 1
 }
 
 /// A refusal ends the program, and the file stays as the call before left it.
@@ -201,7 +256,7 @@ fn command() -> Try<()> {
     let words: Vec<&str> = words.iter().map(String::as_str).collect();
     match words[..] {
         [path, "init", p, c] => Stock::init(Path::new(path), p.parse()?, c.parse()?).map(|_| ()),
-        [path, "show"] => Stock::load_to_show(Path::new(path)).map(|stock| stock.show()),
+        [path, "show"] => Stock::load_to_show(Path::new(path))?.show(),
         [path, "move", from, to, amount, "--id", id] => {
             let arguments = [from.parse()?, to.parse()?, amount.parse()?, 0];
             let request = Request { id: id.parse()?, workflow: 0, arguments };
