@@ -348,6 +348,8 @@ log 0 7 0 4294967266
 row 1 200 30
 log 1 7 1 30
 """),
+    ("the whole case cut behind its first block", calls(MOVE, store(2, 5), [(ARRIVAL, [0, *SEVEN]), (TURN, [0]), (TURN, [0])]), DONE + MOVED * 2,
+     store(2, 5, [(0, log(7, 0), 4294967266), (0, data(100), 4294967266)], [(7, 0, [100, 200, 30, 0])])),
     ("size 256", check(pack([SET] * 255 + [RETURN])), DONE),
     ("size 257", check(pack([SET] * 256 + [RETURN])), refused(2)),
     ("16 PUTs in a block", check(pack([BEGIN] + [PUT] * 16 + [END, RETURN])), DONE),

@@ -1,5 +1,5 @@
 -- What the sums of W-207 count at each key, by the store of the rules that the bytes hold.
-use mathlib.Core.Bool.{Bool, true, false, not, _&&_}
+use mathlib.Core.Bool.{Bool, true, false, _&&_}
 use mathlib.Core.List.{List}
 use mathlib.Core.Option.{Option, none, some, Option·getD}
 use mathlib.Core.Path.{_≡_, refl, sym, _∙_, ap}
@@ -8,9 +8,8 @@ use native.Mathlib.Omega.{arith}
 use borrow.Author.Tests.{lt-ltb, ltb-true, eq-eqb, ne-eqb, eqb-true}
 use lib.Dec.{eqb, ltb}
 use lib.ListN.{getD}
-use Rattle.questions.specs.Basics.{if_then_else_, each, isSome}
-use Rattle.questions.proofs.Each.{each-at, each-all, each-same}
-use Rattle.questions.proofs.Tests.{no-yes, and-left}
+use Rattle.questions.specs.Basics.{if_then_else_, isSome}
+use Rattle.questions.proofs.Tests.{and-left}
 use Rattle.questions.proofs.Updates.{none-some}
 use Rattle.keys.specs.Keys.{isDataKey, dataOf, logKey, bookKey, isBookKey, bookedId, bookRow, tableOf}
 use Rattle.keys.specs.Keys as Keys
@@ -25,8 +24,8 @@ use Rattle.store.specs.Questions as Questions
 use Rattle.store.specs.Sound as Sounds
 use Rattle.store.proofs.Sound.{store-ok, apart-forms, no-form, keys-apart, keys-rising}
 use Rattle.contents.proofs.Equal.{none-booked}
-use Rattle.chain.specs.NothingLost.{dataValue, isLogged, amountRow, amountIf}
-use Rattle.chain.proofs.Sums.{countAt}
+use Rattle.chain.specs.NothingLost.{anyBelow, dataValue, isLogged, amountRow, amountIf}
+use Rattle.chain.proofs.Sums.{countAt, any-same, any-none, any-some}
 
 -- a data row
 abbrev pub dataAt : Table → (stored : ℕ) → ℕ
@@ -41,22 +40,22 @@ amountOf (some q) = getD (q .arguments) 2 0
 abbrev pub amountAt : (underWay : (id : ℕ) → Bool) → (book : (id : ℕ) → Option Request) → (stored : ℕ) → ℕ
 amountAt underWay book k = if isBookKey k && (eqb (bookRow k) amountRow && underWay (bookedId k)) then amountOf (book (bookedId k)) else 0
 
--- ── What is found lies within P partitions, 32 bits of key or id and 16 of step ──
+-- ── What is found lies in one of P partitions, under a data key or an id of 32 bits ──
 
 within : {A : Type 0} (b : Bool) (o : Option ℕ) (v : ℕ) → (b ≡ true → o ≡ some v → A) → if_then_else_ b o none ≡ some v → A
 within true o v h e = h refl e
 within false o v h e = none-some v refl e
 
 module _ (store : List ℕ) where
-  pub row-within : (p k v : ℕ) → contentsOf (storeOf store) .rows p k ≡ some v → (p < partsOf store) × (k < 2 ^ 32)
+  pub row-found-within : (p k v : ℕ) → contentsOf (storeOf store) .rows p k ≡ some v → (p < partsOf store) × (k < 2 ^ 32)
   unfolding contentsOf
-  row-within p k v =
+  row-found-within p k v =
       within (ltb p (partsOf store)) _ v
       (λ b. within (ltb k (2 ^ 32)) _ v (λ c e. (ltb-true p (partsOf store) b, ltb-true k (2 ^ 32) c)))
 
-  pub log-within : (p id t v : ℕ) → contentsOf (storeOf store) .log .usual p id t ≡ some v → (p < partsOf store) × (id < 2 ^ 32)
+  pub log-found-within : (p id t v : ℕ) → contentsOf (storeOf store) .log .usual p id t ≡ some v → (p < partsOf store) × (id < 2 ^ 32)
   unfolding contentsOf
-  log-within p id t v =
+  log-found-within p id t v =
       within (ltb p (partsOf store)) _ v
       (λ b. within (ltb id (2 ^ 32)) _ v (λ c e. (ltb-true p (partsOf store) b, ltb-true id (2 ^ 32) c)))
 
@@ -139,26 +138,15 @@ module _ (store : List ℕ) (passes : storeRefusal store ≡ none) where
     log-row p l = rw (lt-ltb p (partsOf store) l, lt-ltb id (2 ^ 32) h, lt-ltb t 65536 g) refl
 
     -- is the step logged, by the rules' log?
-    pub logged-as : isLogged store id t
-        ≡ not (each (partsOf store) (λ p. not (isSome (contentsOf (storeOf store) .log .usual p id t))))
+    pub logged-as : isLogged store id t ≡ anyBelow (partsOf store) (λ p. isSome (contentsOf (storeOf store) .log .usual p id t))
     logged-as =
-        ap not (each-same (λ p. not (isSome (lookup (logKey id t) (rowsOf store p))))
-        (λ p. not (isSome (contentsOf (storeOf store) .log .usual p id t))) (partsOf store) 0
-        (λ p l l′. ap (λ o. not (isSome o)) (sym (log-row p (omega arith)))))
+        any-same (partsOf store) (λ p. isSome (lookup (logKey id t) (rowsOf store p)))
+        (λ p. isSome (contentsOf (storeOf store) .log .usual p id t)) (λ p l. ap isSome (sym (log-row p l)))
 
     -- no partition has its row
     pub none-logged : ((p : ℕ) → contentsOf (storeOf store) .log .usual p id t ≡ none) → isLogged store id t ≡ false
-    none-logged n =
-        logged-as ∙ ap not (each-all (λ p. not (isSome (contentsOf (storeOf store) .log .usual p id t))) (partsOf store) 0
-        (λ p l l′. ap (λ o. not (isSome o)) (n p)))
+    none-logged n = logged-as ∙ any-none (partsOf store) _ (λ p. ap isSome (n p))
 
     -- one has
     pub there-logged : (p v : ℕ) → p < partsOf store → contentsOf (storeOf store) .log .usual p id t ≡ some v → isLogged store id t ≡ true
-    there-logged p v l e = logged-as ∙ go (each (partsOf store) f) refl
-      where
-        f : ℕ → Bool
-        f q = not (isSome (contentsOf (storeOf store) .log .usual q id t))
-
-        go : (b : Bool) → each (partsOf store) f ≡ b → not (each (partsOf store) f) ≡ true
-        go false q = ap not q
-        go true q = no-yes (sym (ap (λ o. not (isSome o)) e) ∙ each-at f (partsOf store) 0 q p (omega arith) (omega arith))
+    there-logged p v l e = logged-as ∙ any-some (partsOf store) _ p l (ap isSome e)

@@ -3,7 +3,6 @@ use mathlib.Core.List.{List, [], _∷_}
 use mathlib.Core.Path.{_≡_, refl}
 use Prim.Native.Nat.{ℕ, _+_, _^_}
 use Rattle.words.specs.Words.{le, fields}
-use Rattle.questions.specs.Basics.{eachFrom}
 use Rattle.keys.specs.Keys.{isDataKey}
 use Rattle.rules.specs.Move.{MOVE}
 use Rattle.code.specs.Meaning.{decode, listOf, codeOf}
@@ -11,7 +10,7 @@ use Rattle.pack.specs.Layout.{firstOf, operationsOf, operandsOf}
 use Rattle.pack.specs.Meaning.{packOf}
 use Rattle.store.specs.Layout.{usedOf}
 use Rattle.store.specs.Rows.{pairs, lookup, rowsOf}
-use Rattle.chain.specs.NothingLost.{sumBelow, sumOver, allData, amountsUnderWay}
+use Rattle.chain.specs.NothingLost.{sumBelow, anyBelow, sumOver, allData, amountsUnderWay}
 
 -- the pack: its only workflow is MOVE
 abbrev movePack : List ℕ
@@ -53,8 +52,8 @@ pub record CutCase : Type 0 where
   pub end-sum : allData endStore + amountsUnderWay endStore ≡ 2 ^ 32
 
 pub cut-case : CutCase
-unfolding packOf operationsOf operandsOf firstOf codeOf listOf decode fields le usedOf rowsOf pairs lookup sumBelow sumOver isDataKey
-    eachFrom
+unfolding packOf operationsOf operandsOf firstOf codeOf listOf decode fields le usedOf rowsOf pairs lookup sumBelow anyBelow sumOver
+    isDataKey
 cut-case =
     record {
       its-pack = refl;

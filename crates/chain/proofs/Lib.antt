@@ -1,6 +1,6 @@
 pub mod Sums
 pub mod Counted
-pub mod Shifted
+pub mod SumsAfter
 pub mod Mirror
 pub mod Each
 pub mod Theorem

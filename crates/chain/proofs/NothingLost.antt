@@ -44,7 +44,7 @@ use Rattle.chain.specs.NothingLost.{sumOver, dataValue, allData, isUnder
 use Rattle.chain.specs.NothingLost.{amountRow, amountIf, amountsUnderWay, AddsUp, NothingLost}
 use Rattle.chain.proofs.Sums.{none-below}
 use Rattle.chain.proofs.Counted.{amountOf}
-use Rattle.chain.proofs.Shifted.{by-booking, by-first, by-second}
+use Rattle.chain.proofs.SumsAfter.{by-booking, by-first, by-second}
 use Rattle.chain.proofs.Mirror.{Mirror, mirror}
 use Rattle.chain.proofs.Theorem.{sized}
 

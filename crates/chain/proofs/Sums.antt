@@ -1,8 +1,8 @@
--- Laws of the sums of W-207: rows by rising key are summed by what is found at each key, so a change at one key changes the sum by that.
-use mathlib.Core.Bool.{Bool, true, false}
+-- Laws of sums and of some partition, for W-207: rows by rising key are summed by what is found at each key, so a change at one key changes the sum by that.
+use mathlib.Core.Bool.{Bool, true, false, _||_}
 use mathlib.Core.List.{List, [], _∷_}
 use mathlib.Core.Option.{Option, none, some}
-use mathlib.Core.Path.{_≡_, refl, sym, _∙_, ap}
+use mathlib.Core.Path.{_≡_, refl, sym, _∙_, ap, ap₂}
 use Prim.Native.Nat.{ℕ, zero, suc, _+_, _<_}
 use native.Mathlib.Omega.{arith}
 use native.Mathlib.Decide.{ℕ-discrete}
@@ -13,7 +13,7 @@ use Rattle.questions.proofs.Tests.{and-right}
 use Rattle.store.specs.Rows.{Row, keysIn, lookup}
 use Rattle.store.specs.Questions.{ahead, rising}
 use Rattle.store.proofs.Lists.{rises-none}
-use Rattle.chain.specs.NothingLost.{sumBelow, sumOver}
+use Rattle.chain.specs.NothingLost.{sumBelow, anyBelow, sumOver}
 
 -- what is found at a key counts
 abbrev pub countAt : (counts : Row → ℕ) → (k : ℕ) → Option ℕ → ℕ
@@ -142,3 +142,28 @@ pub none-below : (n : ℕ) (f : ℕ → ℕ) → ((p : ℕ) → f p ≡ 0) → s
 unfolding sumBelow
 none-below zero f h = refl
 none-below (suc n) f h = omega (arith, none-below n f h, h n)
+
+-- ── some partition ──
+
+pub any-same : (n : ℕ) (f g : ℕ → Bool) → ((p : ℕ) → p < n → f p ≡ g p) → anyBelow n f ≡ anyBelow n g
+unfolding anyBelow
+any-same zero f g h = refl
+any-same (suc n) f g h = ap₂ _||_ (any-same n f g (λ p l. h p (omega arith))) (h n (omega arith))
+
+pub any-none : (n : ℕ) (f : ℕ → Bool) → ((p : ℕ) → f p ≡ false) → anyBelow n f ≡ false
+unfolding anyBelow
+any-none zero f h = refl
+any-none (suc n) f h = ap₂ _||_ (any-none n f h) (h n)
+
+pub any-some : (n : ℕ) (f : ℕ → Bool) (p : ℕ) → p < n → f p ≡ true → anyBelow n f ≡ true
+unfolding anyBelow
+any-some zero f p l e = absurd (omega arith)
+any-some (suc n) f p l e = go (ℕ-discrete p n) (any-some n f p)
+  where
+    or-true : (b : Bool) → (b || true) ≡ true
+    or-true true = refl
+    or-true false = refl
+
+    go : Dec (p ≡ n) → (p < n → f p ≡ true → anyBelow n f ≡ true) → anyBelow (suc n) f ≡ true
+    go (yes w) rec = ap (λ b. anyBelow n f || b) (ap f (sym w) ∙ e) ∙ or-true (anyBelow n f)
+    go (no w) rec = ap (λ b. b || f n) (rec (omega arith) e)

@@ -1,10 +1,10 @@
 -- W-207, nothing lost on the way: what a technician adds up from the rows that stand in a store's bytes.
-use mathlib.Core.Bool.{Bool, not, _&&_}
+use mathlib.Core.Bool.{Bool, false, not, _&&_, _||_}
 use mathlib.Core.List.{List, [], _∷_}
 use mathlib.Core.Path.{_≡_}
 use Prim.Native.Nat.{ℕ, zero, suc, _+_, _%_, _^_}
 use lib.Dec.{eqb}
-use Rattle.questions.specs.Basics.{if_then_else_, each, isSome}
+use Rattle.questions.specs.Basics.{if_then_else_, isSome}
 use Rattle.keys.specs.Keys.{isDataKey, logKey, bookedId, bookRow}
 use Rattle.rules.specs.Move.{MOVE}
 use Rattle.rules.specs.Plain.{Event}
@@ -15,14 +15,19 @@ use Rattle.store.specs.Rows.{Row, rowsOf, lookup}
 use Rattle.meaning.specs.State.{Lent}
 use Rattle.chain.specs.Chain.{Chain}
 
--- ── Sums ──
+-- ── Over numbers and over rows ──
 
--- of f at the numbers below n
+-- the sum of f at the numbers below n
 unfoldable pub sumBelow : (n : ℕ) → (ℕ → ℕ) → ℕ
 sumBelow zero f = 0
 sumBelow (suc n) f = sumBelow n f + f n
 
--- of what each row counts
+-- does f hold at some number below n?
+unfoldable pub anyBelow : (n : ℕ) → (ℕ → Bool) → Bool
+anyBelow zero f = false
+anyBelow (suc n) f = anyBelow n f || f n
+
+-- the sum of what each row counts
 unfoldable pub sumOver : (counts : Row → ℕ) → List Row → ℕ
 sumOver counts [] = 0
 sumOver counts (r ∷ rows) = counts r + sumOver counts rows
@@ -33,15 +38,15 @@ sumOver counts (r ∷ rows) = counts r + sumOver counts rows
 abbrev pub dataValue : Row → ℕ
 dataValue r = if isDataKey (r .0) then r .1 else 0
 
--- of all partitions; the book is none of them
+-- the data values of all partitions; the book is none of them
 abbrev pub allData : (store : List ℕ) → ℕ
 allData store = sumBelow (partsOf store) (λ p. sumOver dataValue (rowsOf store p))
 
 -- ── The amounts booked for requests whose step 0 is logged and step 1 isn't ──
 
--- is a step of a request logged? Not every partition is without its log row.
+-- is a step of a request logged: has some partition its log row?
 abbrev pub isLogged : (store : List ℕ) → (id step : ℕ) → Bool
-isLogged store id t = not (each (partsOf store) (λ p. not (isSome (lookup (logKey id t) (rowsOf store p)))))
+isLogged store id t = anyBelow (partsOf store) (λ p. isSome (lookup (logKey id t) (rowsOf store p)))
 
 -- by whether its step 0 and its step 1 are logged: the first is, the other isn't
 abbrev pub betweenSteps : (zeroLogged oneLogged : Bool) → Bool
@@ -59,6 +64,7 @@ amountRow = 3
 abbrev pub amountIf : (underWay : (id : ℕ) → Bool) → Row → ℕ
 amountIf underWay r = if eqb (bookRow (r .0)) amountRow && underWay (bookedId (r .0)) then r .1 else 0
 
+-- all of them: the sum over the book's rows
 abbrev pub amountsUnderWay : (store : List ℕ) → ℕ
 amountsUnderWay store = sumOver (amountIf (isUnderWay store)) (bookRows store)
 
@@ -68,7 +74,8 @@ amountsUnderWay store = sumOver (amountIf (isUnderWay store)) (bookRows store)
 abbrev pub AddsUp : (store : List ℕ) → Type 0
 AddsUp store = (allData store + amountsUnderWay store) % 2 ^ 32 ≡ 0
 
--- For a pack whose only workflow is MOVE, a fresh store without agents and calls in any sequence: after each of them.
+-- For a pack whose only workflow is MOVE, a fresh store without agents and calls in any sequence: after each of them. (Each number of a
+-- lent store is a byte; here it is asked for, since calls and bytes are numbers of any size.)
 abbrev pub NothingLost : Type 0
 NothingLost =
     (pack : List ℕ) (P C : ℕ) → packOf pack ≡ MOVE ∷ [] →

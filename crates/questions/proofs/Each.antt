@@ -1,6 +1,6 @@
 -- Laws of `each`, for a loop that leaves at the first i where f fails. Its invariant is that what is left answers the whole: `eachFrom f (n
 -- - i) i ≡ each n f`.
-use mathlib.Core.Path.{_≡_, refl, ap₂}
+use mathlib.Core.Path.{_≡_, refl}
 use mathlib.Core.Bool.{Bool, true, false}
 use mathlib.Core.Logic.{⊎-elim}
 use Prim.Native.Nat.{ℕ, zero, suc, _+_, _-_, _≤_, _<_}
@@ -39,11 +39,3 @@ module _ (f : ℕ → Bool) where
   unfolding eachFrom
   each-all zero i h = refl
   each-all (suc n) i h = rw (h i (omega arith) (omega arith)) (each-all n (i + 1) (λ k l l′. h k (omega arith) (omega arith)))
-
--- two tests that agree at each number
-pub each-same : (f g : ℕ → Bool) (n i : ℕ) → ((k : ℕ) → i ≤ k → k < i + n → f k ≡ g k) → eachFrom f n i ≡ eachFrom g n i
-unfolding eachFrom
-each-same f g zero i h = refl
-each-same f g (suc n) i h =
-    ap₂ (λ (b c : Bool). if_then_else_ b c false) (h i (omega arith) (omega arith))
-    (each-same f g n (i + 1) (λ k l l′. h k (omega arith) (omega arith)))

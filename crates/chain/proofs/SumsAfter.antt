@@ -1,5 +1,5 @@
 -- How the sums of W-207 change with the store of the rules: by a request booked, and by a block of MOVE.
-use mathlib.Core.Bool.{Bool, true, false, not}
+use mathlib.Core.Bool.{Bool, true, false}
 use mathlib.Core.List.{List}
 use mathlib.Core.Logic.{_⊎_, inl, inr}
 use mathlib.Core.Option.{Option, none, some, Option·getD}
@@ -9,7 +9,7 @@ use native.Mathlib.Omega.{arith}
 use native.Mathlib.Decide.{ℕ-discrete}
 use borrow.Author.Tests.{eq-eqb, eqb-true}
 use lib.Dec.{eqb}
-use Rattle.questions.specs.Basics.{if_then_else_, each, isSome, update}
+use Rattle.questions.specs.Basics.{if_then_else_, isSome, update}
 use Rattle.questions.proofs.Updates.{none-some, update-same, update-other}
 use Rattle.keys.specs.Keys.{isDataKey, dataKey, dataOf, bookKey, isBookKey, bookedId, bookRow}
 use Rattle.keys.proofs.Keys.{data-is, data-bounds, book-is, book-again}
@@ -21,12 +21,12 @@ use Rattle.contents.specs.Contents.{contentsOf, bookRows}
 use Rattle.store.specs.Layout.{partsOf}
 use Rattle.store.specs.Rows.{lookup, rowsOf, storeOf}
 use Rattle.store.specs.Questions.{storeRefusal}
-use Rattle.chain.specs.NothingLost.{sumBelow, sumOver, dataValue, allData, isLogged, betweenSteps, isUnderWay}
+use Rattle.chain.specs.NothingLost.{sumBelow, anyBelow, sumOver, dataValue, allData, isLogged, betweenSteps, isUnderWay}
 use Rattle.chain.specs.NothingLost.{amountRow, amountIf, amountsUnderWay, AddsUp}
 use Rattle.chain.proofs.Sums.{countAt, same-sum, changed-sum, same-below, changed-below}
 use Rattle.chain.proofs.Counted.{dataAt, amountOf, amountAt, part-rises, book-rises, data-counted}
 use Rattle.chain.proofs.Counted.{amount-counted, logged-as, none-logged}
-use Rattle.chain.proofs.Counted.{there-logged, row-within, log-within}
+use Rattle.chain.proofs.Counted.{there-logged, row-found-within, log-found-within}
 
 module _ (store store′ : List ℕ) (passes : storeRefusal store ≡ none) (passes′ : storeRefusal store′ ≡ none)
     (parts : partsOf store′ ≡ partsOf store) where
@@ -164,7 +164,7 @@ module _ (store store′ : List ℕ) (passes : storeRefusal store ≡ none) (pas
   logged-stays : (id t : ℕ) → id < 2 ^ 32 → t < 65536 → ((p : ℕ) → s′ .log .usual p id t ≡ s .log .usual p id t) →
       isLogged store′ id t ≡ isLogged store id t
   logged-stays id t h g e =
-      logged-as store′ passes′ id t h g ∙ (λ i. not (each (parts i) (λ p. not (isSome (e p i))))) ∙ sym (logged-as store passes id t h g)
+      logged-as store′ passes′ id t h g ∙ (λ i. anyBelow (parts i) (λ p. isSome (e p i))) ∙ sym (logged-as store passes id t h g)
 
   -- so a request that has no new row is under way as before
   way-stays : (id : ℕ) → id < 2 ^ 32 → ((p t : ℕ) → s′ .log .usual p id t ≡ s .log .usual p id t) →
@@ -207,7 +207,7 @@ module _ (store store′ : List ℕ) (passes : storeRefusal store ≡ none) (pas
     rows-there q n = ap (λ (x : Rules.Store). x .rows q) e ∙ update-other (s .rows) p (b .table) q n
 
     key-within : (p < partsOf store′) × (key < 2 ^ 32)
-    key-within = row-within store′ p key v (ap (λ (T : Table). T key) rows-here ∙ update-same (s .rows p) key (some v))
+    key-within = row-found-within store′ p key v (ap (λ (T : Table). T key) rows-here ∙ update-same (s .rows p) key (some v))
 
     by-put : allData store′ + Option·getD (s .rows p key) 0 ≡ allData store + v
     by-put = data-put p key v (omega (arith, key-within .0, parts)) (key-within .1) rows-here rows-there
@@ -221,7 +221,7 @@ module _ (store store′ : List ℕ) (passes : storeRefusal store ≡ none) (pas
         go (some r) f = (r, refl)
 
     abbrev bounds : (p < partsOf store′) × (id < 2 ^ 32)
-    bounds = log-within store′ p id t (row-there .0) (row-there .1)
+    bounds = log-found-within store′ p id t (row-there .0) (row-there .1)
 
     other-rows : (j : ℕ) → (j ≡ id → ⊥) → (q u : ℕ) → s′ .log .usual q j u ≡ s .log .usual q j u
     other-rows j n q u =
@@ -264,7 +264,7 @@ module _ (store store′ : List ℕ) (passes : storeRefusal store ≡ none) (pas
       where
         go : (o : Option ℕ) → s .log .usual q id u ≡ o → sought o ≡ some r → isLogged store id u ≡ true
         go none w f = none-some r refl f
-        go (some x) w f = there-logged store passes id u (bounds .1) h q x (log-within store q id u x w .0) w
+        go (some x) w f = there-logged store passes id u (bounds .1) h q x (log-found-within store q id u x w .0) w
 
     -- ── a block of MOVE ──
 
