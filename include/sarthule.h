@@ -139,7 +139,7 @@ uint32_t sarthule_create(uint8_t *store, size_t store_len, size_t partitions, si
 
 /*
  * Puts a store of an earlier library in order: the same rows, those of each partition and of the book by rising stored key.
- * It is given neither pack nor slots, and agents that are under way go on as before. A store in order stays byte for byte
+ * It is given neither pack nor slots, and agents in the slots go on as before. A store in order stays byte for byte
  * as it is, so the call may be made whenever a store is opened. Done, or refused with 9 to 12; of 11 it asks all but the
  * rising keys.
  */
