@@ -39,7 +39,11 @@ fn whole_case_has_the_documents_bytes() {
     let pack = move_pack();
     assert_eq!(pack.len(), 1 + 2 + 5 * 12);
     assert_eq!(&pack[..3], [1, 12, 0]);
-    assert_eq!(&pack[3..8], [0x14, 0x60, 0x85, 0x35, 0x94]);
+    let operations = "14 60 85 35 94 75 60 85 25 91 75 B0";
+    let bytes: Vec<String> = pack[3..15].iter().map(|b| format!("{b:02X}")).collect();
+    assert_eq!(bytes.join(" "), operations);
+    let words = [0, 0, 4, 2, 5, 0, 1, 1, 2, 5, 0, 0];
+    assert_eq!(pack[15..], words.map(u32::to_le_bytes).concat());
     let schedule = whole_schedule().encode();
     assert_eq!(&schedule[..6], [2, 5, 0, 2, 10, 0]);
     let events = &schedule[6 + 48..];

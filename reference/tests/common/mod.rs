@@ -9,6 +9,7 @@ use reference::bytes::write_at;
 use reference::pack::encode;
 use reference::schedule::{Event, Kind, Schedule};
 use reference::store::{fresh, Request, Store};
+use reference::sums::MOVE;
 use reference::{Call, Outcome};
 
 pub const RETURN: (u8, u32) = (0xB0, 0);
@@ -17,22 +18,9 @@ pub const END: (u8, u32) = (0x70, 0);
 pub const SET: (u8, u32) = (0x00, 5);
 pub const PUT: (u8, u32) = (0x90, 0);
 
-/// MOVE of document 01.
+/// MOVE of document 01; `tests/document.rs` holds it to the document's bytes.
 pub fn move_workflow() -> Vec<(u8, u32)> {
-    vec![
-        (0x14, 0),
-        (0x60, 0),
-        (0x85, 4),
-        (0x35, 2),
-        (0x94, 5),
-        (0x75, 0),
-        (0x60, 1),
-        (0x85, 1),
-        (0x25, 2),
-        (0x91, 5),
-        (0x75, 0),
-        (0xB0, 0),
-    ]
+    MOVE.to_vec()
 }
 
 pub fn move_pack() -> Vec<u8> {
