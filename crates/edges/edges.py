@@ -1,16 +1,19 @@
 #!/usr/bin/env python3
 """Writes `stdin` and `stdout` of the program edges.
 
-Each edge below is its words, a case, the answer that documents 01 and 02 give to it, and the store that it leaves where this isn't the
-store that was given; written by hand from the documents and not from any program. The sections follow the questions. Behind the answer of
-an opening the parts that it hands out are printed; behind that of a call that is given a store, or of a list of calls, its bytes. Where a
-search ends (W-204) is tried at every place: those edges are made from tables, which have the results by hand.
+Each edge below is its words, a case, the answer that documents 01 and 02 give to it, and the store and the worklist that it leaves where
+these aren't the ones that were given (None stands for the store that was given); written by hand from the documents and not from any
+program. The sections follow the questions. Behind the answer of an opening the parts that it hands out are printed; behind that of a call
+that is given a store, or of a list of calls, its bytes, and behind them the ids on the worklist, each with its mark. Where a search ends
+(W-204) is tried at every place: those edges are made from tables, which have the results by hand.
 """
 import os
 import struct
 
 CHECK, OPEN, CREATE, ARRIVAL, RETRY, TURN, CRASH, RESTART = range(8)
 FIGURES, ORDER = 8, 9
+# W-208: FINISH is the call done, which DONE, an answer, is not
+ADD, TAKE, FINISH, REPLY = 10, 11, 12, 13
 RETURN = (0xB0, 0)
 SET = (0x00, 0)
 COPY = (0x10, 0)
@@ -56,10 +59,10 @@ def agent(id, position=0, step=0, registers=(), in_use=1):
 
 
 class Case:
-    """The bytes of a case, and the store whose bytes are printed behind its answer, if there is one."""
+    """The bytes of a case; the store whose bytes are printed behind its answer, if there is one, and the worklist behind them."""
 
-    def __init__(self, bytes, store=None):
-        self.bytes, self.store = bytes, store
+    def __init__(self, bytes, store=None, listed=()):
+        self.bytes, self.store, self.listed = bytes, store, listed
 
 
 def records(slots):
@@ -71,16 +74,22 @@ def one_call(code, words):
     return bytes([code]) + struct.pack("<7I", *words, *[0] * (7 - len(words)))
 
 
-def call(code, words=(), pack=b"", store=b"", slots=None):
-    """A call."""
-    head = struct.pack("<BII", 1, len(pack), len(store)) + pack + store
-    return Case(head + records(slots) + one_call(code, words), None if code in (CHECK, OPEN, FIGURES) else store)
+def with_list(kind, pack, store, listed):
+    """What a case begins with that has a worklist, of ids and marks."""
+    head = struct.pack("<BIIB", kind, len(pack), len(store), len(listed)) + pack + store
+    return head + b"".join(struct.pack("<IB", id, mark) for id, mark in listed)
 
 
-def calls(pack, store, made, slots=None):
+def call(code, words=(), pack=b"", store=b"", slots=None, listed=None):
+    """A call; it may be lent a worklist."""
+    head = struct.pack("<BII", 1, len(pack), len(store)) + pack + store if listed is None else with_list(2, pack, store, listed)
+    return Case(head + records(slots) + one_call(code, words), None if code in (CHECK, OPEN, FIGURES, REPLY) else store, listed or ())
+
+
+def calls(pack, store, made, slots=None, listed=()):
     """A list of calls, each given what the one before left; each one is a call and its words."""
-    head = struct.pack("<BII", 2, len(pack), len(store)) + pack + store + records(slots) + bytes([len(made)])
-    return Case(head + b"".join(one_call(code, words) for code, words in made), store)
+    head = with_list(3, pack, store, listed) + records(slots) + bytes([len(made)])
+    return Case(head + b"".join(one_call(code, words) for code, words in made), store, listed)
 
 
 def schedule(pack, P, C, requests, kinds, indexes=None, more=b""):
@@ -201,7 +210,7 @@ def refused(n, workflow=0, instruction=0):
     return "answer refused %d %d %d\n" % (n, workflow, instruction)
 
 
-DONE, MOVED = "answer done\n", "answer moved\n"
+DONE, MOVED, NOT_YET = "answer done\n", "answer moved\n", "answer not yet\n"
 NINE = (0x05, 9)  # register 5 becomes 9
 GET = (0x85, 0)  # the value at register 0's key, to register 5
 
@@ -328,6 +337,122 @@ def no_record(i):
     return [("in use 2 in slot %d" % i, call(ARRIVAL, [i, 8, 0], ONE, store(), {i: agent(0, in_use=2)}), refused(14)),
             ("position 65,536 in slot %d" % i, turn(ONE, booked, {i: agent(7, 65536)}, i), refused(14)),
             ("step 65,536 in slot %d" % i, turn(ONE, booked, {i: agent(7, 0, 65536)}, i), refused(14))]
+
+
+# W-208: the worklist
+def waits(*ids):
+    """Ids that are listed as waiting, in order of entry."""
+    return [(id, 0) for id in ids]
+
+
+def taken(*ids):
+    """Ids that are listed as taken."""
+    return [(id, 1) for id in ids]
+
+
+SEVEN_BOOKED = store(book=BOOKED)
+# fifteen and sixteen ids that no book here has
+FIFTEEN_IDS = list(range(21, 36))
+SIXTEEN_IDS = FIFTEEN_IDS + [36]
+# request 7 of KEPT, booked and logged: the result is argument 0
+KEPT_SEVEN = store(1, 5, [(0, log(7, 0), 100), (0, data(100), 200)], BOOKED)
+# request 7 of MOVE, logged so far: its first block
+HALF_MOVED = store(2, 5, [(0, log(7, 0), 2**32 - 30), (0, data(100), 2**32 - 30)], BOOKED)
+# a block, then another one, over which a jump goes if the first one's result is argument 1, or below it
+UNLESS_EQUAL = pack([BEGIN, END, (0x50, 16 * 5 + 1), BEGIN, END, RETURN])
+UNLESS_BELOW = pack([BEGIN, END, (0x40, 16 * 5 + 1), BEGIN, END, RETURN])
+# a jump that always goes, over the first of two blocks
+OVER = pack([(0x50, 16 * 3), BEGIN, END, BEGIN, END, RETURN])
+# argument 2 is added 255 times to argument 1, which is the reply
+LONG = pack([(0x21, 2)] * 255 + [(0xB1, 0)])
+# a block in each of eight partitions
+EIGHT_BLOCKS = pack([i for p in range(8) for i in ((0x60, p), END)] + [RETURN])
+# what log rows there are where request 7 of MOVE isn't logged through: (partition, id, step)
+NOT_THROUGH = [
+    ("no block", []), ("the second block alone", [(1, 7, 1)]), ("both steps in partition 0", [(0, 7, 0), (0, 7, 1)]),
+    ("both steps in partition 1", [(1, 7, 0), (1, 7, 1)]), ("each step in the other's partition", [(0, 7, 1), (1, 7, 0)]),
+    ("step 0 in both partitions", [(0, 7, 0), (1, 7, 0)]), ("step 1 in both partitions", [(0, 7, 1), (1, 7, 1)]),
+    ("steps 0 and 2", [(0, 7, 0), (1, 7, 2)]), ("both steps of ids 6 and 8", [(0, 6, 0), (0, 8, 0), (1, 6, 1), (1, 8, 1)]),
+]
+# lists that 25 says no to
+BAD_LISTS = [
+    ("17 ids", taken(7) + waits(*SIXTEEN_IDS)), ("255 ids", taken(7) + waits(*range(1000, 1254))),
+    ("one id twice, side by side", taken(7, 7)), ("one id twice, taken and waiting, another between", taken(7) + waits(8, 7)),
+    ("the first and the last of 16 are one id", taken(7) + waits(*FIFTEEN_IDS[1:], 7)), ("id 0 twice", taken(7) + waits(0, 0)),
+    ("mark 2 in the first", [(8, 2)] + taken(7)), ("mark 2 between two others", taken(7) + [(8, 2)] + waits(9)),
+    ("mark 255 in the last of 16", taken(7) + waits(*FIFTEEN_IDS[1:]) + [(36, 255)]),
+]
+# a list with a mark of 2, and what says no to it before 25 does: the question with its place, pack, store and slots
+MARK_2 = [(7, 2)]
+BEFORE_25 = [
+    ((1,), b"", SEVEN_BOOKED, None), ((2,), b"\1", SEVEN_BOOKED, None), ((3,), pack([RETURN], more=b"\0"), SEVEN_BOOKED, None),
+    ((4, 1, 1), pack([RETURN], [SET, (0xC0, 0), RETURN]), SEVEN_BOOKED, None),
+    ((5, 0, 1), pack([COPY, (0x50, 16 * 1), RETURN]), SEVEN_BOOKED, None), ((6, 0, 1), pack([BEGIN, RETURN]), SEVEN_BOOKED, None),
+    ((7, 0, 17), pack([BEGIN] + [PUT] * 17 + [END, RETURN]), SEVEN_BOOKED, None),
+    ((8, 1, 1), pack([RETURN], [RETURN, SET]), SEVEN_BOOKED, None), ((9,), ONE, b"\1\5", None), ((10,), ONE, store(more=b"\0"), None),
+    ((11,), ONE, written(1, 5, [(0, data(2), 1), (0, data(1), 2)], BOOKED), None),
+    ((12,), ONE, store(1, 5, [(1, 8 * 7 + j, 0) for j in range(4)]), None), ((13,), ONE, store(book=[(7, 1, [0] * 4)]), None),
+    ((14,), ONE, SEVEN_BOOKED, {3: agent(8)}),
+]
+
+
+def add(listed, id=7, p=ONE, s=SEVEN_BOOKED, slots=None):
+    """An id is put on a worklist."""
+    return call(ADD, [id], p, s, slots, listed)
+
+
+def take(listed, p=ONE, s=SEVEN_BOOKED, slots=None):
+    """A worker asks for the first id that waits."""
+    return call(TAKE, (), p, s, slots, listed)
+
+
+def finish(listed, id=7, p=ONE, s=SEVEN_BOOKED, slots=None):
+    """The call done of an id."""
+    return call(FINISH, [id], p, s, slots, listed)
+
+
+def reply(p=ONE, s=SEVEN_BOOKED, id=7, slots=None):
+    """The reading call: the reply worked out from the log."""
+    return call(REPLY, [id], p, s, slots)
+
+
+def gives(id):
+    """The answer of a take."""
+    return "answer taken %d\n" % id
+
+
+def value_of(id, value):
+    """The answer of a turn at RETURN, and of the reading call."""
+    return "answer reply %d %d\n" % (id, value)
+
+
+def kept(value, *rows):
+    """A store in which request 7 of KEPT, or of another workflow with one block in partition 0, has logged a result; and other rows."""
+    return store(1, 5, [(0, log(7, 0), value), *rows], BOOKED)
+
+
+def not_through(words, rows):
+    """Request 7 of MOVE is listed as taken, and such log rows are there: done is turned down."""
+    s = store(2, 5, [(p, log(id, step), 30) for p, id, step in rows], BOOKED)
+    return ("done: MOVE with log rows of %s" % words, finish(taken(7), p=MOVE, s=s), refused(27))
+
+
+def eight_logged(blocks):
+    """The first blocks of EIGHT_BLOCKS are logged, that of step t with result t + 1."""
+    return store(8, 5, [(t, log(7, t), t + 1) for t in range(blocks)], BOOKED)
+
+
+def bad_list(words, listed):
+    """Each call that puts 25 says no, before a restart and after it; the restart doesn't touch the list."""
+    made = [(ADD, [7]), (TAKE, []), (FINISH, [7]), (RESTART, []), (ADD, [7]), (TAKE, []), (FINISH, [7])]
+    return ("25, and a restart leaves the list as it was: %s" % words, calls(ONE, SEVEN_BOOKED, made, listed=listed),
+            refused(25) * 3 + DONE + refused(25) * 3)
+
+
+def before_25(no, p, s, slots):
+    """Add, take and done say no to something else before 25."""
+    return ("%d is asked before 25: add, take and done" % no[0],
+            calls(p, s, [(ADD, [8]), (TAKE, []), (FINISH, [8])], slots, MARK_2), refused(*no) * 3)
 
 
 EDGES = [
@@ -779,6 +904,169 @@ log 1 9 0 3
         (ARRIVAL, [0, 7, 0, 100, 200, 300, 400]), (TURN, [0]), (TURN, [0])]),
      DONE + MOVED + refused(21),
      store(1, 5, [(0, log(7, 0), 100), (0, data(9), 1), (0, data(100), 200)], [(7, 0, [100, 200, 300, 400])])),
+    # W-208: add
+    ("add: a booked id to an empty list", add([]), DONE, None, waits(7)),
+    ("add: a new id goes to the end of the list, waiting", add(taken(9) + waits(8)), DONE, None, taken(9) + waits(8, 7)),
+    ("add: a new id goes behind taken ones", add(waits(8) + taken(9)), DONE, None, waits(8) + taken(9) + waits(7)),
+    ("add: a listed id that waits changes nothing", add(waits(7, 8)), DONE),
+    ("add: a listed id that is taken stays taken", add(waits(8) + taken(7)), DONE),
+    ("add: an id that is not booked", add(waits(7), 8), refused(20)),
+    ("add: a listed id that is not booked", add(waits(8), 8), refused(20)),
+    ("add: a listed id that is taken and not booked", add(taken(8), 8), refused(20)),
+    ("add: 15 listed, the new id is the 16th", add(waits(*FIFTEEN_IDS)), DONE, None, waits(*FIFTEEN_IDS, 7)),
+    ("add: 16 listed, a new id", add(waits(*SIXTEEN_IDS)), refused(26)),
+    ("add: 16 listed, all taken, a new id", add(taken(*SIXTEEN_IDS)), refused(26)),
+    ("add: 16 listed, and the id is not booked: 26 before 20", add(waits(*SIXTEEN_IDS), 8), refused(26)),
+    ("add: 16 listed, the last of them", add(waits(*FIFTEEN_IDS, 7)), DONE),
+    ("add: 16 listed, the first of them, taken", add(taken(7) + waits(*FIFTEEN_IDS)), DONE),
+    ("add: 16 listed, the last of them, which is not booked", add(waits(*SIXTEEN_IDS), 36), refused(20)),
+    ("add: a request that is logged through already", add([], p=KEPT, s=KEPT_SEVEN), DONE, None, waits(7)),
+    ("add: agents of the id in all eight slots", add([], slots={i: agent(7) for i in range(8)}), DONE, None, waits(7)),
+    # take
+    ("take: the first of two that wait, by order of entry", take(waits(9, 8)), gives(9), None, taken(9) + waits(8)),
+    ("take: the first that waits behind a taken one", take(taken(9) + waits(7, 8)), gives(7), None, taken(9, 7) + waits(8)),
+    ("take: the first that waits ahead of a taken one", take(waits(8) + taken(7)), gives(8), None, taken(8, 7)),
+    ("take: none waits", take(taken(8, 7)), refused(27)),
+    ("take: an empty list", take([]), refused(27)),
+    ("take: 16 listed, the last of them waits", take(taken(*FIFTEEN_IDS) + waits(7)), gives(7), None, taken(*FIFTEEN_IDS, 7)),
+    ("take: 16 listed, none waits", take(taken(*SIXTEEN_IDS)), refused(27)),
+    ("take: a request that is logged through already", take(waits(7), KEPT, KEPT_SEVEN), gives(7), None, taken(7)),
+    ("take: agents of the id in all eight slots", take(waits(7), slots={i: agent(7) for i in range(8)}), gives(7), None, taken(7)),
+    ("add, take and done start no agent and empty no slot", calls(ONE, SEVEN_BOOKED, [
+        (ADD, [7]), (TURN, [0]), (TAKE, []), (TURN, [0]), (FINISH, [7]), (TURN, [0]), (TURN, [1])], {1: agent(7, registers=[42])}),
+     DONE + refused(16) + gives(7) + refused(16) + DONE + refused(16) + value_of(7, 42)),
+    # done
+    ("done: a request without blocks is logged through from its booking", finish(taken(7)), DONE, None, []),
+    ("done: an id that waits", finish(waits(7)), refused(27)),
+    ("done: an id that is not listed", finish(taken(8)), refused(27)),
+    ("done: an empty list", finish([]), refused(27)),
+    ("done: a taken id that is not booked", finish(taken(8), 8), refused(27)),
+    ("done: in the middle, later ones move up with their marks", finish(taken(9, 7) + waits(8) + taken(6)), DONE, None,
+     taken(9) + waits(8) + taken(6)),
+    ("done: the first of 16", finish(taken(7) + waits(*FIFTEEN_IDS)), DONE, None, waits(*FIFTEEN_IDS)),
+    ("done: the last of 16", finish(taken(*FIFTEEN_IDS, 7)), DONE, None, taken(*FIFTEEN_IDS)),
+    ("done: a block that is not logged", finish(taken(7), p=KEPT), refused(27)),
+    ("done: a block that is logged", finish(taken(7), p=KEPT, s=KEPT_SEVEN), DONE, None, []),
+    ("done: a block that is logged with result 0", finish(taken(7), p=KEPT, s=kept(0)), DONE, None, []),
+    ("done: logged through, but the id waits", finish(waits(7), p=KEPT, s=KEPT_SEVEN), refused(27)),
+    ("done: MOVE with one block logged", finish(taken(7), p=MOVE, s=HALF_MOVED), refused(27)),
+    ("done: MOVE with both blocks logged", finish(taken(7), p=MOVE, s=MOVED_SEVEN), DONE, None, []),
+    *(not_through(words, rows) for words, rows in NOT_THROUGH),
+    ("done: a book row with the log row's number", finish(taken(7), p=KEPT, s=store(1, 10, book=[*BOOKED, like(57344)])), refused(27)),
+    ("done: a jump goes by the logged result, over a block that is not logged", finish(taken(7), p=UNLESS_EQUAL, s=kept(200)), DONE, None,
+     []),
+    ("done: a jump does not go by the logged result, to a block that is not logged", finish(taken(7), p=UNLESS_EQUAL, s=kept(199)),
+     refused(27)),
+    ("done: the first block that is passed has step 0, though it is the workflow's second", finish(taken(7), p=OVER, s=kept(9)), DONE, None,
+     []),
+    ("done: the same with a log row of step 1", finish(taken(7), p=OVER, s=store(1, 5, [(0, log(7, 1), 9)], BOOKED)), refused(27)),
+    ("done: 256 instructions", finish(taken(7), p=LONG), DONE, None, []),
+    ("done: a block in each of eight partitions, the last not logged", finish(taken(7), p=EIGHT_BLOCKS, s=eight_logged(7)), refused(27)),
+    ("done: a block in each of eight partitions", finish(taken(7), p=EIGHT_BLOCKS, s=eight_logged(8)), DONE, None, []),
+    ("done: an agent of the id in a slot, at RETURN, which replies afterwards", calls(
+        KEPT, KEPT_SEVEN, [(FINISH, [7]), (TURN, [2])], {2: agent(7, 3, 1, [100])}, taken(7)), DONE + value_of(7, 100), None, []),
+    ("done: an agent of the id in a slot, at its start, logged through", finish(
+        taken(7), p=KEPT, s=KEPT_SEVEN, slots={0: agent(7, registers=[100, 200, 30])}), DONE, None, []),
+    ("done: an agent of the id in a slot, at its block, not logged", finish(
+        taken(7), p=KEPT, slots={0: agent(7, registers=[100, 200, 30])}), refused(27)),
+    ("done: an agent at RETURN whose block is not logged", finish(taken(7), p=KEPT, slots={0: agent(7, 3, 1, [100])}), refused(27)),
+    # restart
+    ("restart: taken and waiting ids all wait, in their order", call(RESTART, (), ONE, SEVEN_BOOKED, listed=taken(9) + waits(8) + taken(7)),
+     DONE, None, waits(9, 8, 7)),
+    ("restart: 16 taken", call(RESTART, (), ONE, SEVEN_BOOKED, listed=taken(*SIXTEEN_IDS)), DONE, None, waits(*SIXTEEN_IDS)),
+    ("restart: an empty list", call(RESTART, (), ONE, SEVEN_BOOKED, listed=[]), DONE),
+    ("restart: asks neither for a pack nor for a store nor for sound slots, and marks all as waiting",
+     call(RESTART, store=b"\xff", slots={0: agent(0, in_use=2)}, listed=taken(7)), DONE, None, waits(7)),
+    ("restart: the slot is free and the id is given again", calls(
+        ONE, SEVEN_BOOKED, [(RETRY, [0, 7]), (TAKE, []), (RESTART, []), (RETRY, [0, 7]), (TAKE, [])], {0: agent(7)}, taken(7)),
+     refused(16) + refused(27) + DONE * 2 + gives(7)),
+    # 25, and the order of the questions
+    *(bad_list(words, listed) for words, listed in BAD_LISTS),
+    ("25 is asked before 26, 20 and 27", calls(
+        ONE, SEVEN_BOOKED, [(ADD, [7]), (ADD, [8]), (TAKE, []), (FINISH, [7])], listed=taken(*FIFTEEN_IDS, FIFTEEN_IDS[0])),
+     refused(25) * 4),
+    ("25 is asked before 20: fewer than 16 listed", add(taken(9, 9), 8), refused(25)),
+    *(before_25(*line) for line in BEFORE_25),
+    ("14 is asked before 26", add(waits(*SIXTEEN_IDS), slots={3: agent(8)}), refused(14)),
+    ("14 is asked before 20", add([], 8, slots={3: agent(8)}), refused(14)),
+    ("14 is asked before 27: take and done", calls(ONE, SEVEN_BOOKED, [(TAKE, []), (FINISH, [7])], {3: agent(8)}), refused(14) * 2),
+    # calls that don't ask about the list
+    ("an arrival beside a list that 25 would say no to", call(ARRIVAL, [0, *SEVEN], ONE, store(), listed=MARK_2), DONE, SEVEN_BOOKED),
+    ("a retry beside a list that 25 would say no to", call(RETRY, [0, 7], ONE, SEVEN_BOOKED, listed=MARK_2), DONE),
+    ("a turn beside a list that 25 would say no to", call(TURN, [0], ONE, SEVEN_BOOKED, {0: agent(7, registers=[42])}, MARK_2),
+     value_of(7, 42)),
+    ("a crash beside a list that 25 would say no to", call(CRASH, [0], ONE, SEVEN_BOOKED, {0: agent(7)}, MARK_2), DONE),
+    ("order beside a list that 25 would say no to", call(
+        ORDER, (), ONE, written(1, 5, [(0, data(2), 1), (0, data(1), 2)]), listed=MARK_2), DONE,
+     written(1, 5, [(0, data(1), 2), (0, data(2), 1)])),
+    ("the same calls one after the other beside 17 ids", calls(
+        KEPT, store(), [(ARRIVAL, [0, *SEVEN]), (TURN, [0]), (CRASH, [0]), (RETRY, [0, 7]), (TURN, [0]), (ORDER, []), (TURN, [0])],
+        listed=taken(7) + waits(*SIXTEEN_IDS)), DONE + MOVED + DONE * 2 + MOVED + DONE + value_of(7, 100), KEPT_SEVEN),
+    ("an arrival, a turn that replies, a retry and a crash change no mark", calls(
+        ONE, SEVEN_BOOKED, [(ARRIVAL, [0, *SEVEN]), (TURN, [0]), (RETRY, [0, 7]), (CRASH, [0])], listed=taken(7) + waits(8)),
+     DONE + value_of(7, 100) + DONE * 2),
+    # the worklist through several calls
+    ("a worker is killed between take and done, and the next one finishes", calls(MOVE, store(2, 5), [
+        (ARRIVAL, [0, *SEVEN]), (ADD, [7]), (TAKE, []), (TURN, [0]), (TURN, [0]), (CRASH, [0]), (FINISH, [7]), (RESTART, []), (FINISH, [7]),
+        (TAKE, []), (RETRY, [0, 7]), (TURN, [0]), (TURN, [0]), (FINISH, [7]), (TURN, [0]), (TURN, [0]), (FINISH, [7]), (FINISH, [7]),
+        (TAKE, [])]),
+     DONE * 2 + gives(7) + MOVED * 2 + DONE + refused(27) + DONE + refused(27) + gives(7) + DONE + MOVED * 2 + refused(27) + MOVED
+     + value_of(7, 30) + DONE + refused(27) * 2, MOVED_SEVEN),
+    ("the same, cut behind the second take", calls(MOVE, store(2, 5), [
+        (ARRIVAL, [0, *SEVEN]), (ADD, [7]), (TAKE, []), (TURN, [0]), (TURN, [0]), (CRASH, [0]), (RESTART, []), (TAKE, [])]),
+     DONE * 2 + gives(7) + MOVED * 2 + DONE * 2 + gives(7), HALF_MOVED, taken(7)),
+    ("a worker is killed behind the reply: done once it is taken again", calls(KEPT, store(), [
+        (ARRIVAL, [0, *SEVEN]), (ADD, [7]), (TAKE, []), (TURN, [0]), (TURN, [0]), (RESTART, []), (FINISH, [7]), (TAKE, []), (FINISH, [7])]),
+     DONE * 2 + gives(7) + MOVED + value_of(7, 100) + DONE + refused(27) + gives(7) + DONE, KEPT_SEVEN),
+    ("two workers, and the one that took later is done first", calls(KEPT, store(1, 10), [
+        (ARRIVAL, [0, 7, 0, 100, 1, 0, 0]), (ARRIVAL, [1, 8, 0, 50, 2, 0, 0]), (ADD, [8]), (ADD, [7]), (TAKE, []), (TAKE, []), (TAKE, []),
+        (TURN, [0]), (FINISH, [8]), (FINISH, [7]), (TURN, [1])]),
+     DONE * 4 + gives(8) + gives(7) + refused(27) + MOVED + refused(27) + DONE + MOVED, BOTH, taken(8)),
+    ("an id that was done is added again: it is new, goes to the end and waits", calls(
+        ONE, SEVEN_BOOKED, [(FINISH, [7]), (FINISH, [7]), (ADD, [7])], listed=taken(7) + waits(8)),
+     DONE + refused(27) + DONE, None, waits(8, 7)),
+    ("16 listed: 26, and behind a done the new id goes to the end", calls(
+        ONE, store(1, 10, book=[*BOOKED, NEXT]), [(ADD, [8]), (FINISH, [7]), (ADD, [8])], listed=taken(7) + waits(*FIFTEEN_IDS)),
+     refused(26) + DONE * 2, None, waits(*FIFTEEN_IDS, 8)),
+    ("the ids 2^32 - 1 and 0, the latter of an older book", calls(
+        ONE, store(1, 10, book=[*ZERO, like(2**32 - 1)]),
+        [(ADD, [2**32 - 1]), (ADD, [0]), (TAKE, []), (TAKE, []), (FINISH, [0]), (ADD, [0]), (FINISH, [0])]),
+     DONE * 2 + gives(2**32 - 1) + gives(0) + DONE * 2 + refused(27), None, taken(2**32 - 1) + waits(0)),
+    ("ids that differ from 7 in another byte each", calls(
+        ONE, SEVEN_BOOKED, [(FINISH, [7]), (ADD, [7]), (FINISH, [7]), (TAKE, []), (FINISH, [7])],
+        listed=taken(7 + 2**8, 7 + 2**16, 7 + 2**24)), refused(27) + DONE + refused(27) + gives(7) + DONE),
+    ("an older store: 11, and once it is in order an id is added", calls(
+        ONE, written(1, 5, FALLING), [(ADD, [7]), (ORDER, []), (ADD, [7])]), refused(11) + DONE * 2, SEVEN_BOOKED, waits(7)),
+    # the reply worked out from the log
+    ("reply: a request without blocks, from its booking on", reply(), value_of(7, 100)),
+    ("reply: a difference below 0, without blocks", reply(pack([(0x30, 1), RETURN])), value_of(7, 2**32 - 100)),
+    ("reply: of its own workflow, the last argument", reply(
+        pack([BEGIN, END, RETURN], [(0xB3, 0)]), store(book=[(7, 1, [100, 200, 30, 40])])), value_of(7, 40)),
+    ("reply: MOVE with both blocks logged", reply(MOVE, MOVED_SEVEN), value_of(7, 30)),
+    ("reply: MOVE with one block logged", reply(MOVE, HALF_MOVED), NOT_YET),
+    ("reply: MOVE with the second block alone logged", reply(MOVE, store(2, 5, [(1, log(7, 1), 30)], BOOKED)), NOT_YET),
+    ("reply: MOVE with no block logged", reply(MOVE, store(2, 5, book=BOOKED)), NOT_YET),
+    ("reply: the log row stands in another partition", reply(KEPT, store(2, 5, [(1, log(7, 0), 9)], BOOKED)), NOT_YET),
+    ("reply: the log row has another step", reply(KEPT, store(1, 5, [(0, log(7, 1), 9)], BOOKED)), NOT_YET),
+    ("reply: the logged result, whatever data row there is", reply(KEPT, kept(55, (0, data(100), 3))), value_of(7, 55)),
+    ("reply: the logged result 0", reply(KEPT, kept(0)), value_of(7, 0)),
+    ("reply: only register 0 takes the result, and a sum keeps the remainder", reply(
+        pack([NINE, BEGIN, (0x05, 4), (0x75, 0), (0x25, 0), (0xB5, 0)]), kept(2**32 - 4)), value_of(7, 5)),
+    ("reply: a logged result below argument 1 jumps over the second block", reply(UNLESS_BELOW, kept(199)), value_of(7, 199)),
+    ("reply: a logged result that is argument 1 comes to the second block", reply(UNLESS_BELOW, kept(200)), NOT_YET),
+    ("reply: the second block is logged too", reply(UNLESS_BELOW, kept(200, (0, log(7, 1), 77))), value_of(7, 77)),
+    ("reply: the first block that is passed has step 0, though it is the workflow's second", reply(OVER, kept(9)), value_of(7, 9)),
+    ("reply: 256 instructions", reply(LONG), value_of(7, 7850)),
+    ("reply: a block in each of eight partitions", reply(EIGHT_BLOCKS, eight_logged(8)), value_of(7, 8)),
+    ("reply: id 0 of an older book", reply(ONE, store(book=ZERO), 0), value_of(0, 100)),
+    ("reply: the greatest id", reply(KEPT, store(1, 5, [(0, log(2**32 - 1, 0), 55)], [like(2**32 - 1)]), 2**32 - 1),
+     value_of(2**32 - 1, 55)),
+    ("reply: an id that is not booked", reply(id=8), refused(20)),
+    ("reply: an id that is not booked, with a log row of it", reply(KEPT, store(1, 5, [(0, log(8, 0), 9)], BOOKED), 8), refused(20)),
+    ("reply: no sound record is asked for", reply(slots={0: agent(0, in_use=2), 3: agent(8)}), value_of(7, 100)),
+    ("reply: an agent at RETURN whose block is not logged", reply(KEPT, slots={0: agent(7, 3, 1, [100])}), NOT_YET),
+    ("reply: a list that 25 would say no to", call(REPLY, [7], ONE, SEVEN_BOOKED, listed=MARK_2), value_of(7, 100)),
+    *(("reply: %d is asked before 20" % no[0], reply(p, s, 8), refused(*no)) for no, p, s, slots in BEFORE_25 if slots is None),
     # 22, 23 and 9 of a schedule
     ("a schedule with no bytes", Case(struct.pack("<BII", 0, len(ONE), 0) + ONE), "refused 22\n"),
     ("no pack and no schedule", Case(struct.pack("<BII", 0, 0, 0)), "refused 1\n"),
@@ -795,17 +1083,18 @@ log 1 9 0 3
     ("slot 15, and a restart with slot 15", schedule(ONE, 1, 5, [SEVEN], [0x0F, 0x4F]), "events 2\n0 refused 15\n1 done\n"),
 ]
 
-def left(case, answer, after=None):
-    """The line of the store's bytes: `after`, or as given where that is not said."""
+def left(case, answer, after=None, listed=None):
+    """The answer, the line of the store's bytes and the lines of the worklist: `after` and `listed`, or as given where that is not said."""
     if case.store is None:
         return answer
-    return answer + "bytes %s\n" % ((case.store if after is None else after).hex() or "-")
+    lines = "".join("list %d %d\n" % entry for entry in (case.listed if listed is None else listed))
+    return answer + "bytes %s\n" % ((case.store if after is None else after).hex() or "-") + lines
 
 
 here = os.path.dirname(os.path.abspath(__file__))
 titles = [(words + "\n").encode() for words, *_ in EDGES]
 stdin = b"".join(bytes([len(title)]) + title + edge[1].bytes for title, edge in zip(titles, EDGES))
-assert len(stdin) <= 262144, len(stdin)  # what the program reads
+assert len(stdin) <= 393216, len(stdin)  # what the program reads
 with open(os.path.join(here, "stdin"), "wb") as f:
     f.write(stdin)
 with open(os.path.join(here, "stdout"), "w") as f:

@@ -1,18 +1,28 @@
-//! The five calls of document 01, and the one of W-203 that puts an earlier store in order.
-//! Each puts all its questions before it changes anything.
+//! The five calls of document 01, the one of W-203 that puts an earlier store in order, and
+//! those of W-208 on the worklist. Each puts all its questions before it changes anything.
 
 use crate::agents::{pack_fits, slots_are_right, Agent, Slots, ALL_EMPTY, SLOTS};
 use crate::operations::{do_one, run_block};
 use crate::pack::{Operation, Pack, Workflow};
 use crate::refusal::{ask, Refusal};
 use crate::store::{Key, Request, Store, BOOK_ROWS};
+use crate::worklist::{reply_from_log, Worklist};
 
-/// A yes to all questions. Only a turn moves or replies.
+/// A yes to all questions. Only a turn moves; it replies, and so does the reading call.
 #[derive(Clone, Copy, Debug, PartialEq, Eq)]
 pub enum Answer {
     Done,
     Moved,
-    Reply { id: u32, value: u32 },
+    Reply {
+        id: u32,
+        value: u32,
+    },
+    /// Of take only: the id that waited first.
+    Taken {
+        id: u32,
+    },
+    /// Of the reading call only: the id is not logged through.
+    NotYet,
 }
 
 pub type Outcome = Result<Answer, Refusal>;
@@ -36,38 +46,67 @@ pub enum Call {
     Restart,
     /// It is given the store only, neither pack nor slots.
     PutInOrder,
+    /// These three and restart are given the worklist too.
+    Add {
+        id: u32,
+    },
+    Take,
+    Done {
+        id: u32,
+    },
 }
 
 impl Call {
+    /// The call with an empty worklist, which nobody sees afterwards: for lists of calls that
+    /// put nothing on it, as a schedule's.
     pub fn perform(&self, pack: &[u8], store: &mut [u8], slots: &mut Slots) -> Outcome {
+        self.perform_listed(pack, store, slots, &mut Worklist::default())
+    }
+
+    pub fn perform_listed(
+        &self,
+        pack: &[u8],
+        store: &mut [u8],
+        slots: &mut Slots,
+        list: &mut Worklist,
+    ) -> Outcome {
         match *self {
             Self::Arrival { slot, request } => arrival(pack, store, slots, slot, request),
             Self::Retry { slot, id } => retry(pack, store, slots, slot, id),
             Self::Turn { slot } => turn(pack, store, slots, slot),
             Self::Crash { slot } => crash(pack, store, slots, slot),
-            Self::Restart => Ok(restart(slots)),
+            Self::Restart => Ok(restart(slots, list)),
             Self::PutInOrder => put_in_order(store),
+            Self::Add { id } => add(pack, store, slots, list, id),
+            Self::Take => take(pack, store, slots, list),
+            Self::Done { id } => done(pack, store, slots, list, id),
         }
     }
 }
 
-/// Pack and store of a call that came past question 14.
-struct Lent<'a, 'b> {
+/// Pack and store of a call that came past question 13. What only reads has `&[u8]` for `B`.
+struct Lent<'a, B> {
     pack: Pack<'a>,
-    store: Store<&'b mut [u8]>,
+    store: Store<B>,
 }
 
-/// Questions 1 to 14.
-fn ask_all_state<'a, 'b>(
-    pack: &'a [u8],
-    store: &'b mut [u8],
-    slots: &Slots,
-) -> Result<Lent<'a, 'b>, Refusal> {
+/// Questions 1 to 13.
+fn ask_pack_and_store<B: AsRef<[u8]>>(pack: &[u8], store: B) -> Result<Lent<'_, B>, Refusal> {
     let pack = Pack::read(pack)?;
     let store = Store::read(store)?;
     ask(13, pack_fits(&pack, &store))?;
-    ask(14, slots_are_right(slots, &pack, &store))?;
     Ok(Lent { pack, store })
+}
+
+/// Questions 1 to 14.
+fn ask_all_state<'a, B: AsRef<[u8]>>(
+    pack: &'a [u8],
+    store: B,
+    slots: &Slots,
+) -> Result<Lent<'a, B>, Refusal> {
+    let lent = ask_pack_and_store(pack, store)?;
+    ask(14, slots_are_right(slots, &lent.pack, &lent.store))?;
+    Ok(lent)
 }
 
 /// Questions 15 and 16.
@@ -138,8 +177,9 @@ pub fn crash(pack: &[u8], store: &mut [u8], slots: &mut Slots, slot: u32) -> Out
 }
 
 /// Asks nothing and never refuses.
-pub fn restart(slots: &mut Slots) -> Answer {
+pub fn restart(slots: &mut Slots, list: &mut Worklist) -> Answer {
     *slots = ALL_EMPTY;
+    list.restart();
     Answer::Done
 }
 
@@ -149,8 +189,39 @@ pub fn put_in_order(store: &mut [u8]) -> Outcome {
     Ok(Answer::Done)
 }
 
+/// Questions 1 to 14, 25, 26 and 20; puts a booked id on the worklist.
+pub fn add(pack: &[u8], store: &[u8], slots: &Slots, list: &mut Worklist, id: u32) -> Outcome {
+    let lent = ask_all_state(pack, store, slots)?;
+    list.add(id, lent.store.request(id).is_some())?;
+    Ok(Answer::Done)
+}
+
+/// Questions 1 to 14, 25 and 27; gives the first waiting id.
+pub fn take(pack: &[u8], store: &[u8], slots: &Slots, list: &mut Worklist) -> Outcome {
+    ask_all_state(pack, store, slots)?;
+    let id = list.take()?;
+    Ok(Answer::Taken { id })
+}
+
+/// Questions 1 to 14, 25 and 27; removes a taken id whose log leads through to RETURN. Its
+/// agents, if it has any, stay in their slots.
+pub fn done(pack: &[u8], store: &[u8], slots: &Slots, list: &mut Worklist, id: u32) -> Outcome {
+    let lent = ask_all_state(pack, store, slots)?;
+    let reply = reply_from_log(&lent.pack, &lent.store, id);
+    list.done(id, reply.is_some())?;
+    Ok(Answer::Done)
+}
+
+/// The reading call: questions 1 to 13 and 20, then the reply worked out from the log.
+pub fn reply(pack: &[u8], store: &[u8], id: u32) -> Outcome {
+    let lent = ask_pack_and_store(pack, store)?;
+    ask(20, lent.store.request(id).is_some())?;
+    let reply = reply_from_log(&lent.pack, &lent.store, id);
+    Ok(reply.map_or(Answer::NotYet, |value| Answer::Reply { id, value }))
+}
+
 /// The workflow of an agent that question 14 found sound.
-fn workflow_of<'a>(agent: &Agent, lent: &Lent<'a, '_>) -> Workflow<'a> {
+fn workflow_of<'a, B: AsRef<[u8]>>(agent: &Agent, lent: &Lent<'a, B>) -> Workflow<'a> {
     let request = lent.store.request(agent.id);
     let workflow = request.and_then(|request| lent.pack.workflow(request.workflow));
     workflow.expect("a sound agent is booked with a workflow of the pack")

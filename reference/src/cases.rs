@@ -5,20 +5,32 @@ use std::fmt::Write;
 
 use crate::agents::{Agent, Slots, ALL_EMPTY};
 use crate::bytes::{hex, Reader};
-use crate::calls::{Answer, Call, Outcome};
+use crate::calls::{self, Answer, Call, Outcome};
 use crate::figures::{figures, Figures};
 use crate::pack::{self, Workflow};
 use crate::refusal::Refusal;
 use crate::schedule;
 use crate::store::{self, Request, Store};
+use crate::worklist::{Entry, Worklist};
 
-/// What a case of kind 1 calls.
+/// What a case of kind 1 or 2 calls.
 #[derive(Clone, Copy, Debug, PartialEq, Eq)]
 pub enum Order {
     Check,
-    Open { workflow: u32 },
-    Figures { workflow: u32 },
-    Create { partitions: u32, rows: u32 },
+    Open {
+        workflow: u32,
+    },
+    Figures {
+        workflow: u32,
+    },
+    Create {
+        partitions: u32,
+        rows: u32,
+    },
+    /// The reading call.
+    Reply {
+        id: u32,
+    },
     Call(Call),
 }
 
@@ -27,6 +39,8 @@ pub struct CallCase {
     pub pack: Vec<u8>,
     pub store: Vec<u8>,
     pub slots: Slots,
+    /// Of kind 2 only. A case of kind 1 has none: a restart there is lent an empty one.
+    pub list: Option<Worklist>,
     pub order: Order,
 }
 
@@ -36,7 +50,8 @@ pub struct ListCase {
     pub pack: Vec<u8>,
     pub store: Vec<u8>,
     pub slots: Slots,
-    /// At most 255.
+    /// At most 255 entries, and as many calls.
+    pub list: Worklist,
     pub calls: Vec<Call>,
 }
 
@@ -75,6 +90,10 @@ impl Order {
             7 => Self::Call(Call::Restart),
             8 => Self::Figures { workflow: first },
             9 => Self::Call(Call::PutInOrder),
+            10 => Self::Call(Call::Add { id: first }),
+            11 => Self::Call(Call::Take),
+            12 => Self::Call(Call::Done { id: first }),
+            13 => Self::Reply { id: first },
             _ => return None,
         })
     }
@@ -95,7 +114,17 @@ impl Order {
             Self::Call(Call::Restart) => (7, [0; 7]),
             Self::Figures { workflow } => (8, [workflow, 0, 0, 0, 0, 0, 0]),
             Self::Call(Call::PutInOrder) => (9, [0; 7]),
+            Self::Call(Call::Add { id }) => (10, [id, 0, 0, 0, 0, 0, 0]),
+            Self::Call(Call::Take) => (11, [0; 7]),
+            Self::Call(Call::Done { id }) => (12, [id, 0, 0, 0, 0, 0, 0]),
+            Self::Reply { id } => (13, [id, 0, 0, 0, 0, 0, 0]),
         }
+    }
+
+    /// Whether it may stand in a case of kind 1, which has no worklist.
+    fn goes_without_list(&self) -> bool {
+        use Call::{Add, Done, Take};
+        !matches!(self, Self::Call(Add { .. } | Take | Done { .. }))
     }
 }
 
@@ -116,6 +145,23 @@ fn write_order(order: Order, file: &mut Vec<u8>) {
     let (code, words) = order.encode();
     file.push(code);
     file.extend(words.iter().flat_map(|word| word.to_le_bytes()));
+}
+
+fn read_list(reader: &mut Reader, count: u8) -> Option<Worklist> {
+    let entry = |_| {
+        let id = reader.word()?;
+        let mark = reader.byte()?;
+        Some(Entry { id, mark })
+    };
+    let entries: Option<Vec<Entry>> = (0..count).map(entry).collect();
+    Some(Worklist { entries: entries? })
+}
+
+fn write_list(list: &Worklist, file: &mut Vec<u8>) {
+    for entry in &list.entries {
+        file.extend(entry.id.to_le_bytes());
+        file.push(entry.mark);
+    }
 }
 
 fn read_slots(reader: &mut Reader) -> Option<Slots> {
@@ -144,13 +190,42 @@ fn read_agent(reader: &mut Reader) -> Option<Agent> {
 }
 
 fn agent_words(agent: &Agent) -> impl Iterator<Item = u32> {
-    let head = [
-        agent.in_use,
-        agent.id,
-        agent.position,
-        agent.step,
-    ];
+    let head = [agent.in_use, agent.id, agent.position, agent.step];
     head.into_iter().chain(agent.registers)
+}
+
+/// What is left of a case of kind 1 or 2.
+fn read_single(
+    reader: &mut Reader,
+    pack: Vec<u8>,
+    store: Vec<u8>,
+    list: Option<Worklist>,
+) -> Option<Case> {
+    let slots = read_slots(reader)?;
+    let order = read_order(reader)?;
+    let fits = list.is_some() || order.goes_without_list();
+    let case = CallCase {
+        pack,
+        store,
+        slots,
+        list,
+        order,
+    };
+    fits.then(|| Case::Call(Box::new(case)))
+}
+
+/// What is left of a case of kind 3.
+fn read_calls(reader: &mut Reader, pack: Vec<u8>, store: Vec<u8>, list: Worklist) -> Option<Case> {
+    let slots = read_slots(reader)?;
+    let count = reader.byte()?;
+    let calls: Option<Vec<Call>> = (0..count).map(|_| read_call(reader)).collect();
+    Some(Case::List(Box::new(ListCase {
+        pack,
+        store,
+        slots,
+        list,
+        calls: calls?,
+    })))
 }
 
 impl Case {
@@ -159,46 +234,49 @@ impl Case {
         let kind = reader.byte()?;
         let pack_length = reader.word()? as usize;
         let second_length = reader.word()? as usize;
+        let listed = match kind {
+            2 | 3 => reader.byte()?,
+            _ => 0,
+        };
         let pack = reader.take(pack_length)?.to_vec();
         let second = reader.take(second_length)?.to_vec();
+        let list = read_list(reader, listed)?;
         match kind {
             0 => Some(Self::Schedule {
                 pack,
                 schedule: second,
             }),
-            1 => Some(Self::Call(Box::new(CallCase {
-                pack,
-                store: second,
-                slots: read_slots(reader)?,
-                order: read_order(reader)?,
-            }))),
-            2 => {
-                let slots = read_slots(reader)?;
-                let count = reader.byte()?;
-                let calls: Option<Vec<Call>> = (0..count).map(|_| read_call(reader)).collect();
-                Some(Self::List(Box::new(ListCase {
-                    pack,
-                    store: second,
-                    slots,
-                    calls: calls?,
-                })))
-            }
+            1 => read_single(reader, pack, second, None),
+            2 => read_single(reader, pack, second, Some(list)),
+            3 => read_calls(reader, pack, second, list),
             _ => None,
+        }
+    }
+
+    /// The kind, pack, store or schedule, and worklist; none of it for kinds 0 and 1.
+    fn parts(&self) -> (u8, &[u8], &[u8], Option<&Worklist>) {
+        match self {
+            Self::Schedule { pack, schedule } => (0, pack, schedule, None),
+            Self::Call(call) => {
+                let kind = 1 + u8::from(call.list.is_some());
+                (kind, &call.pack, &call.store, call.list.as_ref())
+            }
+            Self::List(list) => (3, &list.pack, &list.store, Some(&list.list)),
         }
     }
 
     /// Appends the case to a file.
     pub fn write(&self, file: &mut Vec<u8>) {
-        let (kind, pack, second) = match self {
-            Self::Schedule { pack, schedule } => (0, pack, schedule),
-            Self::Call(call) => (1, &call.pack, &call.store),
-            Self::List(list) => (2, &list.pack, &list.store),
-        };
+        let (kind, pack, second, list) = self.parts();
         file.push(kind);
         file.extend((pack.len() as u32).to_le_bytes());
         file.extend((second.len() as u32).to_le_bytes());
+        file.extend(list.map(|list| list.entries.len() as u8));
         file.extend(pack);
         file.extend(second);
+        if let Some(list) = list {
+            write_list(list, file);
+        }
         match self {
             Self::Schedule { .. } => {}
             Self::Call(call) => {
@@ -231,6 +309,7 @@ pub struct Listed {
     pub outcomes: Vec<Outcome>,
     pub store: Vec<u8>,
     pub slots: Slots,
+    pub list: Worklist,
 }
 
 impl ListCase {
@@ -243,10 +322,11 @@ impl ListCase {
     pub fn perform_each(&self, mut show: impl FnMut(&Call, &[u8], &Outcome)) -> Listed {
         let mut store = self.store.clone();
         let mut slots = self.slots;
+        let mut list = self.list.clone();
         let mut outcomes = Vec::with_capacity(self.calls.len());
         for call in &self.calls {
             let given = store.clone();
-            let outcome = call.perform(&self.pack, &mut store, &mut slots);
+            let outcome = call.perform_listed(&self.pack, &mut store, &mut slots, &mut list);
             show(call, &given, &outcome);
             outcomes.push(outcome);
         }
@@ -254,6 +334,7 @@ impl ListCase {
             outcomes,
             store,
             slots,
+            list,
         }
     }
 
@@ -263,6 +344,7 @@ impl ListCase {
         let mut text: String = listed.outcomes.iter().map(answer).collect();
         print_store(&listed.store, &mut text);
         print_slots(&listed.slots, &mut text);
+        print_list(&listed.list, &mut text);
         text
     }
 }
@@ -277,6 +359,8 @@ pub struct Performed<'a> {
     pub figures: Option<Figures>,
     pub store: Vec<u8>,
     pub slots: Slots,
+    /// Of a case of kind 2 only.
+    pub list: Option<Worklist>,
 }
 
 impl CallCase {
@@ -284,6 +368,7 @@ impl CallCase {
     pub fn perform(&self) -> Performed<'_> {
         let mut store = self.store.clone();
         let mut slots = self.slots;
+        let mut list = self.list.clone().unwrap_or_default();
         let done = |result: Result<(), Refusal>| result.map(|()| Answer::Done);
         let (mut opened, mut counted) = (None, None);
         let outcome = match self.order {
@@ -295,7 +380,8 @@ impl CallCase {
                 done(figures(&self.pack, workflow).map(|figures| counted = Some(figures)))
             }
             Order::Create { partitions, rows } => done(store::create(&mut store, partitions, rows)),
-            Order::Call(call) => call.perform(&self.pack, &mut store, &mut slots),
+            Order::Reply { id } => calls::reply(&self.pack, &store, id),
+            Order::Call(call) => call.perform_listed(&self.pack, &mut store, &mut slots, &mut list),
         };
         Performed {
             outcome,
@@ -303,6 +389,7 @@ impl CallCase {
             figures: counted,
             store,
             slots,
+            list: self.list.is_some().then_some(list),
         }
     }
 
@@ -314,11 +401,12 @@ impl CallCase {
         };
         let mut text = format!("answer {words}\n");
         match self.order {
-            Order::Check | Order::Figures { .. } => {}
+            Order::Check | Order::Figures { .. } | Order::Reply { .. } => {}
             Order::Open { .. } => print_parts(result.opened, &mut text),
             _ => {
                 print_store(&result.store, &mut text);
                 print_slots(&result.slots, &mut text);
+                print_list(&result.list.unwrap_or_default(), &mut text);
             }
         }
         text
@@ -382,6 +470,12 @@ fn print_slots(slots: &Slots, text: &mut String) {
             let words: Vec<String> = agent_words(agent).map(|word| word.to_string()).collect();
             let _ = writeln!(text, "agent {slot} {}", words.join(" "));
         }
+    }
+}
+
+fn print_list(list: &Worklist, text: &mut String) {
+    for Entry { id, mark } in &list.entries {
+        let _ = writeln!(text, "list {id} {mark}");
     }
 }
 

@@ -9,14 +9,17 @@ use crate::schedule;
 use crate::store::Store;
 
 /// The things that can be called, in the order of their call bytes.
-pub const ORDERS: [&str; 10] = [
+pub const ORDERS: [&str; 14] = [
     "check", "open", "create", "arrival", "retry", "turn", "crash", "restart", "figures", "order",
+    "add", "take", "done", "reply",
 ];
 
 #[derive(Clone, Debug, Default, PartialEq, Eq)]
 pub struct Coverage {
     pub schedules: usize,
     pub calls: usize,
+    /// Of these, those with a worklist.
+    pub with_list: usize,
     pub lists: usize,
     pub malformed: usize,
     /// The events of schedules that ran.
@@ -27,6 +30,8 @@ pub struct Coverage {
     pub done: usize,
     pub moved: usize,
     pub replied: usize,
+    pub taken: usize,
+    pub not_yet: usize,
     /// Accepted calls for figures, which are no `done`.
     pub figures: usize,
     /// Single and listed calls by what was called: accepted and refused.
@@ -73,6 +78,7 @@ impl Coverage {
 
     fn count_call(&mut self, case: &CallCase) {
         self.calls += 1;
+        self.with_list += usize::from(case.list.is_some());
         self.count_order(&case.order, &case.store, &case.perform().outcome);
     }
 
@@ -106,6 +112,8 @@ impl Coverage {
             Ok(Answer::Done) => self.done += 1,
             Ok(Answer::Moved) => self.moved += 1,
             Ok(Answer::Reply { .. }) => self.replied += 1,
+            Ok(Answer::Taken { .. }) => self.taken += 1,
+            Ok(Answer::NotYet) => self.not_yet += 1,
             Err(refusal) => {
                 let refusals = match in_schedule {
                     true => &mut self.schedule_refusals,
@@ -139,6 +147,8 @@ impl Coverage {
         let _ = writeln!(text, "answer done {}", self.done);
         let _ = writeln!(text, "answer moved {}", self.moved);
         let _ = writeln!(text, "answer reply {}", self.replied);
+        let _ = writeln!(text, "answer taken {}", self.taken);
+        let _ = writeln!(text, "answer not yet {}", self.not_yet);
         let _ = writeln!(text, "answer figures {}", self.figures);
         let _ = writeln!(text, "answer refused {refused}");
         for (name, (accepted, refused)) in ORDERS.iter().zip(self.orders) {
@@ -146,6 +156,7 @@ impl Coverage {
         }
         let _ = writeln!(text, "rows not rising, refused 11 {}", self.not_rising);
         let _ = writeln!(text, "rows not rising, put in order {}", self.put_in_order);
+        let _ = writeln!(text, "single calls with a worklist {}", self.with_list);
         text
     }
 }
@@ -167,5 +178,9 @@ fn order_index(order: &Order) -> usize {
         Order::Call(Call::Restart) => 7,
         Order::Figures { .. } => 8,
         Order::Call(Call::PutInOrder) => 9,
+        Order::Call(Call::Add { .. }) => 10,
+        Order::Call(Call::Take) => 11,
+        Order::Call(Call::Done { .. }) => 12,
+        Order::Reply { .. } => 13,
     }
 }

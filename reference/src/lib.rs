@@ -7,10 +7,13 @@
 //! * [`operations`]: what each operation does
 //! * [`calls`]: arrival, retry, turn, crash and restart (questions 15 to 21 and 24), and what
 //!   puts an earlier store in order
+//! * [`worklist`]: ids that are finished later (questions 25 to 27), and the reply that is
+//!   worked out from the log (W-208)
 //! * [`figures`]: the most turns and rows that a workflow takes (W-202)
 //! * [`schedule`]: the schedule program (questions 22 and 23)
 //! * [`sums`]: what is added up while moves are under way (W-207)
 //! * [`plain`]: the plain machine, and the check of demand 3 and of W-207 on what was run
+//! * [`kept`]: what W-208 promises of the worklist, on what was run
 //! * [`cases`]: the file `cases.bin` and what is printed for each of its cases
 //! * [`coverage`]: which questions and answers a file of cases reaches
 //! * [`generate`]: seeded cases and lists of calls
@@ -22,6 +25,7 @@ pub mod cases;
 pub mod coverage;
 pub mod figures;
 pub mod generate;
+pub mod kept;
 pub mod operations;
 pub mod pack;
 pub mod plain;
@@ -30,6 +34,7 @@ pub mod refusal;
 pub mod schedule;
 pub mod store;
 pub mod sums;
+pub mod worklist;
 
 pub use agents::{Agent, Slots};
 pub use calls::{Answer, Call, Outcome};
@@ -38,3 +43,4 @@ pub use pack::{Instruction, Operation, Pack, Workflow};
 pub use refusal::Refusal;
 pub use store::Store;
 pub use sums::Sums;
+pub use worklist::Worklist;

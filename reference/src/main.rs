@@ -15,7 +15,7 @@ const USAGE: &str = "usage:
   reference run FOLDER                the schedule program on pack.bin and schedule.bin
   reference cases FILE                what each case of a file comes to
   reference generate SEED COUNT FILE  writes a file of cases
-  reference demand3 SEED COUNT        demand 3 on generated lists of calls, W-207 on some
+  reference demand3 SEED COUNT        demand 3 and W-208 on generated lists of calls, W-207 on some
   reference coverage FILE             how often each question and answer occurs in a file
 ";
 
@@ -86,9 +86,10 @@ fn print_coverage(file: &str) -> Done {
 
 fn demand3(seed: &str, count: &str) -> Done {
     let (seed, count) = (number(seed)?, number(count)?);
-    let makers: [(&str, ListMaker); 2] = [
+    let makers: [(&str, ListMaker); 3] = [
         ("", generate::any_list),
         (" with MOVE", generate::move_list),
+        (" with workers", generate::worked_list),
     ];
     for (sort, make) in makers {
         match watch_lists(seed, count, make) {
@@ -128,6 +129,10 @@ fn tally_text(tally: &Tally) -> String {
         format!("accepted crashes {}", tally.crashes),
         format!("restarts {}", tally.restarts),
         format!("accepted orders {}", tally.orders),
+        format!("accepted adds {}", tally.adds),
+        format!("accepted takes {}", tally.takes),
+        format!("accepted dones {}", tally.dones),
+        format!("times a restart found an id taken {}", tally.waiting_again),
         format!("first replies {}", tally.first_replies),
         format!("later replies {}", tally.later_replies),
         format!(

@@ -1,15 +1,18 @@
-//! The plain machine, and a witness that holds a list of calls to demand 3 and to W-207.
+//! The plain machine, and a witness that holds a list of calls to demand 3, to W-207 and to
+//! what W-208 promises of the worklist.
 
 use std::collections::BTreeMap;
 
 use crate::agents::{Agent, Slots, ALL_EMPTY, SLOTS};
 use crate::calls::{Answer, Call, Outcome};
+use crate::kept::Kept;
 use crate::operations::{do_one, run_block, Registers};
 use crate::pack::{Operation, Pack};
 use crate::refusal::QUESTIONS;
 use crate::schedule;
 use crate::store::{self, Key, Request, Store, MOST_PARTITIONS};
 use crate::sums::{is_only_move, under_way, Sums, DIVISOR};
+use crate::worklist::Worklist;
 
 /// A booked request's agent in the plain machine.
 #[derive(Clone, Debug)]
@@ -106,6 +109,11 @@ pub struct Tally {
     pub crashes: usize,
     pub restarts: usize,
     pub orders: usize,
+    /// Accepted calls on the worklist, and how often a restart found an id taken.
+    pub adds: usize,
+    pub takes: usize,
+    pub dones: usize,
+    pub waiting_again: usize,
     pub first_replies: usize,
     pub later_replies: usize,
     pub full_lives: usize,
@@ -129,6 +137,10 @@ impl Tally {
         self.crashes += other.crashes;
         self.restarts += other.restarts;
         self.orders += other.orders;
+        self.adds += other.adds;
+        self.takes += other.takes;
+        self.dones += other.dones;
+        self.waiting_again += other.waiting_again;
         self.first_replies += other.first_replies;
         self.later_replies += other.later_replies;
         self.full_lives += other.full_lives;
@@ -148,8 +160,9 @@ struct Life {
     turns: usize,
 }
 
-/// Watches a list of calls from its start, a fresh store with all slots empty, feeds the plain
-/// machine, and says at the end whether demand 3 holds of the list, and W-207 after each call.
+/// Watches a list of calls from its start, a fresh store with all slots and the worklist empty,
+/// feeds the plain machine, and says at the end whether demand 3 holds of the list, and W-207
+/// and W-208 after each call.
 pub struct Witness<'a> {
     machine: Machine<'a>,
     /// Whether MOVE is the only workflow, of which alone W-207 speaks.
@@ -157,7 +170,9 @@ pub struct Witness<'a> {
     lives: [Option<Life>; SLOTS],
     replied: BTreeMap<u32, u32>,
     first_replies: Vec<(u32, u32)>,
-    /// The first violation of demand 3, and the first of W-207: neither hides the other.
+    kept: Kept,
+    /// The first violation of demand 3, and the first of W-207: neither hides the other, nor
+    /// that of W-208.
     violation: Option<String>,
     not_divisible: Option<String>,
     tally: Tally,
@@ -171,6 +186,7 @@ impl<'a> Witness<'a> {
             lives: [None; SLOTS],
             replied: BTreeMap::new(),
             first_replies: Vec::new(),
+            kept: Kept::default(),
             violation: None,
             not_divisible: None,
             tally: Tally::default(),
@@ -197,6 +213,10 @@ impl<'a> Witness<'a> {
             Call::Crash { .. } => self.tally.crashes += 1,
             Call::Restart => self.tally.restarts += 1,
             Call::PutInOrder => self.tally.orders += 1,
+            // They feed the machine nothing.
+            Call::Add { .. } => self.tally.adds += 1,
+            Call::Take => self.tally.takes += 1,
+            Call::Done { .. } => self.tally.dones += 1,
         }
     }
 
@@ -204,7 +224,7 @@ impl<'a> Witness<'a> {
     /// alone say its bytes; a store that is in order already has nothing to be put in order.
     pub fn see_left(&mut self, call: &Call, given: &State, left: &State) {
         if *call == Call::PutInOrder && given != left {
-            self.blame("a store in order or a slot was changed".to_string());
+            self.blame("a store in order, a slot or the worklist was changed".to_string());
         }
         if given.store != left.store {
             self.see_store(&left.store);
@@ -212,6 +232,8 @@ impl<'a> Witness<'a> {
         if self.only_move {
             self.add_up(&left.store);
         }
+        let pack = &self.machine.pack;
+        self.kept.see(pack, call, (given, left), &self.replied);
     }
 
     /// W-207 of what a call left, whether or not it was accepted and changed anything.
@@ -289,6 +311,7 @@ impl<'a> Witness<'a> {
     }
 
     fn see_reply(&mut self, id: u32, value: u32) {
+        self.kept.see_reply(id, value);
         match self.replied.get(&id) {
             None => {
                 self.tally.first_replies += 1;
@@ -320,7 +343,8 @@ impl<'a> Witness<'a> {
             Ok(store) => self.compare_tables(&store),
             Err(refusal) => self.blame(format!("the store is refused: {}", refusal.question)),
         }
-        let found = [self.violation, self.not_divisible];
+        self.tally.waiting_again = self.kept.waiting_again;
+        let found = [self.violation, self.not_divisible, self.kept.violation];
         let found: Vec<String> = found.into_iter().flatten().collect();
         match found.is_empty() {
             true => Ok(self.tally),
@@ -360,29 +384,38 @@ fn data_rows(store: &Store<&[u8]>, partition: usize) -> Vec<(u32, u32)> {
     .collect()
 }
 
-/// Store and slots, as one call leaves them to the next.
+/// Store, slots and worklist, as one call leaves them to the next.
 #[derive(Clone, Debug, PartialEq, Eq)]
 pub struct State {
     pub store: Vec<u8>,
     pub slots: Slots,
+    pub list: Worklist,
 }
 
 impl State {
-    /// All slots empty, as a list of calls starts.
+    /// All slots and the worklist empty, as a list of calls starts.
     pub fn new(store: Vec<u8>) -> Self {
-        let slots = ALL_EMPTY;
-        Self { store, slots }
+        Self {
+            store,
+            slots: ALL_EMPTY,
+            list: Worklist::default(),
+        }
+    }
+
+    /// Makes a call on it.
+    pub fn perform(&mut self, pack: &[u8], call: &Call) -> Outcome {
+        call.perform_listed(pack, &mut self.store, &mut self.slots, &mut self.list)
     }
 }
 
-/// Demand 3, and W-207 after each call, of a list of calls on a fresh store.
+/// Demand 3, and W-207 and W-208 after each call, of a list of calls on a fresh store.
 pub fn check_list(pack: &[u8], store: Vec<u8>, calls: &[Call]) -> Result<Tally, String> {
     let read = Pack::read(pack).map_err(|_| "a refused pack ran".to_string())?;
     let mut witness = Witness::new(read);
     let mut state = State::new(store);
     for call in calls {
         let given = state.clone();
-        let outcome = call.perform(pack, &mut state.store, &mut state.slots);
+        let outcome = state.perform(pack, call);
         witness.see(call, &outcome);
         witness.see_left(call, &given, &state);
     }

@@ -9,8 +9,8 @@ pub struct Refusal {
 }
 
 /// The questions in the documents' words, by number and not in the order in which they are
-/// put: 24 is asked between 16 and 17. Question n stands at n − 1.
-pub const QUESTIONS: [&str; 24] = [
+/// put: 24 is asked between 16 and 17, and 25 to 27 come after 14. Question n stands at n − 1.
+pub const QUESTIONS: [&str; 27] = [
     "Is there a count, 1 to 16?",
     "Are all sizes there, each 1 to 256, sum at most 2,048?",
     "Is the length 1 + 2m + 5T?",
@@ -28,14 +28,17 @@ pub const QUESTIONS: [&str; 24] = [
     "Is each slot empty or sound?",
     "Is the slot 0 to 7?",
     "Is it empty (arrival, retry) or in use (turn, crash)?",
-    "Is the workflow below m (arrival, opening)?",
+    "Is the workflow below m (arrival, opening, figures)?",
     "If the id is known, are workflow and arguments those booked (arrival)?",
     "If it is new, are five book rows free (arrival)?",
-    "Is the id booked (retry)?",
+    "Is the id booked (retry, add, reply)?",
     "Has a block that isn't logged enough free rows: one, plus one per different new key it PUTs (turn)?",
     "Is the length 6 + 24g + 2e, within limits?",
     "Is each kind at most 4, each index below g for kinds 0 and 3 and 0 otherwise?",
     "Is the id other than 0 (arrival)?",
+    "Has the list at most 16 ids, none twice, each waiting or taken (add, take, done)?",
+    "If the id isn't listed, are fewer than 16 listed (add)?",
+    "Is an id waiting (take), or the id taken and logged through (done)?",
 ];
 
 impl Refusal {

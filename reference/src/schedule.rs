@@ -178,6 +178,7 @@ pub fn run(pack: &[u8], schedule: &[u8]) -> Result<Run, Refusal> {
     let mut calls = Vec::with_capacity(schedule.events.len());
     for event in &schedule.events {
         let call = schedule.call(event);
+        // No event puts an id on the worklist, so that a restart always gets an empty one.
         let outcome = call.perform(pack, &mut store, &mut slots);
         calls.push((call, outcome));
     }
@@ -194,6 +195,9 @@ pub fn words(outcome: &Outcome) -> String {
         Ok(Answer::Done) => "done".to_string(),
         Ok(Answer::Moved) => "moved".to_string(),
         Ok(Answer::Reply { id, value }) => format!("reply {id} {value}"),
+        // No event of a schedule is answered so; a case's calls are.
+        Ok(Answer::Taken { id }) => format!("taken {id}"),
+        Ok(Answer::NotYet) => "not yet".to_string(),
         Err(refusal) => format!("refused {}", refusal.question),
     }
 }

@@ -8,14 +8,15 @@ use reference::bytes::hex;
 use reference::cases::{print_all, read_all, write_all, CallCase, Case, ListCase, Order};
 use reference::coverage::Coverage;
 use reference::generate;
-use reference::store::{Request, Store};
-use reference::Call;
+use reference::store::{Key, Request, Store};
+use reference::{Call, Worklist};
 
 fn on_state(state: &State, order: Order) -> Case {
     Case::Call(Box::new(CallCase {
         pack: state.pack.clone(),
         store: state.store.clone(),
         slots: state.slots,
+        list: None,
         order,
     }))
 }
@@ -218,6 +219,7 @@ fn all_orders() -> Vec<Case> {
         Order::Call(Call::Restart),
         Order::Figures { workflow: 0 },
         Order::Call(Call::PutInOrder),
+        Order::Reply { id: 8 },
     ];
     orders.map(|order| on_state(&state, order)).to_vec()
 }
@@ -244,6 +246,7 @@ fn older_list() -> ListCase {
         pack: state.pack,
         store: state.store,
         slots: state.slots,
+        list: state.list,
         calls,
     }
 }
@@ -283,20 +286,27 @@ row 2 4 0
 fn the_bytes_of_a_list_come_back_and_hold_calls_on_store_and_slots_only() {
     let list = older_list();
     let mut file = write_all(&[Case::List(Box::new(list.clone()))]);
-    let records = 9 + list.pack.len() + list.store.len();
+    let records = 10 + list.pack.len() + list.store.len();
     assert_eq!(file.len(), records + 384 + 1 + 6 * 29);
-    assert_eq!((file[0], file[records + 384]), (2, 6));
+    assert_eq!((file[0], file[9], file[records + 384]), (3, 0, 6));
     assert_eq!(read_all(&file), [Some(Case::List(Box::new(list)))]);
     let coverage = Coverage::of_file(&file);
     assert_eq!((coverage.lists, coverage.calls), (1, 0));
     assert_eq!((coverage.replied, coverage.question(24)), (1, 1));
-    for code in [0, 1, 2, 8, 10, 255] {
+    for code in [0, 1, 2, 8, 13, 14, 255] {
         file[records + 385 + 29] = code;
         assert_eq!(print_all(&file), "malformed case 0\n", "call {code}");
     }
-    file[records + 385 + 29] = 9;
-    let expected = "case 0\nanswer done\nanswer done\nanswer moved\n";
-    assert!(print_all(&file).starts_with(expected));
+    for (code, answer) in [
+        (9, "done"),
+        (10, "refused 20 0 0"),
+        (11, "refused 27 0 0"),
+        (12, "refused 27 0 0"),
+    ] {
+        file[records + 385 + 29] = code;
+        let expected = format!("case 0\nanswer done\nanswer {answer}\nanswer moved\n");
+        assert!(print_all(&file).starts_with(&expected), "call {code}");
+    }
 }
 
 #[test]
@@ -307,6 +317,7 @@ fn the_bytes_of_a_call_case() {
         pack: vec![0xAA],
         store: vec![0xBB, 0xCC],
         slots,
+        list: None,
         order: Order::Call(Call::Retry { slot: 4, id: 5 }),
     }));
     let bytes = write_all(&[case]);
@@ -314,6 +325,143 @@ fn the_bytes_of_a_call_case() {
     assert_eq!(bytes[..12], [1, 1, 0, 0, 0, 2, 0, 0, 0, 0xAA, 0xBB, 0xCC]);
     assert_eq!(bytes[12 + 48 + 4..][..4], [1, 2, 3, 4]);
     assert_eq!(bytes[12 + 384..][..9], [4, 4, 0, 0, 0, 5, 0, 0, 0]);
+}
+
+/// Id 7 booked and started, one entry of the list taken and one of any mark.
+fn listed(order: Order) -> CallCase {
+    let state = State::with_move();
+    CallCase {
+        pack: state.pack,
+        store: state.store,
+        slots: state.slots,
+        list: Some(Worklist::of(&[(0x0403_0201, 5), (7, 0)])),
+        order,
+    }
+}
+
+#[test]
+fn the_bytes_of_a_case_with_a_worklist() {
+    let case = listed(Order::Call(Call::Done { id: 0x0A09_0807 }));
+    let (pack, store) = (case.pack.len(), case.store.len());
+    let mut bytes = write_all(&[Case::Call(Box::new(case))]);
+    assert_eq!((bytes[0], bytes[9]), (2, 2));
+    assert_eq!(bytes[10..][..pack], move_pack());
+    let list = 10 + pack + store;
+    assert_eq!(bytes[list..][..10], [1, 2, 3, 4, 5, 7, 0, 0, 0, 0]);
+    assert_eq!(bytes[list + 10..][..8], [1, 0, 0, 0, 7, 0, 0, 0]);
+    let call = list + 10 + 384;
+    assert_eq!(bytes[call..][..6], [12, 7, 8, 9, 10, 0]);
+    assert_eq!(bytes.len(), call + 29);
+    for code in 0..=13 {
+        bytes[call] = code;
+        assert!(print_all(&bytes).starts_with("case 0\nanswer "), "{code}");
+    }
+    for code in [14, 255] {
+        bytes[call] = code;
+        assert_eq!(print_all(&bytes), "malformed case 0\n");
+    }
+    for length in 1..bytes.len() {
+        assert_eq!(print_all(&bytes[..length]), "malformed case 0\n");
+    }
+}
+
+#[test]
+fn the_list_is_printed_behind_the_agents() {
+    let print_of = |case: CallCase| print(Case::Call(Box::new(case)));
+    let call = |call| listed(Order::Call(call));
+    let agent = "agent 0 1 7 0 0 100 200 30 0 0 0 0 0\n";
+    let wrong = "list 67305985 5\nlist 7 0\n";
+    // A call that does not ask, and one that 25 refuses: all entries, as they were.
+    let text = print_of(call(Call::Turn { slot: 0 }));
+    assert!(text.starts_with("case 0\nanswer moved\n") && text.ends_with(wrong));
+    let text = print_of(call(Call::Take));
+    assert!(text.starts_with("case 0\nanswer refused 25 0 0\nused 0 0\n"));
+    assert!(text.ends_with(&format!("\n{agent}{wrong}")));
+    let mut case = call(Call::Take);
+    case.list = Some(Worklist::of(&[(9, 1), (8, 0), (7, 0)]));
+    let text = print_of(case);
+    assert!(text.starts_with("case 0\nanswer taken 8\nused 0 0\n"));
+    assert!(text.ends_with(&format!("\n{agent}list 9 1\nlist 8 1\nlist 7 0\n")));
+    let many: Vec<(u32, u8)> = (0..40).map(|id| (id, 1)).collect();
+    let mut case = call(Call::Restart);
+    case.list = Some(Worklist::of(&many));
+    let lines: String = (0..40).map(|id| format!("list {id} 1\n")).collect();
+    assert!(
+        print_of(case).ends_with(&format!("\n{lines}")),
+        "more than 16"
+    );
+    // What prints no state prints no list.
+    for order in [Order::Check, Order::Figures { workflow: 0 }] {
+        assert!(!print_of(listed(order)).contains("list"), "{order:?}");
+    }
+}
+
+#[test]
+fn the_reading_call_prints_its_answer_only() {
+    let with = |list: Option<Worklist>, id: u32, steps: u16| {
+        let mut case = listed(Order::Reply { id });
+        case.list = list;
+        let mut store = Store::read(case.store.as_mut_slice()).expect("right");
+        for step in 0..steps {
+            let key = Key::Log { id: 7, step }.stored();
+            assert!(store.put(usize::from(step), key, 40 + u32::from(step)));
+        }
+        print(Case::Call(Box::new(case)))
+    };
+    for list in [None, Some(Worklist::of(&[(7, 9)]))] {
+        let answer = |id, steps| with(list.clone(), id, steps);
+        assert_eq!(answer(7, 2), "case 0\nanswer reply 7 41\n");
+        assert_eq!(answer(7, 1), "case 0\nanswer not yet\n");
+        assert_eq!(answer(8, 2), "case 0\nanswer refused 20 0 0\n");
+    }
+}
+
+#[test]
+fn a_restart_of_kind_1_prints_no_list() {
+    let mut case = listed(Order::Call(Call::Restart));
+    let bytes = bytes_line(&case.store);
+    let text = print(Case::Call(Box::new(case.clone())));
+    let list = "list 67305985 5\nlist 7 0\n";
+    assert!(
+        text.ends_with(&format!("{bytes}{list}")),
+        "not right: as it was"
+    );
+    case.list = None;
+    assert!(print(Case::Call(Box::new(case))).ends_with(&bytes));
+}
+
+#[test]
+fn a_list_of_calls_with_a_worklist() {
+    let mut list = older_list();
+    list.list = Worklist::of(&[(0, 1), (5, 1)]);
+    list.calls.truncate(4);
+    list.calls
+        .extend([Call::Done { id: 0 }, Call::Add { id: 0 }, Call::Take]);
+    list.calls.push(Call::Restart);
+    let mut file = write_all(&[Case::List(Box::new(list.clone()))]);
+    let text = print_all(&file);
+    let answers = "\
+case 0
+answer done
+answer moved
+answer moved
+answer moved
+answer done
+answer done
+answer taken 0
+answer done
+used 0 2
+";
+    assert!(text.starts_with(answers), "{text}");
+    assert!(text.ends_with("\nlist 5 0\nlist 0 0\n"), "{text}");
+    let entries = 10 + list.pack.len() + list.store.len();
+    assert_eq!((file[0], file[9]), (3, 2));
+    assert_eq!(file[entries..][..10], [0, 0, 0, 0, 1, 5, 0, 0, 0, 1]);
+    assert_eq!(read_all(&file), [Some(Case::List(Box::new(list)))]);
+    let coverage = Coverage::of_file(&file);
+    assert_eq!((coverage.taken, coverage.orders[12]), (1, (1, 0)));
+    file.truncate(file.len() - 1);
+    assert_eq!(print_all(&file), "malformed case 0\n");
 }
 
 #[test]
@@ -348,8 +496,9 @@ fn numbers_out_of_range_are_malformed() {
         file[place] = byte;
         print_all(&file)
     };
-    assert_eq!(with(0, 3), "malformed case 0\n", "no such kind");
-    for code in [10, 11, 255] {
+    assert_eq!(with(0, 4), "malformed case 0\n", "no such kind");
+    // Calls on a worklist, which kind 1 has not, and no calls.
+    for code in [10, 11, 12, 14, 255] {
         assert_eq!(
             with(file.len() - 29, code),
             "malformed case 0\n",
@@ -372,20 +521,23 @@ fn coverage_counts_answers_and_questions() {
     let coverage = Coverage::of_file(&file);
     assert_eq!(
         (coverage.schedules, coverage.calls, coverage.events),
-        (1, 10, 10)
+        (1, 11, 10)
     );
     assert_eq!((coverage.done, coverage.moved, coverage.replied), (6, 5, 1));
     assert_eq!(coverage.figures, 1);
     assert_eq!(
-        [9, 16, 17, 19].map(|number| coverage.question(number)),
-        [1, 2, 2, 1]
+        [9, 16, 17, 19, 20].map(|number| coverage.question(number)),
+        [1, 2, 2, 1, 2]
     );
     assert!(coverage
         .print()
         .contains("question 19 1 schedules 1 calls 0\n"));
     assert!(coverage
         .print()
-        .contains("call order accepted 1 refused 0\nrows not rising, refused 11 0\n"));
+        .contains("call order accepted 1 refused 0\ncall add accepted 0 refused 0\n"));
+    assert!(coverage
+        .print()
+        .contains("call reply accepted 0 refused 1\nrows not rising, refused 11 0\n"));
     assert!(coverage
         .print()
         .contains("call figures accepted 1 refused 0\n"));

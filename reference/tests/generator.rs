@@ -37,8 +37,8 @@ fn a_small_file_covers_every_question_answer_and_call() {
             );
         }
         assert!(coverage.done > 0 && coverage.moved > 0 && coverage.replied > 0);
-        assert!(coverage.figures > 0);
-        for number in (1..=21).chain([24]) {
+        assert!(coverage.figures > 0 && coverage.taken > 0 && coverage.not_yet > 0);
+        for number in (1..=21).chain(24..=27) {
             assert!(
                 coverage.call_refusals[number] > 0,
                 "seed {seed}, call {number}"
@@ -64,7 +64,8 @@ fn id_0_is_often_among_the_ids() {
         (_, Ok(Answer::Reply { id: 0, .. })) => replied += 1,
         _ => {}
     };
-    for case in generate::cases(14, 1_000) {
+    // As many cases without a worklist as 1,000 had before there were others.
+    for case in generate::cases(14, 1_225) {
         match case {
             Case::Schedule { .. } => {}
             Case::Call(case) => {
@@ -80,7 +81,7 @@ fn id_0_is_often_among_the_ids() {
         }
     }
     assert!(
-        arrivals > 100 && retried > 30 && replied > 20,
+        arrivals > 100 && retried > 30 && replied > 15,
         "{arrivals} {retried} {replied}"
     );
     assert!(turned_down[24] > 80 && turned_down[15] > 0 && turned_down[16] > 0);
@@ -425,5 +426,8 @@ fn words_that_make_no_record_are_among_the_records() {
             assert!(call.pack.len() <= 1 + 32 + 5 * MOST_INSTRUCTIONS + 5);
         }
     }
-    assert!(in_use > 0 && position > 0 && step > 0, "{in_use} {position} {step}");
+    assert!(
+        in_use > 0 && position > 0 && step > 0,
+        "{in_use} {position} {step}"
+    );
 }

@@ -73,6 +73,7 @@ fn calls_on_spoiled_states_change_nothing_when_refused() {
         if result.outcome.is_err() {
             assert_eq!(result.store, call.store);
             assert_eq!(result.slots, call.slots);
+            assert_eq!(result.list, call.list);
             assert!(result.opened.is_none() && result.figures.is_none());
         }
     }

@@ -24,13 +24,17 @@ pub struct Agent {
     pub registers: [u32; 8],
 }
 
-// What a call answers. A refusal has the question's number and, with 4 to 8, the workflow and the instruction, otherwise 0 and 0.
+// What a call answers; a take gives an id. A refusal has the question's number and, with 4 to 8, the workflow and the instruction,
+// otherwise 0 and 0.
 pub enum Answer {
     Done,
     Moved,
     Reply {
         id: u32,
         value: u32,
+    },
+    Given {
+        id: u32,
     },
     Refused {
         question: u8,

@@ -15,7 +15,7 @@ use Rattle.questions.specs.Verdicts.{verdictOf}
 use Rattle.questions.specs.declared.Verdict.{Verdict}
 use Rattle.questions.specs.declared.Verdict.the-variants.{Accepted, Refused}
 use Rattle.rules.specs.Blocks.{yields}
-use Rattle.rules.specs.Calls.{Answer, done, moved, reply, refused}
+use Rattle.rules.specs.Calls.{Answer, done, moved, reply, given, refused}
 use Rattle.words.specs.Words.{le, put}
 use Rattle.words.proofs.Laws.{put-mod}
 use Rattle.slots.specs.Records.{puts}
@@ -72,6 +72,11 @@ heard-reply answer answer′ id value h i v e =
     (ap₂ (λ (x y : ℕ). some (reply x (yields y))) (first-word answer id value 0 h i v (omega arith))
     (second-word answer id value 0 h i v (omega arith)))
 
+pub heard-given : (answer answer′ : List ℕ) (id : ℕ) → 12 ≤ length answer → id < 2 ^ 32 →
+    answer′ ≡ withWords answer (id ∷ 0 ∷ 0 ∷ []) → heard 4 answer′ ≡ some (given id)
+unfolding Answers.heard
+heard-given answer answer′ id h i e = rw e (ap (λ (x : ℕ). some (given x)) (first-word answer id 0 0 h i (omega arith) (omega arith)))
+
 pub heard-refused : (answer answer′ : List ℕ) (q w i : ℕ) → 12 ≤ length answer → q < 256 → w < 2 ^ 32 → i < 2 ^ 32 →
     answer′ ≡ withWords answer (q ∷ w ∷ i ∷ []) → heard 3 answer′ ≡ some (refused (no q w i))
 unfolding Answers.heard
@@ -100,15 +105,18 @@ module _ (number : ℕ) (answer : List ℕ) (a : Answer) (h : heard number answe
   reads-reply id value e p q =
       rw (p, q) (heard-is (reply (le 4 answer 0) (yields (le 4 answer 4))) a (sym (rw e (unfold Answers.heard in refl)) ∙ h))
 
+  pub reads-given : (id : ℕ) → number ≡ 4 → id ≡ le 4 answer 0 → given id ≡ a
+  reads-given id e p = rw p (heard-is (given (le 4 answer 0)) a (sym (rw e (unfold Answers.heard in refl)) ∙ h))
+
   -- any other number that is an answer's is 3
-  pub reads-refused : (number ≡ 0 → ⊥) → (number ≡ 1 → ⊥) → (number ≡ 2 → ⊥) → PlaceFits a → (q w i : ℕ) →
+  pub reads-refused : (number ≡ 0 → ⊥) → (number ≡ 1 → ⊥) → (number ≡ 2 → ⊥) → (number ≡ 4 → ⊥) → PlaceFits a → (q w i : ℕ) →
       q ≡ le 4 answer 0 → w ≡ le 4 answer 4 → i ≡ le 4 answer 8 → refused (no (q % 256) w i) ≡ a
-  reads-refused d e f fits q w i r s t = go (eqb number 3) refl
+  reads-refused d e f n4 fits q w i r s t = go (eqb number 3) refl
     where
       by-3 : (b : Bool) → eqb number 3 ≡ b →
           heard number answer ≡ if_then_else_ b (some (refused (no (le 4 answer 0) (le 4 answer 4) (le 4 answer 8)))) none
       by-3 b g =
-          unfold Answers.heard in rw (ne-eqb number 0 d, ne-eqb number 1 e, ne-eqb number 2 f, g) refl
+          unfold Answers.heard in rw (ne-eqb number 0 d, ne-eqb number 1 e, ne-eqb number 2 f, ne-eqb number 4 n4, g) refl
 
       small : (x : Answer) → PlaceFits x → refused (no (le 4 answer 0) (le 4 answer 4) (le 4 answer 8)) ≡ x → le 4 answer 0 < 256
       small x z g = subst PlaceFits (sym g) z .0

@@ -1,4 +1,5 @@
-// Answers for a program in another language: a number, and words in a lent buffer; and the records that a call left, in their bytes.
+// Answers for a program in another language: a number, and words in a lent buffer; and the records and the worklist that a call left, in
+// their bytes.
 ghost use mathlib.Core.Bool.{true};
 ghost use mathlib.Core.Path.{_≡_};
 ghost use mathlib.Core.List.{[], _∷_};
@@ -12,11 +13,13 @@ ghost use Rattle.rules.specs.Plain.{accepted};
 ghost use Rattle.agents.specs.Answers.{answerOf};
 ghost use Rattle.slots.specs.Records.{puts, slotsIn};
 ghost use Rattle.answers.specs.Answers.{numberOf, valuesOf, withWords, heard, PlaceFits, judged};
-ghost use Rattle.answers.specs.Answers.{slotsAfter};
+ghost use Rattle.answers.specs.Answers.{slotsAfter, listAfter};
+ghost use Rattle.worklist.specs.Bytes.{listIn};
 use agents::Agent;
 use agents::Answer;
 use agents::Outcome;
 use questions::Verdict;
+use worklist::Worklist;
 
 // The low 4 bytes of a number.
 fn low(number: usize) -> u32
@@ -55,6 +58,10 @@ pub fn write_answer(answer: &mut [u8], a: Answer) -> u32
             write_words(answer, id, value, 0);
             2
         }
+        Answer::Given { id } => {
+            write_words(answer, id, 0, 0);
+            4
+        }
         Answer::Refused {
             question,
             workflow,
@@ -84,6 +91,9 @@ pub fn read_answer(number: u32, answer: &[u8]) -> Answer
             id: first,
             value: second,
         };
+    }
+    if number == 4 {
+        return Answer::Given { id: first };
     }
     Answer::Refused {
         question: (first % 256) as u8,
@@ -140,6 +150,7 @@ pub fn write_back(slots: &mut [u8], a: Answer, agents: [Agent; 8])
         Answer::Done => slots::write_slots(slots, agents),
         Answer::Moved => slots::write_slots(slots, agents),
         Answer::Reply { id: _, value: _ } => slots::write_slots(slots, agents),
+        Answer::Given { id: _ } => slots::write_slots(slots, agents),
         Answer::Refused {
             question: _,
             workflow: _,
@@ -160,5 +171,37 @@ pub fn finish(slots: &mut [u8], answer: &mut [u8], o: Outcome) -> u32
     let a = o.answer;
     let agents = o.agents;
     write_back(slots, a, agents);
+    write_answer(answer, a)
+}
+
+// The worklist that a call left goes back to its bytes. A refused call has left it alone.
+pub fn write_list_back(list: &mut [u8], a: Answer, left: Worklist)
+    requires { ⌜ 132 ≤ length (now list) ⌝ }
+    ensures { λ _. ⌜ now (list .exit) ≡ listAfter (answerOf a) (now (list .entry)) left ⌝ }
+    ensures { λ _. ⌜ (accepted (answerOf a) ≡ true → listIn (now (list .exit)) ≡ left) ⌝ }
+{
+    match a {
+        Answer::Done => worklist::write_list(list, left),
+        Answer::Moved => worklist::write_list(list, left),
+        Answer::Reply { id: _, value: _ } => worklist::write_list(list, left),
+        Answer::Given { id: _ } => worklist::write_list(list, left),
+        Answer::Refused {
+            question: _,
+            workflow: _,
+            instruction: _,
+        } => {}
+    }
+}
+
+// What a call on the worklist left goes to the list's bytes, and what it answered to the answer buffer.
+pub fn finish_list(list: &mut [u8], answer: &mut [u8], a: Answer, left: Worklist) -> u32
+    requires { ⌜ (132 ≤ length (now list)) × (12 ≤ length (now answer)) ⌝ }
+    ensures { λ r. ⌜ (r ≡ numberOf (answerOf a))
+        × (now (answer .exit) ≡ withWords (now (answer .entry)) (valuesOf (answerOf a))) ⌝ }
+    ensures { λ r. ⌜ (PlaceFits (answerOf a) → heard r (now (answer .exit)) ≡ some (answerOf a)) ⌝ }
+    ensures { λ _. ⌜ now (list .exit) ≡ listAfter (answerOf a) (now (list .entry)) left ⌝ }
+    ensures { λ _. ⌜ (accepted (answerOf a) ≡ true → listIn (now (list .exit)) ≡ left) ⌝ }
+{
+    write_list_back(list, a, left);
     write_answer(answer, a)
 }

@@ -88,6 +88,16 @@ pub fn figures_line(out: &mut [u8], figures: &[u8]) -> usize
     text::append_byte(out, b, b'\n')
 }
 
+// list ID MARK
+pub fn list_line(out: &mut [u8], entry: &[u8]) -> usize
+    requires { ⌜ (48 ≤ length (now out)) × (8 ≤ length (now entry)) ⌝ }
+    ensures { λ r. ⌜ r ≤ 48 ⌝ }
+{
+    let a = text::append_bytes(out, 0, b"list");
+    let b = append_words(out, a, entry, 2);
+    text::append_byte(out, b, b'\n')
+}
+
 // agent SLOT IN_USE ID POSITION STEP R0 .. R7
 pub fn agent_line(out: &mut [u8], slot: u64, agent: &[u8]) -> usize
     requires { ⌜ (300 ≤ length (now out)) × (48 ≤ length (now agent)) ⌝ }

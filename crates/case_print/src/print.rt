@@ -38,6 +38,11 @@ pub fn print_figures(figures: &[u8])
     write_line(&line, written);
 }
 
+// answer not yet: the log doesn't lead to a reply
+pub fn print_not_yet() {
+    io::write_all(STDOUT_FILENO, b"answer not yet\n");
+}
+
 fn print_used(partition: usize, count: usize) {
     let mut line = [0u8; 64];
     let written = case_lines::used_line(&mut line, partition as u64, count as u64);
@@ -56,6 +61,30 @@ fn print_agent(slot: usize, agent: &[u8])
     let mut line = [0u8; 300];
     let written = case_lines::agent_line(&mut line, slot as u64, agent);
     write_line(&line, written);
+}
+
+fn print_entry(entry: &[u8])
+    requires { ⌜ 8 ≤ length (now entry) ⌝ }
+{
+    let mut line = [0u8; 48];
+    let written = case_lines::list_line(&mut line, entry);
+    write_line(&line, written);
+}
+
+// The entries of a worklist, as many as its number says, and no more than its bytes hold.
+pub fn print_list(list: &[u8])
+    requires { ⌜ 132 ≤ length (now list) ⌝ }
+{
+    let entries = words::read32(list, 0) as usize;
+    let places = (list.len() - 4) / 8;
+    let mut place = 0;
+    while place < places {
+        if entries <= place {
+            return;
+        }
+        print_entry(&list[4 + 8 * place..12 + 8 * place]);
+        place += 1;
+    }
 }
 
 // At most 512 bytes in hex.

@@ -1,9 +1,10 @@
 -- The promise of a case's call, from that of the export that made it.
 use mathlib.Core.Bool.{Bool, true, false}
 use mathlib.Core.List.{List, [], _∷_, _++_, append-nil}
+use mathlib.Core.Logic.{_⊎_, inl, inr}
 use mathlib.Core.Option.{Option, none, some}
 use mathlib.Core.Path.{_≡_, refl, sym, _∙_, ap, subst}
-use Prim.Native.Nat.{ℕ, suc, _≤_}
+use Prim.Native.Nat.{ℕ, suc, _≤_, _<_}
 use native.Mathlib.Omega.{arith}
 use borrow.Author.Tests.{le-leb, eq-eqb, ne-eqb}
 use lib.Dec.{eqb}
@@ -13,24 +14,27 @@ use Rattle.words.specs.Words as Words
 use Rattle.questions.specs.Basics.{if_then_else_}
 use Rattle.questions.specs.Questions.{No, Placed}
 use Rattle.questions.proofs.Every.{Every}
-use Rattle.rules.specs.Calls.{Call, arrival, retry, turn, crash, restart, order}
+use Rattle.rules.specs.Calls.{Call, arrival, retry, turn, crash, restart, order, listAdd, listTake, listDone}
 use Rattle.rules.specs.Calls as Rules
 use Rattle.pack.specs.Refusal.{packRefusal, openRefusal}
 use Rattle.pack.proofs.Placed.{pack-placed, open-placed}
 use Rattle.store.specs.Questions.{createRefusal}
 use Rattle.agents.specs.declared.Answer.{Answer}
+use Rattle.agents.specs.declared.Answer.the-variants.{Done}
 use Rattle.agents.specs.Answers.{answerOf}
+use Rattle.agents.specs.Answers as AgentAnswers
 use Rattle.meaning.specs.State.{Lent}
 use Rattle.meaning.specs.Carried.{Carried}
 use Rattle.meaning.proofs.Placed.{FromHost, create-placed}
 use Rattle.slots.specs.Records.{slotsIn}
-use Rattle.answers.specs.Answers.{numberOf, valuesOf, heard, PlaceFits, judged, slotsAfter}
+use Rattle.worklist.specs.Bytes.{listIn}
+use Rattle.answers.specs.Answers.{numberOf, valuesOf, heard, PlaceFits, judged, slotsAfter, listAfter}
 use Rattle.answers.specs.Answers as Answers
 use Rattle.host.specs.Told.{openedParts, openedWords, answerShort, Told, Made}
 use Rattle.host.specs.Told as ToldBy
-use Rattle.host.specs.Exports.{lentIn, buffersWrong, Exported, PutInOrder}
-use Rattle.host.proofs.Exports.{answer-placed}
-use Rattle.cases.specs.Made.{callBy, CaseMade}
+use Rattle.host.specs.Exports.{lentIn, buffersWrong, listWrong, Exported, ListExported, Restarted, PutInOrder}
+use Rattle.host.proofs.Exports.{answer-placed, right-buffers}
+use Rattle.cases.specs.Made.{callBy, BytesLeft, OnStore, CaseMade}
 
 -- ---- which call a byte stands for
 
@@ -51,24 +55,57 @@ module _ (byte : ℕ) (ws : List ℕ) where
   pub by-9 : byte ≡ 9 → order ≡ callBy byte ws
   by-9 e = rw e (unfold callBy in refl)
 
-  pub by-others : (byte ≡ 3 → ⊥) → (byte ≡ 4 → ⊥) → (byte ≡ 5 → ⊥) → (byte ≡ 6 → ⊥) → (byte ≡ 9 → ⊥) → restart ≡ callBy byte ws
-  by-others a b c d e = unfold callBy in rw (ne-eqb byte 3 a, ne-eqb byte 4 b, ne-eqb byte 5 c, ne-eqb byte 6 d, ne-eqb byte 9 e) refl
+  pub by-10 : byte ≡ 10 → listAdd (getD ws 0 0) ≡ callBy byte ws
+  by-10 e = rw e (unfold callBy in refl)
+
+  pub by-11 : byte ≡ 11 → listTake ≡ callBy byte ws
+  by-11 e = rw e (unfold callBy in refl)
+
+  pub by-12 : byte ≡ 12 → listDone (getD ws 0 0) ≡ callBy byte ws
+  by-12 e = rw e (unfold callBy in refl)
+
+  pub by-others : 6 < byte → (byte ≡ 9 → ⊥) → (byte < 10) ⊎ (12 < byte) → restart ≡ callBy byte ws
+  by-others a e h =
+      unfold callBy in
+      rw (
+        ne-eqb byte 3 (λ z. omega arith),
+        ne-eqb byte 4 (λ z. omega arith),
+        ne-eqb byte 5 (λ z. omega arith),
+        ne-eqb byte 6 (λ z. omega arith),
+        ne-eqb byte 9 e,
+        ne-eqb byte 10 (beyond 10 (λ z. omega (arith, z)) (λ z. omega (arith, z))),
+        ne-eqb byte 11 (beyond 11 (λ z. omega (arith, z)) (λ z. omega (arith, z))),
+        ne-eqb byte 12 (beyond 12 (λ z. omega (arith, z)) (λ z. omega (arith, z))),
+      ) refl
+    where
+      beyond : (n : ℕ) → (n < 10 → ⊥) → (12 < n → ⊥) → byte ≡ n → ⊥
+      beyond n p q z = go h
+        where
+          go : (byte < 10) ⊎ (12 < byte) → ⊥
+          go (inl l) = p (omega arith)
+          go (inr l) = q (omega arith)
 
   -- none is `stopped`
   from-host : FromHost (callBy byte ws)
-  from-host = unfold callBy in go (eqb byte 3) (eqb byte 4) (eqb byte 5) (eqb byte 6) (eqb byte 9)
+  from-host =
+      unfold callBy in
+      go (eqb byte 3) (eqb byte 4) (eqb byte 5) (eqb byte 6) (eqb byte 9) (eqb byte 10) (eqb byte 11) (eqb byte 12)
     where
-      go : (a b c d e : Bool) →
+      go : (a b c d e f g h : Bool) →
           FromHost (if_then_else_ a
           (arrival (getD ws 0 0) (getD ws 1 0) (getD ws 2 0) (getD ws 3 0 ∷ getD ws 4 0 ∷ getD ws 5 0 ∷ getD ws 6 0 ∷ []))
           (if_then_else_ b (retry (getD ws 0 0) (getD ws 1 0)) (if_then_else_ c (turn (getD ws 0 0)) (if_then_else_ d (crash (getD ws 0 0))
-          (if_then_else_ e order restart)))))
-      go true b c d e = tt
-      go false true c d e = tt
-      go false false true d e = tt
-      go false false false true e = tt
-      go false false false false true = tt
-      go false false false false false = tt
+          (if_then_else_ e order (if_then_else_ f (listAdd (getD ws 0 0)) (if_then_else_ g listTake
+          (if_then_else_ h (listDone (getD ws 0 0)) restart))))))))
+      go true b c d e f g h = tt
+      go false true c d e f g h = tt
+      go false false true d e f g h = tt
+      go false false false true e f g h = tt
+      go false false false false true f g h = tt
+      go false false false false false true g h = tt
+      go false false false false false false true h = tt
+      go false false false false false false false true = tt
+      go false false false false false false false false = tt
 
 -- ---- what was told is heard
 
@@ -104,10 +141,10 @@ judged-read need blank o rest number answer r h l t reads =
 
 -- ---- the promise
 
-module _ (byte : ℕ) (ws pack store records : List ℕ) (r : Answer) (blank : List ℕ) (l : length blank ≡ 28) (number : ℕ) (answer : List ℕ)
-    (reads : Reads number answer r) where
+module _ (byte : ℕ) (ws pack store records list : List ℕ) (r : Answer) (blank : List ℕ) (l : length blank ≡ 28) (number : ℕ)
+    (answer : List ℕ) (reads : Reads number answer r) where
   pub made-check : byte ≡ 0 → Told 12 blank (judged (packRefusal pack)) (valuesOf (judged (packRefusal pack))) number answer →
-      CaseMade byte ws pack store records r store records
+      CaseMade byte ws pack store records list r store records list
   made-check e t =
       record {
         check = λ z. (
@@ -115,17 +152,17 @@ module _ (byte : ℕ) (ws pack store records : List ℕ) (r : Answer) (blank : L
               (subst (λ (w : List ℕ). Told 12 blank (judged (packRefusal pack)) w number answer) (sym (append-nil _)) t) reads,
           refl,
           refl,
+          refl,
         );
         opening = λ z. absurd (omega (arith, e, z));
         create = λ z. absurd (omega (arith, e, z));
         carried = λ z. absurd (omega (arith, e, z));
-        bytes = λ z d. absurd (omega (arith, e, z));
-        alone = λ z. absurd (omega (arith, e, z));
+        bytes = λ z. absurd (omega (arith, e, z));
       }
 
   pub made-open : byte ≡ 1 →
       Told 28 blank (judged (openRefusal pack (getD ws 0 0))) (openedWords pack (getD ws 0 0)) number answer →
-      CaseMade byte ws pack store records r store records
+      CaseMade byte ws pack store records list r store records list
   made-open e t =
       record {
         check = λ z. absurd (omega (arith, e, z));
@@ -134,15 +171,15 @@ module _ (byte : ℕ) (ws pack store records : List ℕ) (r : Answer) (blank : L
               number answer r (open-placed pack (getD ws 0 0)) (omega arith) (unfold ToldBy.openedWords in t) reads,
           refl,
           refl,
+          refl,
         );
         create = λ z. absurd (omega (arith, e, z));
         carried = λ z. absurd (omega (arith, e, z));
-        bytes = λ z d. absurd (omega (arith, e, z));
-        alone = λ z. absurd (omega (arith, e, z));
+        bytes = λ z. absurd (omega (arith, e, z));
       }
 
   pub made-create : (store′ : List ℕ) → byte ≡ 2 → Made store blank (getD ws 0 0) (getD ws 1 0) number store′ answer →
-      CaseMade byte ws pack store records r store′ records
+      CaseMade byte ws pack store records list r store′ records list
   made-create store′ e m =
       let o = createRefusal (getD ws 0 0) (getD ws 1 0) (length store) in
       let long : answerShort 12 blank ≡ none = unfold answerShort in rw (le-leb 12 (length blank) (omega arith)) refl in
@@ -154,12 +191,13 @@ module _ (byte : ℕ) (ws pack store records : List ℕ) (r : Answer) (blank : L
               (subst (λ (w : List ℕ). Told 12 blank (judged o) w number answer) (sym (append-nil _)) (m .told)) reads,
           m .created long,
           refl,
+          refl,
         );
         carried = λ z. absurd (omega (arith, e, z));
-        bytes = λ z d. absurd (omega (arith, e, z));
-        alone = λ z. absurd (omega (arith, e, z));
+        bytes = λ z. absurd (omega (arith, e, z));
       }
 
+module _ (byte : ℕ) (ws pack store records list : List ℕ) (r : Answer) (number : ℕ) (answer : List ℕ) (reads : Reads number answer r) where
   -- a promise speaks of an answer by what it says
   answered : (before : Lent) (c : Call) (a : Answer) (after : Lent) → answerOf r ≡ answerOf a → Carried pack before c a after →
       Carried pack before c r after
@@ -169,37 +207,132 @@ module _ (byte : ℕ) (ws pack store records : List ℕ) (r : Answer) (blank : L
         carried = λ q. (e ∙ p .carried q .0, p .carried q .1);
       }
 
-  pub made-order : (store′ : List ℕ) → byte ≡ 9 → PutInOrder store blank number store′ answer →
-      CaseMade byte ws pack store records r store′ records
-  made-order store′ e m =
-      let long : answerShort 12 blank ≡ none = unfold answerShort in rw (le-leb 12 (length blank) (omega arith)) refl in
-      let s = m .served long in
-      let p = s .1 pack (slotsIn records) in
-      let same = reads (answerOf (s .0)) (s .5) (answer-placed pack (lentIn store records) order (s .0) (lentIn store′ records) tt p) in
-      record {
-        check = λ z. absurd (omega (arith, e, z));
-        opening = λ z. absurd (omega (arith, e, z));
-        create = λ z. absurd (omega (arith, e, z));
-        carried = λ z. subst (λ (c : Call). Carried pack (lentIn store records) c r (lentIn store′ records)) (by-9 byte ws e)
-            (answered (lentIn store records) order (s .0) (lentIn store′ records) same p);
-        bytes = λ z d. absurd (d e);
-        alone = λ z. refl;
-      }
-
-  pub made-call : (store′ records′ : List ℕ) → (byte ≡ 0 → ⊥) → (byte ≡ 1 → ⊥) → (byte ≡ 2 → ⊥) → (byte ≡ 9 → ⊥) → length records ≡ 384 →
-      Exported pack store records blank (callBy byte ws) number store′ records′ answer →
-      CaseMade byte ws pack store records r store′ records′
-  made-call store′ records′ d0 d1 d2 d9 k x =
-      let right : buffersWrong blank records ≡ none =
-      unfold buffersWrong in rw (le-leb 12 (length blank) (omega arith), eq-eqb (length records) 384 k) refl in
-      let s = x .served right in
-      let same = reads (answerOf (s .said)) (s .read)
-      (answer-placed pack (lentIn store records) (callBy byte ws) (s .said) (lentIn store′ records′) (from-host byte ws) (s .carried)) in
+  pub made-call : (store′ records′ list′ : List ℕ) → (byte ≡ 0 → ⊥) → (byte ≡ 1 → ⊥) → (byte ≡ 2 → ⊥) →
+      OnStore byte ws pack store records list number store′ records′ list′ answer →
+      CaseMade byte ws pack store records list r store′ records′ list′
+  made-call store′ records′ list′ d0 d1 d2 s =
+      let before = lentIn store records list in
+      let after = lentIn store′ records′ list′ in
+      let same = reads (answerOf (s .said)) (s .read) (answer-placed pack before (callBy byte ws) (s .said) after (from-host byte ws)
+      (s .carried)) in
+      let b = s .bytes in
       record {
         check = λ z. absurd (d0 z);
         opening = λ z. absurd (d1 z);
         create = λ z. absurd (d2 z);
-        carried = λ z. answered (lentIn store records) (callBy byte ws) (s .said) (lentIn store′ records′) same (s .carried);
-        bytes = λ z d. s .bytes ∙ ap (λ (a : Rules.Answer). slotsAfter a records (slotsIn records′)) (sym same);
-        alone = λ z. absurd (d9 z);
+        carried = λ z. answered before (callBy byte ws) (s .said) after same (s .carried);
+        bytes =
+            λ z.
+            record {
+              written = λ h. b .written h ∙ ap (λ (a : Rules.Answer). slotsAfter a records (slotsIn records′)) (sym same);
+              alone = b .alone;
+              listed = λ h n. b .listed h n ∙ ap (λ (a : Rules.Answer). listAfter a list (listIn list′)) (sym same);
+              unlisted = b .unlisted;
+            };
       }
+
+-- ---- the calls on a store
+
+module _ (byte : ℕ) (ws pack store records list answer : List ℕ) (h : 12 ≤ length answer) (k : length records ≡ 384)
+    (w : 132 ≤ length list) (number : ℕ) where
+  right : listWrong answer records list ≡ none
+  right = right-buffers answer records list h k w
+
+  pub on-exported : (store′ records′ answer′ : List ℕ) → byte ≤ 6 →
+      Exported pack store records answer (callBy byte ws) number store′ records′ answer′ →
+      OnStore byte ws pack store records list number store′ records′ list answer′
+  on-exported store′ records′ answer′ l x =
+      let e : buffersWrong answer records ≡ none =
+      unfold buffersWrong in rw (le-leb 12 (length answer) h, eq-eqb (length records) 384 k) refl in
+      let s = x .served e in
+      record {
+        said = s .said;
+        carried = s .carried (listIn list);
+        bytes =
+            record {
+              written = λ z. s .bytes;
+              alone = λ z y. absurd (omega arith);
+              listed = λ z y. absurd (omega arith);
+              unlisted = λ z. refl;
+            };
+        read = s .read;
+      }
+
+  pub on-order : (store′ answer′ : List ℕ) → byte ≡ 9 → PutInOrder store answer number store′ answer′ →
+      OnStore byte ws pack store records list number store′ records list answer′
+  on-order store′ answer′ e m =
+      let long : answerShort 12 answer ≡ none = unfold answerShort in rw (le-leb 12 (length answer) h) refl in
+      let s = m .served long in
+      record {
+        said = s .0;
+        carried =
+            subst (λ (c : Call). Carried pack (lentIn store records list) c (s .0) (lentIn store′ records list)) (by-9 byte ws e)
+            (s .1 pack (slotsIn records) (listIn list));
+        bytes =
+            record {
+              written = λ z. absurd (neither z);
+              alone = λ z y. refl;
+              listed = λ z n. absurd (n e);
+              unlisted = λ z. refl;
+            };
+        read = s .5;
+      }
+    where
+      neither : (byte < 9) ⊎ (12 < byte) → ⊥
+      neither (inl z) = omega (arith, z, e)
+      neither (inr z) = omega (arith, z, e)
+
+  pub on-listed : (list′ answer′ : List ℕ) → 10 ≤ byte → byte ≤ 12 →
+      ListExported pack store records list answer (callBy byte ws) number list′ answer′ →
+      OnStore byte ws pack store records list number store records list′ answer′
+  on-listed list′ answer′ lo hi x =
+      let s = x .served right in
+      record {
+        said = s .said;
+        carried = s .carried;
+        bytes =
+            record {
+              written = λ z. absurd (neither z);
+              alone = λ z y. refl;
+              listed = λ z n. s .bytes;
+              unlisted = λ z. absurd (listed z);
+            };
+        read = s .read;
+      }
+    where
+      neither : (byte < 9) ⊎ (12 < byte) → ⊥
+      neither (inl z) = omega arith
+      neither (inr z) = omega arith
+
+      listed : (byte ≤ 6) ⊎ (byte ≡ 9) → ⊥
+      listed (inl z) = omega arith
+      listed (inr z) = omega (arith, z)
+
+  pub on-restart : (records′ list′ answer′ : List ℕ) → 6 < byte → (byte ≡ 9 → ⊥) → (byte < 10) ⊎ (12 < byte) →
+      Restarted records list answer number records′ list′ answer′ →
+      OnStore byte ws pack store records list number store records′ list′ answer′
+  unfolding AgentAnswers.answerOf Answers.slotsAfter Answers.listAfter Answers.heard
+  on-restart records′ list′ answer′ lo n o x =
+      let s = x .served right in
+      record {
+        said = Done;
+        carried =
+            subst (λ (c : Call). Carried pack (lentIn store records list) c Done (lentIn store records′ list′)) (by-others byte ws lo n o)
+            (s .0 pack store);
+        bytes =
+            record {
+              written = λ z. s .1;
+              alone = λ z y. absurd (beyond o z y);
+              listed = λ z m. s .2;
+              unlisted = λ z. absurd (listed z);
+            };
+        read = rw (s .3) refl;
+      }
+    where
+      beyond : (byte < 10) ⊎ (12 < byte) → 9 ≤ byte → byte ≤ 12 → ⊥
+      beyond (inl z) a b = n (omega arith)
+      beyond (inr z) a b = omega arith
+
+      listed : (byte ≤ 6) ⊎ (byte ≡ 9) → ⊥
+      listed (inl z) = omega arith
+      listed (inr z) = n z

@@ -1,6 +1,7 @@
 // The parts of the case that bytes begin with: kind (1), two lengths (4 each), the pack, the store or the schedule. A call has
-// behind them eight agent records of twelve words, a call byte and seven words. A list of calls has the records, how many calls there
-// are (1), and for each its call byte and seven words.
+// behind them eight agent records of twelve words, a call byte and seven words. With a worklist there are the number of its entries (1)
+// behind the lengths, and the entries behind the store, id (4) and mark (1) each. A list of calls has a worklist, and behind the records
+// how many calls there are (1), and for each its call byte and seven words.
 ghost use mathlib.Core.Bool.{true};
 ghost use mathlib.Core.Path.{_≡_};
 ghost use Prim.Native.Nat.{_+_, _≤_, _<_};
@@ -36,12 +37,16 @@ pub fn has_parts(c: &[u8]) -> bool
     true
 }
 
-// Is a byte that of a call, 0 to 9?
+// Is a byte that of a call without a worklist, 0 to 9 or 13?
 fn is_call(byte: u8) -> bool {
+    if byte == 13 {
+        return true;
+    }
     byte <= 9
 }
 
-// Is it that of one of the six calls on a store, 3 to 7 and 9? Check, open, create and figures, which are 0 to 2 and 8, are no such calls.
+// Is it that of one of the nine calls on a store, 3 to 7 and 9 to 12? Check, open, create, figures and reply, which are 0 to 2, 8 and 13,
+// are no such calls.
 fn is_on_store(byte: u8) -> bool {
     if byte < 3 {
         return false;
@@ -49,7 +54,7 @@ fn is_on_store(byte: u8) -> bool {
     if byte == 8 {
         return false;
     }
-    is_call(byte)
+    byte <= 12
 }
 
 // Is the rest of a call there, and its call byte in range? The records' words may be any: some make no record, which 14 is asked about.
@@ -117,6 +122,42 @@ pub fn list_bytes(rest: &[u8]) -> usize
         return bytes;
     }
     0
+}
+
+// How many bytes the records and the one call have that stand behind a worklist, 413; 0 if they are not there or the call byte is out of
+// range.
+pub fn call_bytes(rest: &[u8]) -> usize
+    ensures { λ r. ⌜ r ≤ length (now (rest .entry)) ⌝ }
+{
+    if rest.len() < 413 {
+        return 0;
+    }
+    if rest[384] <= 13 {
+        return 413;
+    }
+    0
+}
+
+// The mark of an entry, as the word that the library reads.
+fn mark_of(byte: u8) -> u32 {
+    byte as u32
+}
+
+// The worklist in the layout that the library reads, made of the entries of a case, 5 bytes each.
+pub fn lend_list(list: &mut [u8], entries: &[u8])
+    requires { ⌜ length (now list) ≡ 2044 ⌝ }
+{
+    let count = entries.len() / 5;
+    if 255 < count {
+        return;
+    }
+    words::write32(list, 0, count as u32);
+    let mut i = 0;
+    while i < count {
+        words::write32(list, 4 + 8 * i, words::read32(entries, 5 * i));
+        words::write32(list, 8 + 8 * i, mark_of(entries[5 * i + 4]));
+        i += 1;
+    }
 }
 
 // Seven words from byte `first` on.

@@ -8,36 +8,38 @@ ghost use Prim.Native.Nat.{_≤_};
 ghost use lib.ListN.{length};
 ghost use Rattle.cases.specs.Parts.{HasParts, HasCall};
 
-// What goes with the answer of a call, behind it: of an opening the parts; of a call that may change them store and records, or without
-// its state the store's bytes alone.
+// What goes with the answer of a call, behind it: of an opening the parts; of a call that may change them store, records and worklist, or
+// without its state the store's bytes and the worklist alone.
 fn print_left(
     pack: &[u8],
     store: &[u8],
     records: &[u8],
+    list: &[u8],
     call: u8,
     words: [u32; 7],
     with_state: bool,
 )
-    requires { ⌜ 384 ≤ length (now records) ⌝ }
+    requires { ⌜ (384 ≤ length (now records)) × (132 ≤ length (now list)) ⌝ }
 {
     if call == 1 {
         print::print_opened(pack, words[0]);
     }
     if 1 < call {
-        print_after(store, records, with_state);
+        print_after(store, records, list, with_state);
     }
 }
 
-// The store and the records that a call left, or the store's bytes alone.
-fn print_after(store: &[u8], records: &[u8], with_state: bool)
-    requires { ⌜ 384 ≤ length (now records) ⌝ }
+// The store, the records and the worklist that a call left, or the store's bytes and the worklist alone.
+fn print_after(store: &[u8], records: &[u8], list: &[u8], with_state: bool)
+    requires { ⌜ (384 ≤ length (now records)) × (132 ≤ length (now list)) ⌝ }
 {
     if with_state {
         print::print_store(store);
         print::print_slots(records);
-        return;
+    } else {
+        print::print_bytes(store);
     }
-    print::print_bytes(store);
+    print::print_list(list);
 }
 
 // The figures of a workflow, or the refusal, as a host is told them.
@@ -51,26 +53,42 @@ fn print_figures(pack: &[u8], workflow: u32) {
     print::print_answer(answers::read_answer(number, &answer));
 }
 
-// The answer of a call, and what goes with it. Figures (8) are all that is printed of theirs.
+// The reply worked out from the log, that there is none yet, or the refusal, as a host is told it.
+fn print_reply(pack: &[u8], store: &[u8], id: u32) {
+    let mut answer = [0u8; 12];
+    let number = host::sarthule_reply(pack, store, id, &mut answer);
+    if number == 5 {
+        print::print_not_yet();
+        return;
+    }
+    print::print_answer(answers::read_answer(number, &answer));
+}
+
+// The answer of a call, and what goes with it. Figures (8) and a reply (13) are all that is printed of theirs.
 fn print_outcome(
     pack: &[u8],
     store: &mut [u8],
     records: &mut [u8],
+    list: &mut [u8],
     call: u8,
     words: [u32; 7],
     with_state: bool,
 )
-    requires { ⌜ length (now records) ≡ 384 ⌝ }
+    requires { ⌜ (length (now records) ≡ 384) × (132 ≤ length (now list)) ⌝ }
 {
     if call == 8 {
         print_figures(pack, words[0]);
         return;
     }
-    print::print_answer(call::make_call(pack, store, records, call, words));
-    print_left(pack, store, records, call, words, with_state);
+    if call == 13 {
+        print_reply(pack, store, words[0]);
+        return;
+    }
+    print::print_answer(call::make_call(pack, store, records, list, call, words));
+    print_left(pack, store, records, list, call, words, with_state);
 }
 
-// A call, on a copy of its store in `buffer` and a copy of its records.
+// A call, on a copy of its store in `buffer`, a copy of its records and an empty worklist.
 fn print_call(c: &[u8], with_state: bool, buffer: &mut [u8])
     requires { ⌜ HasCall (now c) × (length (now c) ≤ length (now buffer)) ⌝ }
 {
@@ -79,10 +97,12 @@ fn print_call(c: &[u8], with_state: bool, buffer: &mut [u8])
     let store_bytes = text::append_bytes(buffer, 0, &c[pack_end..parts_end]);
     let mut records = [0u8; 384];
     text::append_bytes(&mut records, 0, &c[parts_end..parts_end + 384]);
+    let mut list = [0u8; 132];
     print_outcome(
         &c[9..pack_end],
         &mut buffer[..store_bytes],
         &mut records,
+        &mut list,
         c[parts_end + 384],
         parts::call_words(c),
         with_state,
@@ -90,31 +110,68 @@ fn print_call(c: &[u8], with_state: bool, buffer: &mut [u8])
 }
 
 // The answers of calls, 29 bytes each, each call on what the one before left.
-fn print_answers(pack: &[u8], store: &mut [u8], records: &mut [u8], calls: &[u8])
-    requires { ⌜ length (now records) ≡ 384 ⌝ }
+fn print_answers(pack: &[u8], store: &mut [u8], records: &mut [u8], list: &mut [u8], calls: &[u8])
+    requires { ⌜ (length (now records) ≡ 384) × (132 ≤ length (now list)) ⌝ }
 {
     let mut call_at = 0;
     while 29 <= calls.len() - call_at {
         let words = parts::words_at(calls, call_at + 1);
-        print::print_answer(call::make_call(pack, store, records, calls[call_at], words));
+        print::print_answer(call::make_call(pack, store, records, list, calls[call_at], words));
         call_at += 29;
     }
 }
 
-// A list of calls, on a copy of the store in `buffer` and a copy of the records.
-fn print_list(pack: &[u8], store: &[u8], list: &[u8], with_state: bool, buffer: &mut [u8])
-    requires { ⌜ (385 ≤ length (now list)) × (length (now store) ≤ length (now buffer)) ⌝ }
+// A list of calls, on a copy of the store in `buffer`, a copy of the records and the worklist.
+fn print_list(
+    pack: &[u8],
+    store: &[u8],
+    entries: &[u8],
+    calls: &[u8],
+    with_state: bool,
+    buffer: &mut [u8],
+)
+    requires { ⌜ (385 ≤ length (now calls)) × (length (now store) ≤ length (now buffer)) ⌝ }
 {
     let store_bytes = text::append_bytes(buffer, 0, store);
     let mut records = [0u8; 384];
-    text::append_bytes(&mut records, 0, &list[0..384]);
+    text::append_bytes(&mut records, 0, &calls[0..384]);
+    let mut list = [0u8; 2044];
+    parts::lend_list(&mut list, entries);
     print_answers(
         pack,
         &mut buffer[0..store_bytes],
         &mut records,
-        &list[385..],
+        &mut list,
+        &calls[385..],
     );
-    print_after(&buffer[0..store_bytes], &records, with_state);
+    print_after(&buffer[0..store_bytes], &records, &list, with_state);
+}
+
+// A call with a worklist, on a copy of the store in `buffer`, a copy of the records and the worklist.
+fn print_listed(
+    pack: &[u8],
+    store: &[u8],
+    entries: &[u8],
+    call: &[u8],
+    with_state: bool,
+    buffer: &mut [u8],
+)
+    requires { ⌜ (413 ≤ length (now call)) × (length (now store) ≤ length (now buffer)) ⌝ }
+{
+    let store_bytes = text::append_bytes(buffer, 0, store);
+    let mut records = [0u8; 384];
+    text::append_bytes(&mut records, 0, &call[0..384]);
+    let mut list = [0u8; 2044];
+    parts::lend_list(&mut list, entries);
+    print_outcome(
+        pack,
+        &mut buffer[0..store_bytes],
+        &mut records,
+        &mut list,
+        call[384],
+        parts::words_at(call, 385),
+        with_state,
+    );
 }
 
 // A schedule: what the schedule program prints.
@@ -139,26 +196,61 @@ fn print_call_case(c: &[u8], title: &[u8], with_state: bool, buffer: &mut [u8]) 
     0
 }
 
-// A case of kind 2, a list of calls.
-fn print_list_case(c: &[u8], title: &[u8], with_state: bool, buffer: &mut [u8]) -> usize
+// A case of kind 2, a call with a worklist, or of kind 3, a list of calls.
+fn print_listed_case(c: &[u8], title: &[u8], with_state: bool, buffer: &mut [u8]) -> usize
     requires { ⌜ HasParts (now c) × (length (now c) ≤ length (now buffer)) ⌝ }
     ensures { λ r. ⌜ r ≤ length (now (c .entry)) ⌝ }
 {
-    let pack_end = parts::pack_end(c);
-    let parts_end = parts::parts_end(c);
-    let bytes = parts::list_bytes(&c[parts_end..]);
+    if c.len() < 10 {
+        return 0;
+    }
+    let pack_end = parts::pack_end(c) + 1;
+    let store_end = parts::parts_end(c) + 1;
+    let list_end = store_end + 5 * parts::wide(c[9]);
+    if c.len() < list_end {
+        return 0;
+    }
+    let rest = &c[list_end..];
+    let pack = &c[10..pack_end];
+    let store = &c[pack_end..store_end];
+    let entries = &c[store_end..list_end];
+    let bytes = print_rest(c[0], pack, store, entries, rest, title, with_state, buffer);
+    if bytes == 0 {
+        return 0;
+    }
+    list_end + bytes
+}
+
+// What stands behind the worklist of such a case, the records and the call or the calls, by its kind. The answer is how many bytes it has.
+fn print_rest(
+    kind: u8,
+    pack: &[u8],
+    store: &[u8],
+    entries: &[u8],
+    rest: &[u8],
+    title: &[u8],
+    with_state: bool,
+    buffer: &mut [u8],
+) -> usize
+    requires { ⌜ length (now store) ≤ length (now buffer) ⌝ }
+    ensures { λ r. ⌜ r ≤ length (now (rest .entry)) ⌝ }
+{
+    if kind == 2 {
+        let bytes = parts::call_bytes(rest);
+        if bytes < 413 {
+            return 0;
+        }
+        io::write_all(STDOUT_FILENO, title);
+        print_listed(pack, store, entries, &rest[0..bytes], with_state, buffer);
+        return bytes;
+    }
+    let bytes = parts::list_bytes(rest);
     if bytes < 385 {
         return 0;
     }
     io::write_all(STDOUT_FILENO, title);
-    print_list(
-        &c[9..pack_end],
-        &c[pack_end..parts_end],
-        &c[parts_end..parts_end + bytes],
-        with_state,
-        buffer,
-    );
-    parts_end + bytes
+    print_list(pack, store, entries, &rest[0..bytes], with_state, buffer);
+    bytes
 }
 
 // A case of kind 0, a schedule.
@@ -185,8 +277,8 @@ fn print_kind(c: &[u8], title: &[u8], with_state: bool, buffer: &mut [u8]) -> us
     if kind == 1 {
         return print_call_case(c, title, with_state, buffer);
     }
-    if kind == 2 {
-        return print_list_case(c, title, with_state, buffer);
+    if kind <= 3 {
+        return print_listed_case(c, title, with_state, buffer);
     }
     0
 }

@@ -5,7 +5,6 @@ use mathlib.Core.Option.{Option, none, some}
 use mathlib.Core.Path.{_≡_, refl, sym, _∙_, ap, subst}
 use Prim.Native.Nat.{ℕ, suc}
 use native.Mathlib.Omega.{arith}
-use lib.ListN.{replicate}
 use Rattle.meaning.proofs.Tests.{booked-of-13}
 use Rattle.contents.specs.Contents.{contentsOf}
 use Rattle.questions.specs.Basics.{isSome}
@@ -24,16 +23,18 @@ use Rattle.pack.specs.Meaning.{packOf}
 use Rattle.store.specs.Rows.{storeOf}
 use Rattle.agents.specs.declared.Agent.{Agent}
 use Rattle.agents.specs.declared.Answer.{Answer}
-use Rattle.agents.specs.Slots.{noAgent, slotsOf}
+use Rattle.agents.specs.Slots.{slotsOf}
 use Rattle.agents.specs.Answers.{answerOf}
 use Rattle.agents.proofs.Slots.{slots-none}
+use Rattle.worklist.specs.declared.Worklist.{Worklist}
 use Rattle.meaning.specs.State.{stateOf, Lent}
 use Rattle.meaning.specs.Questions.{lentRefusal, lentFor, refusalFor}
 use Rattle.meaning.specs.Carried.{Carried, ruled}
 use Rattle.meaning.proofs.Asked.{lent-pack, lent-13}
 use Rattle.meaning.proofs.Sense.{booked-workflow}
+use Rattle.chain.specs.Chain.{ChainFrom, from-here, on-from}
 use Rattle.chain.specs.Demands.{InTime}
-use Rattle.chain.specs.RequestZero.{ChainOn, from-here, on-from, AsBefore}
+use Rattle.chain.specs.RequestZero.{lentAtFirst, ChainOn, AsBefore}
 use Rattle.chain.proofs.Each.{met-none, left-state}
 
 module _ (pack older : List ℕ) where
@@ -118,14 +119,17 @@ module _ (pack older : List ℕ) where
                 );
           }
 
-  pub by-log-on : (events : List Event) (lent : Lent) → ChainOn pack older events lent →
-      GoesByLog events lent
+  by-log-from : (list : Worklist) (events : List Event) (lent : Lent) →
+      ChainFrom pack (lentAtFirst older list) events lent → GoesByLog events lent
   unfolding talliesOf repliesOf stateOf
-  by-log-on events lent from-here =
-      at-first (packOf pack) first (stateOf (record { store = older; records = replicate 8 noAgent })) (talliesOf []) refl
+  by-log-from list events lent from-here =
+      at-first (packOf pack) first (stateOf (lentAtFirst older list)) (talliesOf []) refl
       (λ slot. ap (λ (f : ℕ → Option Calls.Agent). f slot) slots-none)
-  by-log-on events lent (on-from events₀ lent₀ c answer lent′ chain h) =
-      next-by-log events₀ lent₀ (by-log-on events₀ lent₀ chain) c answer lent′ h
+  by-log-from list events lent (on-from events₀ lent₀ c answer lent′ chain h) =
+      next-by-log events₀ lent₀ (by-log-from list events₀ lent₀ chain) c answer lent′ h
+
+  pub by-log-on : (events : List Event) (lent : Lent) → ChainOn pack older events lent → GoesByLog events lent
+  by-log-on events lent chain = by-log-from (chain .0) events lent (chain .1)
 
   -- Requests reply as before.
   pub as-before-on : (events : List Event) (lent : Lent) → ChainOn pack older events lent →

@@ -39,7 +39,7 @@ module _ (pack : List ℕ) (lent : Lent) (c : Call) (answer : Answer) (lent′ :
   -- what such a call leaves is what the rule leaves
   pub left-state : refusalFor pack lent c ≡ none → stateOf lent′ ≡ ruled pack lent c .state
   unfolding stateOf
-  left-state e = let l = h .carried e .1 in same-state (l .written .holds) (l .slots)
+  left-state e = let l = h .carried e .1 in same-state (l .written .holds) (l .slots) (l .list .means)
 
   pub demand1 : Demand1 pack lent c answer lent′
   demand1 = record { says-no = h .refused; says-why = λ n e. go n e (refusalFor pack lent c) refl }

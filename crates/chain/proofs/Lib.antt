@@ -11,3 +11,4 @@ pub mod Never
 pub mod NothingLost
 pub mod CutCase
 pub mod InOrder
+pub mod Listed

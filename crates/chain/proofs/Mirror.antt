@@ -23,6 +23,7 @@ use Rattle.agents.specs.declared.Answer.{Answer}
 use Rattle.agents.specs.Slots.{noAgent}
 use Rattle.agents.specs.Answers.{answerOf}
 use Rattle.agents.proofs.Slots.{slots-none}
+use Rattle.worklist.specs.Worklist.{noWorklist, entriesOf}
 use Rattle.meaning.specs.State.{stateOf, Lent}
 use Rattle.meaning.specs.Questions.{refusalFor}
 use Rattle.meaning.specs.Carried.{Carried, ruled}
@@ -35,7 +36,7 @@ if-same : {A : Type 0} (b : Bool) (x : A) → if_then_else_ b x x ≡ x
 if-same true x = refl
 if-same false x = refl
 
-fresh-contents : (P C : ℕ) → contentsOf (emptyStore P C) ≡ fresh C .store
+pub fresh-contents : (P C : ℕ) → contentsOf (emptyStore P C) ≡ fresh C .store
 unfolding contentsOf lookup bookOf requestOf
 fresh-contents P C =
     λ i.
@@ -75,11 +76,11 @@ module _ {pack : List ℕ} {C : ℕ} {events : List Event} {lent : Lent} (m : Mi
   replies-as = same-replies _ _ (m .told)
 
 pub mirror-start : (pack buffer store : List ℕ) (P C : ℕ) → Created buffer store P C Accepted →
-    Mirror pack C [] (record { store = store; records = replicate 8 noAgent })
-unfolding stateOf stateAfter eventsAfter
+    Mirror pack C [] (record { store = store; records = replicate 8 noAgent; list = noWorklist })
+unfolding stateOf stateAfter eventsAfter entriesOf
 mirror-start pack buffer store P C h =
     let e = ap contentsOf (h .made refl .1) ∙ fresh-contents P C in
-    record { calls = []; state = same-state e slots-none; told = none-yet }
+    record { calls = []; state = same-state e slots-none refl; told = none-yet }
 
 module _ (pack : List ℕ) (C : ℕ) (events : List Event) (lent : Lent) (m : Mirror pack C events lent)
     (c : Call) (answer : Answer) (lent′ : Lent) where

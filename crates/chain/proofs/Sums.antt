@@ -1,4 +1,5 @@
--- Laws of sums and of some partition, for W-207: rows by rising key are summed by what is found at each key, so a change at one key changes the sum by that.
+-- Laws of sums and of some partition, for W-207: rows by rising key are summed by what is found at each key, so a change at one key
+-- changes the sum by that.
 use mathlib.Core.Bool.{Bool, true, false, _||_}
 use mathlib.Core.List.{List, [], _∷_}
 use mathlib.Core.Option.{Option, none, some}
@@ -43,11 +44,11 @@ without-none counts k (r ∷ rows) e = go (eqb (r .0) k) refl (without-none coun
     go true q rec = absurd (let h : some (r .1) ≡ none = rw q at e in let z : _≡_ {A = ℕ} 0 1 = cc in omega arith)
     go false q rec = rw q (ap (λ n. counts r + n) (rec (rw q at e)))
 
-tail-rises : (r : Row) (rows : List Row) → rising (keysIn (r ∷ rows)) ≡ true → rising (keysIn rows) ≡ true
+pub tail-rises : (r : Row) (rows : List Row) → rising (keysIn (r ∷ rows)) ≡ true → rising (keysIn rows) ≡ true
 unfolding rising keysIn
 tail-rises r rows u = and-right (ahead (r .0) (keysIn rows)) _ u
 
-head-alone : (r : Row) (rows : List Row) → rising (keysIn (r ∷ rows)) ≡ true → lookup (r .0) rows ≡ none
+pub head-alone : (r : Row) (rows : List Row) → rising (keysIn (r ∷ rows)) ≡ true → lookup (r .0) rows ≡ none
 unfolding keysIn
 head-alone r rows u = rises-none (r .0) rows u
 

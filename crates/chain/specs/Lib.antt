@@ -4,3 +4,4 @@ pub mod InOrder
 pub mod RequestZero
 pub mod Room
 pub mod NothingLost
+pub mod Listed

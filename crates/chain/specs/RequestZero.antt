@@ -1,6 +1,6 @@
 -- W-201, request number zero, of calls on bytes.
 use mathlib.Core.Bool.{true, false}
-use mathlib.Core.List.{List, [], _∷_, List·Memᴰ}
+use mathlib.Core.List.{List, List·Memᴰ}
 use mathlib.Core.Option.{none, some}
 use mathlib.Core.Path.{_≡_}
 use Prim.Native.Nat.{ℕ, _<_}
@@ -19,9 +19,11 @@ use Rattle.store.specs.Rows.{storeOf}
 use Rattle.agents.specs.declared.Answer.{Answer}
 use Rattle.agents.specs.Slots.{noAgent, slotsOf}
 use Rattle.agents.specs.Answers.{answerOf}
+use Rattle.worklist.specs.declared.Worklist.{Worklist}
 use Rattle.meaning.specs.State.{stateOf, Lent}
 use Rattle.meaning.specs.Questions.{lentRefusal}
 use Rattle.meaning.specs.Carried.{Carried}
+use Rattle.chain.specs.Chain.{ChainFrom}
 use Rattle.chain.specs.Demands.{InTime}
 
 -- A call on any pack and on anything lent, an older store that has 0 in its book included, gave an answer and left lent′.
@@ -51,13 +53,13 @@ pub record NoZero (pack : List ℕ) (events : List Event) (store : List ℕ) : T
   pub log : (partition step : ℕ) → found (contentsOf (storeOf store) .log) partition 0 step ≡ none
   pub replies : (r : Reply) → List·Memᴰ r (repliesOf events) → r .id ≡ 0 → ⊥
 
--- Calls on a store that an older runtime left, with all slots empty at first: the list of them, the latest first, and what is lent after
--- them. Each call gets what the one before left; all get the same pack.
-pub data ChainOn (pack older : List ℕ) : List Event → Lent → Type 0 where
-  from-here : ChainOn pack older [] (record { store = older; records = replicate 8 noAgent })
-  on-from : (events : List Event) (lent : Lent) (c : Call) (answer : Answer) (lent′ : Lent) →
-      ChainOn pack older events lent → Carried pack lent c answer lent′ →
-      ChainOn pack older (record { made = c; answer = answerOf answer } ∷ events) lent′
+-- what is lent at first with a store that an older runtime left: all slots are empty
+abbrev pub lentAtFirst : (older : List ℕ) → Worklist → Lent
+lentAtFirst older list = record { store = older; records = replicate 8 noAgent; list = list }
+
+-- Calls on such a store, with any worklist at first: the list of them, the latest first, and what is lent after them.
+abbrev pub ChainOn : (pack older : List ℕ) → List Event → Lent → Type 0
+ChainOn pack older events lent = (list : Worklist) × ChainFrom pack (lentAtFirst older list) events lent
 
 -- A request booked under 0 replies as before, and so does any other: after any list of calls on any store, from empty slots on.
 pub record AsBefore (pack older : List ℕ) (events : List Event) (lent : Lent) : Type 0 where

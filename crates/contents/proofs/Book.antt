@@ -21,7 +21,7 @@ module _ (o : Option ℕ) (g : Got) (p : g ≡ gotOf o) where
       go none e = absurd (let z : _≡_ {A = ℕ} 0 1 = cc in omega arith)
       go (some v) e = let r : v ≡ w = cc in ap some r
 
-  got-none : g ≡ Absent → o ≡ none
+  pub got-none : g ≡ Absent → o ≡ none
   unfolding gotOf
   got-none q = go o p
     where

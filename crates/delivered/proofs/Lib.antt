@@ -3,3 +3,4 @@ pub mod Demands
 pub mod Malformed
 pub mod Room
 pub mod NothingLost
+pub mod Listed

@@ -17,10 +17,11 @@ use Rattle.meaning.specs.Questions.{slotRight, question13, question14, lentRefu
 use Rattle.meaning.specs.Questions as Meaning
 use Rattle.slots.specs.Records.{noRecord, recordIn, slotsIn}
 use Rattle.slots.proofs.Records.{no-record-is, malformed, at-in}
-use Rattle.host.specs.Exports.{lentIn}
+use Rattle.worklist.specs.declared.Worklist.{Worklist}
+use Rattle.host.specs.Exports.{lentWith}
 use Rattle.delivered.specs.Malformed.{NoRecordIn, orElse14, Malformed, MalformedRefused}
 
-module _ (pack store slots : List ℕ) (i : ℕ) (h : i < 8) (no-record : NoRecordIn slots i) where
+module _ (pack store slots : List ℕ) (l : Worklist) (i : ℕ) (h : i < 8) (no-record : NoRecordIn slots i) where
   stands-for : agentAt (slotsIn slots) i ≡ noRecord
   stands-for = at-in slots 8 0 i h ∙ ap (recordIn slots) (omega arith) ∙ malformed (fields 4 slots (48 * i) 12) no-record
 
@@ -39,7 +40,7 @@ module _ (pack store slots : List ℕ) (i : ℕ) (h : i < 8) (no-record : NoReco
           yes-no (sym (each-at (λ k. slotRight pack store (agentAt (slotsIn slots) k)) 8 0 (unfold question14 in e) i (omega arith)
           (omega arith)) ∙ wrong)
 
-  asked : lentRefusal pack (lentIn store slots) ≡ orElse14 pack store
+  asked : lentRefusal pack (lentWith store slots l) ≡ orElse14 pack store
   asked =
       unfold lentRefusal in
       ap (λ b. orElse (packRefusal pack) (orElse (storeRefusal store) (ask (number 13) (question13 pack store) (ask (number 14) b none))))
@@ -47,7 +48,7 @@ module _ (pack store slots : List ℕ) (i : ℕ) (h : i < 8) (no-record : NoReco
       ∙ unfold ask in refl
 
   -- whatever is asked behind it
-  first : (rest : Option No) → orElse (lentRefusal pack (lentIn store slots)) rest ≡ orElse14 pack store
+  first : (rest : Option No) → orElse (lentRefusal pack (lentWith store slots l)) rest ≡ orElse14 pack store
   first rest = ap (λ o. orElse o rest) asked ∙ go (packRefusal pack) (storeRefusal store) (question13 pack store)
     where
       go : (a b : Option No) (q : Bool) →
@@ -58,7 +59,7 @@ module _ (pack store slots : List ℕ) (i : ℕ) (h : i < 8) (no-record : NoReco
       go none none true = unfold orElse in unfold ask in refl
       go none none false = unfold orElse in unfold ask in refl
 
-  refused-by-14 : Malformed pack store slots
+  refused-by-14 : Malformed pack store slots l
   refused-by-14 =
       record {
         no-14 = says-no;
@@ -66,7 +67,10 @@ module _ (pack store slots : List ℕ) (i : ℕ) (h : i < 8) (no-record : NoReco
         retries = λ slot id. unfold Meaning.refusalFor in unfold Meaning.lentFor in first _;
         turns = λ slot. unfold Meaning.refusalFor in unfold Meaning.lentFor in first _;
         crashes = λ slot. unfold Meaning.refusalFor in unfold Meaning.lentFor in first _;
+        adds = λ id. unfold Meaning.refusalFor in unfold Meaning.lentFor in first _;
+        takes = unfold Meaning.refusalFor in unfold Meaning.lentFor in first _;
+        dones = λ id. unfold Meaning.refusalFor in unfold Meaning.lentFor in first _;
       }
 
 pub malformed-refused : MalformedRefused
-malformed-refused pack store slots i h no-record = refused-by-14 pack store slots i h no-record
+malformed-refused = refused-by-14

@@ -12,7 +12,7 @@ use Rattle.questions.proofs.Updates.{none-some}
 use Rattle.questions.proofs.Questions.{orElse-none}
 use Rattle.rules.specs.Routes.{byRows, MostOf}
 use Rattle.rules.specs.Room.{FindsRoom, NoOther}
-use Rattle.rules.specs.Calls.{Call, Answer, State, arrival, turn, order, done, refused}
+use Rattle.rules.specs.Calls.{Call, Answer, arrival, turn, done, refused}
 use Rattle.rules.specs.Plain.{Event, accepted}
 use Rattle.contents.specs.Contents.{contentsOf}
 use Rattle.pack.specs.Meaning.{packOf}
@@ -29,13 +29,13 @@ use Rattle.chain.specs.Room.{NeverFull}
 use Rattle.chain.specs.Room as Chains
 use Rattle.chain.proofs.Each.{met-none}
 use Rattle.chain.proofs.Room.{room-is-enough}
-use Rattle.slots.specs.Records.{slotsIn}
+use Rattle.worklist.specs.Bytes.{listIn}
 use Rattle.answers.specs.Answers.{heard, judged, valuesOf}
 use Rattle.answers.specs.Answers as Answers
-use Rattle.host.specs.Told.{answerShort, FiguresGiven}
-use Rattle.host.specs.Exports.{lentIn, buffersWrong, Served, Exported, PutInOrder}
-use Rattle.delivered.specs.Room.{ToldRows, RoomFor, Undisturbed, from-first, calls, orders, NeverTold21, ToldRoomIsEnough}
-use Rattle.delivered.proofs.Lists.{wrong-unheard, zero-long, zero-yes}
+use Rattle.host.specs.Told.{FiguresGiven}
+use Rattle.host.specs.Exports.{lentIn, buffersWrong, Served, Exported}
+use Rattle.delivered.specs.Room.{ToldRows, RoomFor, Undisturbed, from-first, one-more, NeverTold21, ToldRoomIsEnough}
+use Rattle.delivered.proofs.Lists.{wrong-unheard, zero-long, zero-yes, CameTo, unread, answered, came-to}
 use Rattle.delivered.proofs.Demands.{same-heard}
 
 -- ── A call to which the host heard an answer ──
@@ -83,55 +83,33 @@ module _ (pack : List ℕ) (w : ℕ) (rows : ℕ → ℕ) (told : ToldRows pack 
 
 -- ── Exported calls as calls on what the bytes mean ──
 
--- order is no turn, and so no block runs in it
-order-alone : (pack : List ℕ) (id : ℕ) (s : State) → NoOther (packOf pack) id s order
-order-alone pack id s other ahead = absurd (let e = ahead .made in let z : _≡_ {A = ℕ} 0 1 = cc in omega arith)
+module _ (pack : List ℕ) (id : ℕ) (store₀ slots₀ list₀ : List ℕ) where
+  abbrev Linked : (store slots list : List ℕ) → Type 0
+  Linked store slots list =
+      (events : List Event) × Chains.Undisturbed pack id (lentIn store₀ slots₀ list₀) events (lentIn store slots list)
 
-module _ (pack : List ℕ) (id : ℕ) (store₀ slots₀ : List ℕ) where
-  abbrev Linked : (store slots : List ℕ) → Type 0
-  Linked store slots = (events : List Event) × Chains.Undisturbed pack id (lentIn store₀ slots₀) events (lentIn store slots)
+  call-linked : (store slots list : List ℕ) (c : Call) (heard : Option Answer) (store′ slots′ list′ : List ℕ) → Linked store slots list →
+      CameTo pack store slots list c heard store′ slots′ list′ →
+      ((said : Answer) → heard ≡ some said → accepted said ≡ true → NoOther (packOf pack) id (stateOf (lentIn store slots list)) c) →
+      Linked store′ slots′ list′
+  call-linked store slots list c heard store′ slots′ list′ h (unread e p q r) alone = rw (p, q, r) h
+  call-linked store slots list c heard store′ slots′ list′ h (answered a e x p q) alone = (
+    record { made = c; answer = answerOf a } ∷ h .0,
+    Chains.one-more (h .0) (lentIn store slots list) c a (lentIn store′ slots′ list′) (h .1) x (alone (answerOf a) e),
+  )
 
-  call-linked : (store slots answer : List ℕ) (c : Call) (given : ℕ) (store′ slots′ answer′ : List ℕ) → Linked store slots →
-      Exported pack store slots answer c given store′ slots′ answer′ →
-      ((said : Answer) → heard given answer′ ≡ some said → accepted said ≡ true →
-      NoOther (packOf pack) id (stateOf (lentIn store slots)) c) →
-      Linked store′ slots′
-  call-linked store slots answer c given store′ slots′ answer′ h x alone = go (buffersWrong answer slots) refl
-    where
-      go : (o : Option ℕ) → buffersWrong answer slots ≡ o → Linked store′ slots′
-      go (some n) e = let w = x .wrong n e in rw (w .1, w .2) h
-      go none e =
-          let s = x .served e in (
-            record { made = c; answer = answerOf (s .said) } ∷ h .0,
-            Chains.one-more (h .0) (lentIn store slots) c (s .said) (lentIn store′ slots′) (h .1) (s .carried)
-                (alone (answerOf (s .said)) (s .read)),
-          )
-
-  order-linked : (store slots answer : List ℕ) (given : ℕ) (store′ answer′ : List ℕ) → Linked store slots →
-      PutInOrder store answer given store′ answer′ → Linked store′ slots
-  order-linked store slots answer given store′ answer′ h x = go (answerShort 12 answer) refl
-    where
-      go : (o : Option ℕ) → answerShort 12 answer ≡ o → Linked store′ slots
-      go (some n) e = rw (x .short n e .1) h
-      go none e =
-          let s = x .served e in (
-            record { made = order; answer = answerOf (s .0) } ∷ h .0,
-            Chains.one-more (h .0) (lentIn store slots) order (s .0) (lentIn store′ slots) (h .1) (s .1 pack (slotsIn slots))
-                (λ _. order-alone pack id (stateOf (lentIn store slots))),
-          )
-
-  as-linked : (store slots : List ℕ) → Undisturbed pack id store₀ slots₀ store slots → Linked store slots
-  as-linked _ _ from-first = ([], Chains.from-first)
-  as-linked _ _ (calls store slots answer c given store′ slots′ answer′ u x alone) =
-      call-linked store slots answer c given store′ slots′ answer′ (as-linked store slots u) x alone
-  as-linked _ _ (orders store slots answer given store′ answer′ u x) =
-      order-linked store slots answer given store′ answer′ (as-linked store slots u) x
+  as-linked : (store slots list : List ℕ) → Undisturbed pack id store₀ slots₀ list₀ store slots list → Linked store slots list
+  as-linked _ _ _ from-first = ([], Chains.from-first)
+  as-linked _ _ _ (one-more store slots list c heard store′ slots′ list′ u x alone) =
+      call-linked store slots list c heard store′ slots′ list′ (as-linked store slots list u)
+      (came-to pack store slots list c heard store′ slots′ list′ x) alone
 
 -- ── The arrival ──
 
 module _ (pack store slots answer : List ℕ) (slot id w : ℕ) (args : List ℕ) (given : ℕ) (store₁ slots₁ answer₁ : List ℕ) (rows : ℕ → ℕ)
     (told : ToldRows pack w rows) (room : RoomFor store id rows)
-    (x : Exported pack store slots answer (arrival slot id w args) given store₁ slots₁ answer₁) (zero : given ≡ 0) where
+    (x : Exported pack store slots answer (arrival slot id w args) given store₁ slots₁ answer₁) (zero : given ≡ 0)
+    (list : List ℕ) where
   heard-done : heard given answer₁ ≡ some done
   heard-done = rw zero (unfold Answers.heard in refl)
 
@@ -146,15 +124,16 @@ module _ (pack store slots answer : List ℕ) (slot id w : ℕ) (args : List ℕ
   unfolding refusalFor Meaning.lentFor
   parts-high =
       let yes =
-      met-none pack (lentIn store slots) (arrival slot id w args) (served .0 .said) (lentIn store₁ slots₁) (served .0 .carried) accepts in
-      store-ok store (lent-store pack (lentIn store slots) (orElse-none _ _ yes .0)) .0 .formed .shape .parts-high
+      met-none pack (lentIn store slots list) (arrival slot id w args) (served .0 .said) (lentIn store₁ slots₁ list)
+      (served .0 .carried (listIn list)) accepts in
+      store-ok store (lent-store pack (lentIn store slots list) (orElse-none _ _ yes .0)) .0 .formed .shape .parts-high
 
   -- the rows that a partition can have are C
   room-is : contentsOf (storeOf store) .room ≡ capOf store
   unfolding contentsOf
   room-is = refl
 
-  finds : FindsRoom (packOf pack) (partsOf store) (stateOf (lentIn store slots) .store) id (record { workflow = w; arguments = args })
+  finds : FindsRoom (packOf pack) (partsOf store) (stateOf (lentIn store slots list) .store) id (record { workflow = w; arguments = args })
   unfolding stateOf
   finds =
       record {
@@ -163,28 +142,29 @@ module _ (pack store slots answer : List ℕ) (slot id w : ℕ) (args : List ℕ
         free = λ p l. (rows p, rows-most pack w rows told p (omega (arith, l, parts-high)), omega (arith, room .free p l, room-is));
       }
 
-  never-full : NeverFull pack id slot (lentIn store₁ slots₁)
+  never-full : NeverFull pack id slot (lentIn store₁ slots₁ list)
   never-full =
-      room-is-enough pack (lentIn store slots) slot id w args (served .0 .said) (lentIn store₁ slots₁) finds (served .0 .carried) accepts
+      room-is-enough pack (lentIn store slots list) slot id w args (served .0 .said) (lentIn store₁ slots₁ list) finds
+      (served .0 .carried (listIn list)) accepts
 
-  never-told-21 : NeverTold21 pack id slot store₁ slots₁
+  never-told-21 : NeverTold21 pack id slot store₁ slots₁ list
   never-told-21 =
       record {
         starts = never-full .starts;
         no-21 =
-            λ store₂ slots₂ u k its answer₂ given₂ store₃ slots₃ answer₃ y h.
-            let links = as-linked pack id store₁ slots₁ store₂ slots₂ u in
+            λ store₂ slots₂ list₂ u k its answer₂ given₂ store₃ slots₃ answer₃ y h.
+            let links = as-linked pack id store₁ slots₁ list store₂ slots₂ list₂ u in
             let s = as-served pack store₂ slots₂ answer₂ (turn k) given₂ store₃ slots₃ answer₃ y (refused (number 21)) h in
-            never-full .no-21 (links .0) (lentIn store₂ slots₂) (links .1) k its (s .0 .said) (lentIn store₃ slots₃) (s .0 .carried)
-            (s .1);
+            never-full .no-21 (links .0) (lentIn store₂ slots₂ list₂) (links .1) k its (s .0 .said) (lentIn store₃ slots₃ list₂)
+            (s .0 .carried (listIn list₂)) (s .1);
         goes-on =
-            λ store₂ slots₂ u k its below yes answer₂ given₂ store₃ slots₃ answer₃ y right.
-            let links = as-linked pack id store₁ slots₁ store₂ slots₂ u in
+            λ store₂ slots₂ list₂ u k its below yes answer₂ given₂ store₃ slots₃ answer₃ y right.
+            let links = as-linked pack id store₁ slots₁ list store₂ slots₂ list₂ u in
             let s = y .served right in (
               answerOf (s .said),
               s .read,
-              never-full .goes-on (links .0) (lentIn store₂ slots₂) (links .1) k its below yes (s .said) (lentIn store₃ slots₃)
-                  (s .carried),
+              never-full .goes-on (links .0) (lentIn store₂ slots₂ list₂) (links .1) k its below yes (s .said) (lentIn store₃ slots₃ list₂)
+                  (s .carried (listIn list₂)),
             );
       }
 

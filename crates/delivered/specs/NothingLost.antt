@@ -9,9 +9,9 @@ use Rattle.store.specs.Layout.{AllBytes}
 use Rattle.chain.specs.NothingLost.{AddsUp}
 use Rattle.delivered.specs.Delivered.{Delivered}
 
--- For a pack whose only workflow is MOVE, what an accepted create leaves, slots of zero bytes, and exported calls in any sequence: after
--- each of them the rows that stand in the store's bytes add up, also where a buffer was wrong.
+-- For a pack whose only workflow is MOVE, what an accepted create leaves, slots and worklist of zero bytes, and exported calls in any
+-- sequence: after each of them the rows that stand in the store's bytes add up, also where a buffer was wrong.
 abbrev pub HostLosesNothing : Type 0
 HostLosesNothing =
     (pack : List ℕ) (P C : ℕ) → packOf pack ≡ MOVE ∷ [] →
-    (events : List Event) (store slots : List ℕ) → Delivered pack P C events store slots → AllBytes store → AddsUp store
+    (events : List Event) (store slots list : List ℕ) → Delivered pack P C events store slots list → AllBytes store → AddsUp store

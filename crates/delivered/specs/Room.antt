@@ -1,7 +1,7 @@
 -- W-202 of the library as a host calls it: a request for which the rows that the host was told are free never meets question 21.
 use mathlib.Core.Bool.{true}
 use mathlib.Core.List.{List}
-use mathlib.Core.Option.{none, some}
+use mathlib.Core.Option.{Option, none, some}
 use mathlib.Core.Path.{_≡_}
 use Prim.Native.Nat.{ℕ, _+_, _*_, _≤_, _<_}
 use Rattle.words.specs.Words.{le}
@@ -19,7 +19,8 @@ use Rattle.meaning.specs.Questions.{lentRefusal}
 use Rattle.chain.specs.Room.{HasAgent}
 use Rattle.answers.specs.Answers.{heard}
 use Rattle.host.specs.Told.{FiguresTold}
-use Rattle.host.specs.Exports.{lentIn, buffersWrong, Exported, PutInOrder}
+use Rattle.host.specs.Exports.{lentIn, buffersWrong, Exported}
+use Rattle.delivered.specs.Delivered.{HostCall}
 
 -- The rows of a workflow that a host was told: a call of figures was accepted, and this is what stands in its answer buffer.
 pub record ToldRows (pack : List ℕ) (workflow : ℕ) (rows : (partition : ℕ) → ℕ) : Type 0 where
@@ -37,35 +38,32 @@ pub record RoomFor (store : List ℕ) (id : ℕ) (rows : (partition : ℕ) → �
   pub free : (p : ℕ) → p < partsOf store → contentsOf (storeOf store) .used p + rows p ≤ capOf store
 
 -- Exported calls from the bytes at first, and the bytes after them: each gets that pack and what the last one left, and in none that the
--- host reads to be accepted does a block of another request run. An answer buffer may be too short.
-pub data Undisturbed (pack : List ℕ) (id : ℕ) (store₀ slots₀ : List ℕ) : (store slots : List ℕ) → Type 0 where
-  from-first : Undisturbed pack id store₀ slots₀ store₀ slots₀
-  calls : (store slots answer : List ℕ) (c : Call) (number : ℕ) (store′ slots′ answer′ : List ℕ) →
-      Undisturbed pack id store₀ slots₀ store slots → Exported pack store slots answer c number store′ slots′ answer′ →
-      ((said : Answer) → heard number answer′ ≡ some said → accepted said ≡ true →
-      NoOther (packOf pack) id (stateOf (lentIn store slots)) c) →
-      Undisturbed pack id store₀ slots₀ store′ slots′
-  orders : (store slots answer : List ℕ) (number : ℕ) (store′ answer′ : List ℕ) →
-      Undisturbed pack id store₀ slots₀ store slots → PutInOrder store answer number store′ answer′ →
-      Undisturbed pack id store₀ slots₀ store′ slots
+-- host reads to be accepted does a block of another request run. A buffer may be wrong.
+pub data Undisturbed (pack : List ℕ) (id : ℕ) (store₀ slots₀ list₀ : List ℕ) : (store slots list : List ℕ) → Type 0 where
+  from-first : Undisturbed pack id store₀ slots₀ list₀ store₀ slots₀ list₀
+  one-more : (store slots list : List ℕ) (c : Call) (heard : Option Answer) (store′ slots′ list′ : List ℕ) →
+      Undisturbed pack id store₀ slots₀ list₀ store slots list → HostCall pack store slots list c heard store′ slots′ list′ →
+      ((said : Answer) → heard ≡ some said → accepted said ≡ true → NoOther (packOf pack) id (stateOf (lentIn store slots list)) c) →
+      Undisturbed pack id store₀ slots₀ list₀ store′ slots′ list′
 
 -- From any bytes: behind an accepted arrival that books the id where the rows told are free, an agent of it stands in the slot, and
 -- whatever calls follow, no turn of an agent of it is answered 21: with right buffers each to which 1 to 14 say yes is accepted.
-pub record NeverTold21 (pack : List ℕ) (id slot : ℕ) (store slots : List ℕ) : Type 0 where
-  pub starts : HasAgent (lentIn store slots) slot id
-  pub no-21 : (store₁ slots₁ : List ℕ) → Undisturbed pack id store slots store₁ slots₁ →
-      (k : ℕ) → HasAgent (lentIn store₁ slots₁) k id →
+pub record NeverTold21 (pack : List ℕ) (id slot : ℕ) (store slots list : List ℕ) : Type 0 where
+  pub starts : HasAgent (lentIn store slots list) slot id
+  pub no-21 : (store₁ slots₁ list₁ : List ℕ) → Undisturbed pack id store slots list store₁ slots₁ list₁ →
+      (k : ℕ) → HasAgent (lentIn store₁ slots₁ list₁) k id →
       (answer : List ℕ) (given : ℕ) (store₂ slots₂ answer₂ : List ℕ) →
       Exported pack store₁ slots₁ answer (turn k) given store₂ slots₂ answer₂ → heard given answer₂ ≡ some (refused (number 21)) → ⊥
-  pub goes-on : (store₁ slots₁ : List ℕ) → Undisturbed pack id store slots store₁ slots₁ →
-      (k : ℕ) → HasAgent (lentIn store₁ slots₁) k id → k < 8 → lentRefusal pack (lentIn store₁ slots₁) ≡ none →
+  pub goes-on : (store₁ slots₁ list₁ : List ℕ) → Undisturbed pack id store slots list store₁ slots₁ list₁ →
+      (k : ℕ) → HasAgent (lentIn store₁ slots₁ list₁) k id → k < 8 → lentRefusal pack (lentIn store₁ slots₁ list₁) ≡ none →
       (answer : List ℕ) (given : ℕ) (store₂ slots₂ answer₂ : List ℕ) →
       Exported pack store₁ slots₁ answer (turn k) given store₂ slots₂ answer₂ → buffersWrong answer slots₁ ≡ none →
       (said : Answer) × (heard given answer₂ ≡ some said) × (accepted said ≡ true)
 
+-- whatever worklist the host has beside them
 abbrev pub ToldRoomIsEnough : Type 0
 ToldRoomIsEnough =
     (pack store slots answer : List ℕ) (slot id w : ℕ) (args : List ℕ) (given : ℕ) (store₁ slots₁ answer₁ : List ℕ) (rows : ℕ → ℕ) →
     ToldRows pack w rows → RoomFor store id rows →
     Exported pack store slots answer (arrival slot id w args) given store₁ slots₁ answer₁ → given ≡ 0 →
-    NeverTold21 pack id slot store₁ slots₁
+    (list : List ℕ) → NeverTold21 pack id slot store₁ slots₁ list

@@ -8,16 +8,22 @@ use native.Mathlib.Omega.{arith}
 use borrow.Author.Tests.{le-leb, lt-leb}
 use lib.ListN.{length, getD, replicate, getD-replicate, length-append, List·getD-eq-default}
 use Rattle.questions.specs.Questions.{No, Placed}
+use Rattle.questions.specs.Questions as Questions
 use Rattle.questions.proofs.Every.{Every}
-use Rattle.rules.specs.Blocks.{yields}
-use Rattle.rules.specs.Calls.{Answer, done, moved, reply, refused}
+use Rattle.rules.specs.Blocks.{Result, yields}
+use Rattle.rules.specs.Calls.{Answer, done, moved, reply, given, refused}
 use Rattle.questions.specs.declared.Verdict.{Verdict}
 use Rattle.pack.specs.Layout.{count, sizeOf, operationsAt, operandsAt}
 use Rattle.pack.specs.Laid.{Laid}
 use Rattle.pack.proofs.Placed.{open-placed}
 use Rattle.pack.proofs.Sizes.{operations-within, operands-within}
 use Rattle.pack.proofs.Workflows.{open-laid, open-below}
-use Rattle.meaning.proofs.Placed.{create-placed}
+use Rattle.meaning.specs.State.{workedOut}
+use Rattle.meaning.specs.Questions.{replyRefusal}
+use Rattle.meaning.proofs.Placed.{create-placed, reply-placed}
+use Rattle.runtime.specs.declared.Known.{Known}
+use Rattle.runtime.specs.declared.Known.the-variants.{NotYet, Reply, Refused}
+use Rattle.runtime.specs.Known.{known, knownIn}
 use Rattle.pack.specs.Refusal.{openRefusal}
 use Rattle.questions.proofs.Questions.{orElse-none}
 use Rattle.rules.specs.Routes.{Counting, byTurns, byRows, MostOf}
@@ -35,7 +41,7 @@ use Rattle.store.specs.Questions.{createRefusal}
 use Rattle.store.specs.Created.{Created}
 use Rattle.answers.specs.Answers.{numberOf, valuesOf, withWords, judged}
 use Rattle.answers.specs.Answers as Answers
-use Rattle.host.specs.Told.{openedParts, openedWords, answerShort, Told, FiguresTold, Made}
+use Rattle.host.specs.Told.{openedParts, openedWords, answerShort, Told, FiguresTold, knownNumber, knownWords, ReplyTold, Made}
 
 -- numbers that may be missing
 pub same : {m n : ℕ} → some m ≡ some n → m ≡ n
@@ -106,6 +112,7 @@ unfolding Records.puts Answers.valuesOf
 seven-words answer done x y z u = refl
 seven-words answer moved x y z u = refl
 seven-words answer (reply id (yields value)) x y z u = refl
+seven-words answer (given id) x y z u = refl
 seven-words answer (refused n) x y z u = refl
 
 -- the words of an opening, by what its questions came to
@@ -183,6 +190,7 @@ unfolding Records.puts Answers.valuesOf
 twelve-words answer done turns rows e = rw e refl
 twelve-words answer moved turns rows e = rw e refl
 twelve-words answer (reply id (yields value)) turns rows e = rw e refl
+twelve-words answer (given id) turns rows e = rw e refl
 twelve-words answer (refused n) turns rows e = rw e refl
 
 -- each has 32 bits: no figure is above 256
@@ -291,3 +299,64 @@ made store answer P C number store′ answer′ v b h m e t =
       short = λ n s. absurd (missing (sym q ∙ s));
       created = λ s. subst (Created store store′ P C) (m .answer) m;
     }
+
+-- ---- the reading of a reply
+
+module _ (pack store answer : List ℕ) (id : ℕ) where
+  pub reply-short : length answer < 12 → ReplyTold pack store answer id 100 answer
+  unfolding answerShort
+  reply-short h =
+      let e : answerShort 12 answer ≡ some 100 = rw (lt-leb 12 (length answer) h) refl in
+      record { short = λ n q. (same (sym e ∙ q), refl); told = λ q. absurd (missing (sym q ∙ e)) }
+
+  -- a no names a place, so that its words have it whole
+  read-placed : (q w i : ℕ) → Refused q w i ≡ knownIn pack store id → Placed (Questions.no q w i)
+  read-placed q w i e = go (replyRefusal pack store id) refl (workedOut pack store id) e
+    where
+      go : (o : Option No) → replyRefusal pack store id ≡ o → (r : Option Result) → Refused q w i ≡ known o r → Placed (Questions.no q w i)
+      go (some n) f r g =
+          let a : n .question ≡ q = cc in
+          let b : n .workflow ≡ w = cc in
+          let d : n .instruction ≡ i = cc in
+          let p = reply-placed pack store id n f in
+          subst Placed (λ j. record { question = a j; workflow = b j; instruction = d j }) p
+      go none f none g = absurd (let z : _≡_ {A = ℕ} 0 1 = cc in omega arith)
+      go none f (some (yields v)) g = absurd (let z : _≡_ {A = ℕ} 0 1 = cc in omega arith)
+
+  known-small : (k : Known) → k ≡ knownIn pack store id → id < 2 ^ 32 → ((v : ℕ) → k ≡ Reply v → v < 2 ^ 32) → Small (knownWords id k)
+  known-small NotYet e l b zero = omega arith
+  known-small NotYet e l b (suc zero) = omega arith
+  known-small NotYet e l b (suc (suc zero)) = omega arith
+  known-small NotYet e l b (suc (suc (suc j))) = omega arith
+  known-small (Reply v) e l b zero = l
+  known-small (Reply v) e l b (suc zero) = b v refl
+  known-small (Reply v) e l b (suc (suc zero)) = omega arith
+  known-small (Reply v) e l b (suc (suc (suc j))) = omega arith
+  known-small (Refused q w i) e l b zero = omega (arith, read-placed q w i e .0)
+  known-small (Refused q w i) e l b (suc zero) = omega (arith, read-placed q w i e .1)
+  known-small (Refused q w i) e l b (suc (suc zero)) = omega (arith, read-placed q w i e .2)
+  known-small (Refused q w i) e l b (suc (suc (suc j))) = omega arith
+
+  three-known : (k : Known) → length (knownWords id k) ≡ 3
+  three-known NotYet = refl
+  three-known (Reply v) = refl
+  three-known (Refused q w i) = refl
+
+  pub reply-told : (k : Known) (number : ℕ) (answer′ : List ℕ) → 12 ≤ length answer → k ≡ knownIn pack store id → id < 2 ^ 32 →
+      ((v : ℕ) → k ≡ Reply v → v < 2 ^ 32) → number ≡ knownNumber k → answer′ ≡ withWords answer (knownWords id k) →
+      ReplyTold pack store answer id number answer′
+  unfolding answerShort
+  reply-told k number answer′ h e l b p q =
+      let s : answerShort 12 answer ≡ none = rw (le-leb 12 (length answer) h) refl in
+      record {
+        short = λ n t. absurd (missing (sym s ∙ t));
+        told =
+            λ t. (
+              p ∙ ap knownNumber e,
+              q ∙ ap (λ (x : Known). withWords answer (knownWords id x)) e,
+              subst (λ (x : Known). fields 4 answer′ 0 3 ≡ knownWords id x) e
+                  (rw q (ap (λ n. fields 4 (withWords answer (knownWords id k)) 0 n) (sym (three-known k))
+                  ∙ fields-puts 4 answer 0 (knownWords id k) (length (knownWords id k)) refl (omega (arith, three-known k))
+                  (known-small k e l b))),
+            );
+      }

@@ -1,4 +1,4 @@
--- What the exports promise that put questions and change no slot: check, open, figures, create.
+-- What the exports promise that put questions and change no slot: check, open, figures, reply, create.
 use mathlib.Core.List.{List, [], _∷_, _++_}
 use mathlib.Core.Option.{Option, none, some}
 use mathlib.Core.Path.{_≡_}
@@ -16,6 +16,9 @@ use Rattle.pack.specs.Meaning.{packOf}
 use Rattle.pack.specs.Refusal.{openRefusal}
 use Rattle.store.specs.Questions.{createRefusal}
 use Rattle.store.specs.Created.{Created}
+use Rattle.runtime.specs.declared.Known.{Known}
+use Rattle.runtime.specs.declared.Known.the-variants.{NotYet, Reply, Refused}
+use Rattle.runtime.specs.Known.{knownIn}
 use Rattle.answers.specs.Answers.{numberOf, valuesOf, withWords, judged}
 
 -- where the parts of an opened workflow start in the pack and how many bytes they are: operations, then operands
@@ -53,6 +56,25 @@ pub record FiguresGiven (pack answer : List ℕ) (workflow number : ℕ) (answer
 pub record FiguresTold (pack answer : List ℕ) (workflow number : ℕ) (answer′ : List ℕ) : Type 0 where
   pub short : (n : ℕ) → answerShort 48 answer ≡ some n → (number ≡ n) × (answer′ ≡ answer)
   pub told : answerShort 48 answer ≡ none → FiguresGiven pack answer workflow number answer′
+
+-- W-208, the reading of a reply: the number of what is known, and its three words.
+abbrev pub knownNumber : Known → ℕ
+knownNumber NotYet = 5
+knownNumber (Reply value) = 2
+knownNumber (Refused question workflow instruction) = 3
+
+abbrev pub knownWords : (id : ℕ) → Known → List ℕ
+knownWords id NotYet = 0 ∷ 0 ∷ 0 ∷ []
+knownWords id (Reply value) = id ∷ value ∷ 0 ∷ []
+knownWords id (Refused question workflow instruction) = question ∷ workflow ∷ instruction ∷ []
+
+-- The answer buffer is too short, and nothing is written; or it has the words, none of them cut, of what is known of the id.
+pub record ReplyTold (pack store answer : List ℕ) (id number : ℕ) (answer′ : List ℕ) : Type 0 where
+  pub short : (n : ℕ) → answerShort 12 answer ≡ some n → (number ≡ n) × (answer′ ≡ answer)
+  pub told : answerShort 12 answer ≡ none →
+      (number ≡ knownNumber (knownIn pack store id))
+      × (answer′ ≡ withWords answer (knownWords id (knownIn pack store id)))
+      × (fields 4 answer′ 0 3 ≡ knownWords id (knownIn pack store id))
 
 -- Create: what is told, and what the store's bytes become.
 pub record Made (store answer : List ℕ) (P C number : ℕ) (store′ answer′ : List ℕ) : Type 0 where

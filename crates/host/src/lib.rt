@@ -4,10 +4,12 @@ ghost use Prim.Native.Nat.{ℕ};
 ghost use Rattle.rules.specs.Calls.{Call};
 ghost use Rattle.pack.specs.Refusal.{packRefusal, openRefusal};
 ghost use Rattle.answers.specs.Answers.{valuesOf, judged};
-ghost use Rattle.host.specs.Told.{openedWords, Told, FiguresTold, Made};
-ghost use Rattle.host.specs.Exports.{Exported, PutInOrder};
+ghost use Rattle.host.specs.Told.{openedWords, Told, FiguresTold, ReplyTold, Made};
+ghost use Rattle.host.specs.Exports.{Exported, ListExported, Restarted, PutInOrder};
+use agents::Answer;
 use agents::Request;
 use questions::Verdict;
+use runtime::Known;
 
 // The check of a pack.
 #[no_mangle]
@@ -205,11 +207,11 @@ pub extern "C" fn sarthule_crash(
     answers::finish(slots, answer, runtime::crash(pack, store, agents, slot))
 }
 
-// Restart empties all slots.
+// Restart empties all slots, and marks all as waiting in a worklist that passes 25.
 #[no_mangle]
-pub extern "C" fn sarthule_restart(slots: &mut [u8], answer: &mut [u8]) -> u32
-    ensures { λ r. ⌜ ((pack store : List ℕ) → Exported pack store (now (slots .entry)) (now (answer .entry))
-        Call.restart r store (now (slots .exit)) (now (answer .exit))) ⌝ }
+pub extern "C" fn sarthule_restart(slots: &mut [u8], list: &mut [u8], answer: &mut [u8]) -> u32
+    ensures { λ r. ⌜ Restarted (now (slots .entry)) (now (list .entry)) (now (answer .entry)) r
+        (now (slots .exit)) (now (list .exit)) (now (answer .exit)) ⌝ }
 {
     if answer.len() < 12 {
         return 100;
@@ -217,5 +219,129 @@ pub extern "C" fn sarthule_restart(slots: &mut [u8], answer: &mut [u8]) -> u32
     if slots.len() != 384 {
         return 101;
     }
-    answers::finish(slots, answer, runtime::restart())
+    if list.len() < 132 {
+        return 102;
+    }
+    let r = runtime::restart(worklist::read_list(list));
+    let agents = r.agents;
+    let left = r.list;
+    slots::write_slots(slots, agents);
+    worklist::write_list(list, left);
+    answers::write_answer(answer, Answer::Done)
+}
+
+// Add puts a booked id on the worklist.
+#[no_mangle]
+pub extern "C" fn sarthule_add(
+    pack: &[u8],
+    store: &[u8],
+    slots: &[u8],
+    list: &mut [u8],
+    id: u32,
+    answer: &mut [u8],
+) -> u32
+    ensures { λ r. ⌜ ListExported (now (pack .entry)) (now (store .entry)) (now (slots .entry)) (now (list .entry)) (now (answer .entry))
+        (Call.listAdd id) r (now (list .exit)) (now (answer .exit)) ⌝ }
+{
+    if answer.len() < 12 {
+        return 100;
+    }
+    if slots.len() != 384 {
+        return 101;
+    }
+    if list.len() < 132 {
+        return 102;
+    }
+    let agents = slots::read_slots(slots);
+    let o = runtime::add(pack, store, agents, worklist::read_list(list), id);
+    let said = o.answer;
+    let left = o.list;
+    answers::finish_list(list, answer, said, left)
+}
+
+// Take gives the first waiting id of the worklist, and marks it.
+#[no_mangle]
+pub extern "C" fn sarthule_take(
+    pack: &[u8],
+    store: &[u8],
+    slots: &[u8],
+    list: &mut [u8],
+    answer: &mut [u8],
+) -> u32
+    ensures { λ r. ⌜ ListExported (now (pack .entry)) (now (store .entry)) (now (slots .entry)) (now (list .entry)) (now (answer .entry))
+        Call.listTake r (now (list .exit)) (now (answer .exit)) ⌝ }
+{
+    if answer.len() < 12 {
+        return 100;
+    }
+    if slots.len() != 384 {
+        return 101;
+    }
+    if list.len() < 132 {
+        return 102;
+    }
+    let agents = slots::read_slots(slots);
+    let o = runtime::take(pack, store, agents, worklist::read_list(list));
+    let said = o.answer;
+    let left = o.list;
+    answers::finish_list(list, answer, said, left)
+}
+
+// Done removes a taken id from the worklist, when its log leads through to RETURN.
+#[no_mangle]
+pub extern "C" fn sarthule_done(
+    pack: &[u8],
+    store: &[u8],
+    slots: &[u8],
+    list: &mut [u8],
+    id: u32,
+    answer: &mut [u8],
+) -> u32
+    ensures { λ r. ⌜ ListExported (now (pack .entry)) (now (store .entry)) (now (slots .entry)) (now (list .entry)) (now (answer .entry))
+        (Call.listDone id) r (now (list .exit)) (now (answer .exit)) ⌝ }
+{
+    if answer.len() < 12 {
+        return 100;
+    }
+    if slots.len() != 384 {
+        return 101;
+    }
+    if list.len() < 132 {
+        return 102;
+    }
+    let agents = slots::read_slots(slots);
+    let o = runtime::done(pack, store, agents, worklist::read_list(list), id);
+    let said = o.answer;
+    let left = o.list;
+    answers::finish_list(list, answer, said, left)
+}
+
+// The reply of a booked request, worked out from the log, or that the log doesn't lead to it yet.
+#[no_mangle]
+pub extern "C" fn sarthule_reply(pack: &[u8], store: &[u8], id: u32, answer: &mut [u8]) -> u32
+    ensures { λ r. ⌜ ReplyTold (now (pack .entry)) (now (store .entry)) (now (answer .entry)) id r (now (answer .exit)) ⌝ }
+{
+    if answer.len() < 12 {
+        return 100;
+    }
+    let k = runtime::reply(pack, store, id);
+    match k {
+        Known::NotYet => {
+            answers::write_answer(answer, Answer::Done);
+            5
+        }
+        Known::Reply(value) => answers::write_answer(answer, Answer::Reply { id, value }),
+        Known::Refused {
+            question,
+            workflow,
+            instruction,
+        } => answers::write_answer(
+            answer,
+            Answer::Refused {
+                question,
+                workflow,
+                instruction,
+            },
+        ),
+    }
 }

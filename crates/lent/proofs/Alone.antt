@@ -17,6 +17,7 @@ use Rattle.pack.specs.Meaning.{packOf}
 use Rattle.agents.specs.declared.Agent.{Agent}
 use Rattle.agents.specs.declared.Answer.{Answer}
 use Rattle.agents.specs.Slots.{noAgent, agentAt, agentOf, recordOf, slotsOf, recordsFrom, recordsOf}
+use Rattle.worklist.specs.declared.Worklist.{Worklist}
 use Rattle.meaning.specs.State.{stateOf, Lent}
 use Rattle.meaning.specs.Questions.{refusalFor}
 use Rattle.meaning.specs.Carried.{Carried, ruled}
@@ -51,20 +52,21 @@ alone-records : (f : ℕ → Option Calls.Agent) → f 1 ≡ none → f 2 ≡ no
 unfolding recordsFrom recordOf
 alone-records f e₁ e₂ e₃ e₄ e₅ e₆ e₇ = rw (e₁, e₂, e₃, e₄, e₅, e₆, e₇)
 
-module _ (pack store : List ℕ) (a : Agent) (answer : Answer) (records′ : List Agent) (store′ : List ℕ)
-    (c : Carried pack (record { store = store; records = alone a }) (turn 0) answer (record { store = store′; records = records′ })) where
+module _ (pack store : List ℕ) (a : Agent) (answer : Answer) (records′ : List Agent) (store′ : List ℕ) (list : Worklist)
+    (c : Carried pack (record { store = store; records = alone a; list = list }) (turn 0) answer
+    (record { store = store′; records = records′; list = list })) where
   abbrev f : ℕ → Option Calls.Agent
-  f = ruled pack (record { store = store; records = alone a }) (turn 0) .state .slots
+  f = ruled pack (record { store = store; records = alone a; list = list }) (turn 0) .state .slots
 
   empty-at : (j : ℕ) → (j ≡ 0 → ⊥) → slotsOf (alone a) j ≡ none → f j ≡ none
   unfolding stateOf
-  empty-at j n e = elsewhere (stateOf (record { store = store; records = alone a })) 0 j n (packOf pack) ∙ e
+  empty-at j n e = elsewhere (stateOf (record { store = store; records = alone a; list = list })) 0 j n (packOf pack) ∙ e
 
   kept-alone : records′ ≡ alone (agentAt records′ 0)
   unfolding slotsOf agentOf
-  kept-alone = go (refusalFor pack (record { store = store; records = alone a }) (turn 0)) refl
+  kept-alone = go (refusalFor pack (record { store = store; records = alone a; list = list }) (turn 0)) refl
     where
-      go : (o : Option No) → refusalFor pack (record { store = store; records = alone a }) (turn 0) ≡ o →
+      go : (o : Option No) → refusalFor pack (record { store = store; records = alone a; list = list }) (turn 0) ≡ o →
           records′ ≡ alone (agentAt records′ 0)
       go (some n) e = let k = ap (λ (x : Lent). x .records) (c .refused n e .1) in k ∙ ap (λ rs. alone (agentAt rs 0)) (sym k)
       go none e =
@@ -85,17 +87,19 @@ module _ (pack store : List ℕ) (a : Agent) (answer : Answer) (records′ : Lis
           (λ k. k ∙ ap (λ rs. alone (agentAt rs 0)) (sym k))
           (c .carried e .1 .whole)
 
-  turned-alone : Carried pack (record { store = store; records = alone a }) (turn 0) answer
-      (record { store = store′; records = alone (agentAt records′ 0) })
-  turned-alone = subst (λ rs. Carried pack (record { store = store; records = alone a }) (turn 0) answer
-      (record { store = store′; records = rs })) kept-alone c
+  turned-alone : Carried pack (record { store = store; records = alone a; list = list }) (turn 0) answer
+      (record { store = store′; records = alone (agentAt records′ 0); list = list })
+  turned-alone = subst (λ rs. Carried pack (record { store = store; records = alone a; list = list }) (turn 0) answer
+      (record { store = store′; records = rs; list = list })) kept-alone c
 
 -- the turn of slot 0 of slots made of seven empty ones and the record, with the parts in hand
 pub one-turned : (pack store : List ℕ) (a : Agent) (answer : Answer) (empty records records′ : List Agent) (store′ : List ℕ) →
     empty ≡ replicate 8 noAgent → records ≡ set empty 0 a →
-    Carried pack (record { store = store; records = records }) (turn 0) answer (record { store = store′; records = records′ }) →
+    ((list : Worklist) → Carried pack (record { store = store; records = records; list = list }) (turn 0) answer
+    (record { store = store′; records = records′; list = list })) →
     TurnedAlone pack store a answer (agentAt records′ 0) store′
-one-turned pack store a answer empty records records′ store′ e f c =
-    turned-alone pack store a answer records′ store′
-    (subst (λ rs. Carried pack (record { store = store; records = rs }) (turn 0) answer (record { store = store′; records = records′ }))
-    (f ∙ ap (λ rs. set rs 0 a) e) c)
+one-turned pack store a answer empty records records′ store′ e f c list =
+    turned-alone pack store a answer records′ store′ list
+    (subst (λ rs. Carried pack (record { store = store; records = rs; list = list }) (turn 0) answer
+    (record { store = store′; records = records′; list = list }))
+    (f ∙ ap (λ rs. set rs 0 a) e) (c list))

@@ -1,4 +1,4 @@
-// Questions 13 and 14 to lent bytes and agent records, and the first no of 1 to 14 and of 1 to 16.
+// Questions 13 and 14 to lent bytes and agent records, and the first no of 1 to 13, of 1 to 16, and of 1 to 14 and 25.
 ghost use mathlib.Core.Path.{_≡_};
 ghost use mathlib.Core.Option.{none};
 ghost use mathlib.Core.Bool.{true};
@@ -11,10 +11,13 @@ ghost use Rattle.questions.specs.Verdicts.{verdictOf};
 ghost use Rattle.pack.specs.Refusal.{packRefusal};
 ghost use Rattle.store.specs.Sound.{Sound};
 ghost use Rattle.meaning.specs.Questions.{booksBelow, opensBelow, bookedRight, opensRight, question13};
-ghost use Rattle.meaning.specs.Questions.{isSound, slotRight, question14, lentRefusal, firstSixteen};
+ghost use Rattle.meaning.specs.Questions.{isSound, slotRight, question14, firstThirteen, lentRefusal};
+ghost use Rattle.meaning.specs.Questions.{listRefusal, firstSixteen};
+ghost use Rattle.worklist.specs.declared.Worklist.{Worklist};
 use agents::Agent;
 use questions::Verdict;
 use store::rows::Got;
+use worklist::Worklist;
 
 // Has a row of the book, if it is one of a workflow's number, a number below m? `workflows` is m, how many the pack has.
 fn books_below(workflows: u32, key: u64, value: u32) -> bool
@@ -147,19 +150,16 @@ fn check_14(pack: &[u8], store: &[u8], agents: [Agent; 8]) -> bool
     true
 }
 
-// Questions 9 to 14 of a store and records, with an accepted pack.
-fn check_behind_pack(pack: &[u8], store: &[u8], agents: [Agent; 8]) -> Verdict
+// Questions 9 to 13 of a store, with an accepted pack.
+fn check_behind_pack(pack: &[u8], store: &[u8]) -> Verdict
     requires { ⌜ packRefusal (now pack) ≡ none ⌝ }
-    ensures { λ r. ⌜ r ≡ verdictOf (lentRefusal (now (pack .entry)) (record { store = now (store .entry); records = agents })) ⌝ }
+    ensures { λ r. ⌜ r ≡ verdictOf (firstThirteen (now (pack .entry)) (now (store .entry))) ⌝ }
 {
     let store_verdict = store_check::check_store(store);
     match store_verdict {
         Verdict::Accepted => {
             if !check_13(pack, store) {
                 return questions::refused(13, 0, 0);
-            }
-            if !check_14(pack, store, agents) {
-                return questions::refused(14, 0, 0);
             }
             store_verdict
         }
@@ -171,18 +171,60 @@ fn check_behind_pack(pack: &[u8], store: &[u8], agents: [Agent; 8]) -> Verdict
     }
 }
 
-// Questions 1 to 14: the first no.
-fn check_lent(pack: &[u8], store: &[u8], agents: [Agent; 8]) -> Verdict
-    ensures { λ r. ⌜ r ≡ verdictOf (lentRefusal (now (pack .entry)) (record { store = now (store .entry); records = agents })) ⌝ }
+// Questions 1 to 13, which the reading of a reply puts: the first no.
+pub fn check_to_13(pack: &[u8], store: &[u8]) -> Verdict
+    ensures { λ r. ⌜ r ≡ verdictOf (firstThirteen (now (pack .entry)) (now (store .entry))) ⌝ }
 {
     let pack_verdict = pack::check(pack);
     match pack_verdict {
-        Verdict::Accepted => check_behind_pack(pack, store, agents),
+        Verdict::Accepted => check_behind_pack(pack, store),
         Verdict::Refused {
             question: _,
             workflow: _,
             instruction: _,
         } => pack_verdict,
+    }
+}
+
+// Questions 1 to 14: the first no. The worklist is none of theirs, so it may be any.
+fn check_lent(pack: &[u8], store: &[u8], agents: [Agent; 8]) -> Verdict
+    ensures { λ r. ⌜ ((list : Worklist) →
+        r ≡ verdictOf (lentRefusal (now (pack .entry)) (record { store = now (store .entry); records = agents; list = list }))) ⌝ }
+{
+    let verdict = check_to_13(pack, store);
+    match verdict {
+        Verdict::Accepted => {
+            if !check_14(pack, store, agents) {
+                return questions::refused(14, 0, 0);
+            }
+            verdict
+        }
+        Verdict::Refused {
+            question: _,
+            workflow: _,
+            instruction: _,
+        } => verdict,
+    }
+}
+
+// Questions 1 to 14 and 25, with which add, take and done begin: the first no.
+pub fn check_to_25(pack: &[u8], store: &[u8], agents: [Agent; 8], list: Worklist) -> Verdict
+    ensures { λ r. ⌜ r
+        ≡ verdictOf (listRefusal (now (pack .entry)) (record { store = now (store .entry); records = agents; list = list })) ⌝ }
+{
+    let verdict = check_lent(pack, store, agents);
+    match verdict {
+        Verdict::Accepted => {
+            if !worklist::is_right(list) {
+                return questions::refused(25, 0, 0);
+            }
+            verdict
+        }
+        Verdict::Refused {
+            question: _,
+            workflow: _,
+            instruction: _,
+        } => verdict,
     }
 }
 
@@ -194,8 +236,8 @@ pub fn check_to_16(
     slot: usize,
     used: bool,
 ) -> Verdict
-    ensures { λ r. ⌜ r
-        ≡ verdictOf (firstSixteen (now (pack .entry)) (record { store = now (store .entry); records = agents }) slot used) ⌝ }
+    ensures { λ r. ⌜ ((list : Worklist) → r
+        ≡ verdictOf (firstSixteen (now (pack .entry)) (record { store = now (store .entry); records = agents; list = list }) slot used)) ⌝ }
 {
     let lent_verdict = check_lent(pack, store, agents);
     match lent_verdict {

@@ -4,7 +4,7 @@ use Prim.Native.Nat.{ℕ}
 use Rattle.keys.specs.Keys.{isDataKey, dataOf, idOf, stepOf}
 use Rattle.questions.specs.Basics.{if_then_else_}
 use Rattle.rules.specs.Blocks.{yields}
-use Rattle.rules.specs.Calls.{Answer, done, moved, reply, refused}
+use Rattle.rules.specs.Calls.{Answer, done, moved, reply, given, refused}
 use Rattle.text.specs.Text.{decimal}
 
 -- a blank and a newline
@@ -18,7 +18,7 @@ newline = 10 ∷ []
 unfoldable pub field : (x : ℕ) → List ℕ
 field x = blank ++ decimal x
 
--- events, refused, done, moved, reply, row, log
+-- events, refused, done, moved, reply, taken, row, log
 abbrev pub eventsWord : List ℕ
 eventsWord = 101 ∷ 118 ∷ 101 ∷ 110 ∷ 116 ∷ 115 ∷ []
 
@@ -34,6 +34,9 @@ movedWord = 109 ∷ 111 ∷ 118 ∷ 101 ∷ 100 ∷ []
 abbrev pub replyWord : List ℕ
 replyWord = 114 ∷ 101 ∷ 112 ∷ 108 ∷ 121 ∷ []
 
+abbrev pub takenWord : List ℕ
+takenWord = 116 ∷ 97 ∷ 107 ∷ 101 ∷ 110 ∷ []
+
 abbrev pub rowWord : List ℕ
 rowWord = 114 ∷ 111 ∷ 119 ∷ []
 
@@ -48,11 +51,12 @@ eventsLine n = eventsWord ++ (field n ++ newline)
 unfoldable pub refusedLine : (question : ℕ) → List ℕ
 refusedLine q = refusedWord ++ (field q ++ newline)
 
--- an answer in words: done, moved, reply ID VALUE, refused N
+-- an answer in words: done, moved, reply ID VALUE, taken ID, refused N
 unfoldable pub answerText : Answer → List ℕ
 answerText done = doneWord
 answerText moved = movedWord
 answerText (reply id (yields value)) = replyWord ++ (field id ++ field value)
+answerText (given id) = takenWord ++ field id
 answerText (refused n) = refusedWord ++ field (n .question)
 
 -- an event's number and its answer

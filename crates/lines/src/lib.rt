@@ -46,6 +46,16 @@ fn append_reply(out: &mut [u8], written: usize, id: u64, value: u64) -> usize
     append_field(out, written, value)
 }
 
+// taken ID
+fn append_taken(out: &mut [u8], written: usize, id: u64) -> usize
+    requires { ⌜ written + 47 ≤ length (now out) ⌝ }
+    ensures { λ r. ⌜ Appended (now (out .entry)) written (answerText (answerOf (Answer.Given id))) (now (out .exit)) r
+        × (r ≤ written + 47) ⌝ }
+{
+    let written = text::append_bytes(out, written, b"taken");
+    append_field(out, written, id)
+}
+
 // refused N, of an answer: the place that goes with 4 to 8 isn't printed.
 fn append_refused(
     out: &mut [u8],
@@ -71,6 +81,7 @@ pub fn append_answer(out: &mut [u8], written: usize, answer: Answer) -> usize
         Answer::Done => text::append_bytes(out, written, b"done"),
         Answer::Moved => text::append_bytes(out, written, b"moved"),
         Answer::Reply { id, value } => append_reply(out, written, id as u64, value as u64),
+        Answer::Given { id } => append_taken(out, written, id as u64),
         Answer::Refused {
             question,
             workflow,

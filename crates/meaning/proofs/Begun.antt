@@ -1,4 +1,5 @@
--- Calls that begin with questions 1 to 16: a no among them is the call's, and behind a yes to all the later questions are left.
+-- Calls that begin with questions 1 to 16, or with 1 to 14 and 25: a no among them is the call's, and behind a yes to all the later
+-- questions are left.
 use mathlib.Core.Bool.{Bool, true, false, not}
 use mathlib.Core.List.{List}
 use mathlib.Core.Option.{Option, none, some}
@@ -12,7 +13,8 @@ use Rattle.questions.specs.Questions.{No, number, ask, orElse}
 use Rattle.questions.specs.Questions as Questions
 use Rattle.questions.proofs.Questions.{ask-none, orElse-none}
 use Rattle.questions.proofs.Updates.{none-some}
-use Rattle.rules.specs.Calls.{arrival, retry, turn, crash, asBooked, canBook, canTurn}
+use Rattle.rules.specs.Calls.{arrival, retry, turn, crash, asBooked, canBook, canTurn, listAdd, listTake, listDone, canDone}
+use Rattle.rules.specs.Worklist.{Worklist, listRight, canList, firstWaiting}
 use Rattle.rules.specs.Calls as Calls
 use Rattle.pack.specs.Meaning.{packOf}
 use Rattle.store.specs.Rows.{storeOf}
@@ -20,7 +22,8 @@ use Rattle.contents.specs.Contents.{contentsOf}
 use Rattle.agents.specs.Slots.{agentAt, slotsOf}
 use Rattle.agents.specs.Slots as Slots
 use Rattle.meaning.specs.State.{stateOf, Lent}
-use Rattle.meaning.specs.Questions.{lentRefusal, asWanted, firstSixteen, lentFor, refusalFor}
+use Rattle.worklist.specs.Worklist.{worklistOf}
+use Rattle.meaning.specs.Questions.{lentRefusal, listRefusal, asWanted, firstSixteen, lentFor, refusalFor}
 
 -- ── rows of questions that begin alike ──
 
@@ -44,6 +47,82 @@ module _ (o : Option No) (n₁ n₂ : No) (b₁ b₂ : Bool) (rest : Option No) 
       go none false b₂ e = none-some n₁ e refl
       go none true false e = none-some n₂ e refl
       go none true true e = refl
+
+-- ── calls that begin with 1 to 14 and 25 ──
+
+module _ (o : Option No) (n₁ : No) (b₁ : Bool) (rest : Option No) where
+  same-first : (n : No) → orElse o (ask n₁ b₁ none) ≡ some n → orElse o (ask n₁ b₁ rest) ≡ some n
+  unfolding Questions.orElse Questions.ask
+  same-first n e = go o b₁ e
+    where
+      go : (o : Option No) (b₁ : Bool) → orElse o (ask n₁ b₁ none) ≡ some n → orElse o (ask n₁ b₁ rest) ≡ some n
+      go (some m) b₁ e = e
+      go none false e = e
+      go none true e = none-some n refl e
+
+  first-left : orElse o (ask n₁ b₁ none) ≡ none → orElse o (ask n₁ b₁ rest) ≡ rest
+  unfolding Questions.orElse Questions.ask
+  first-left e = go o b₁ e
+    where
+      go : (o : Option No) (b₁ : Bool) → orElse o (ask n₁ b₁ none) ≡ none → orElse o (ask n₁ b₁ rest) ≡ rest
+      go (some m) b₁ e = none-some m e refl
+      go none false e = none-some n₁ e refl
+      go none true e = refl
+
+module _ (pack : List ℕ) (lent : Lent) where
+  abbrev work : Worklist
+  work = worklistOf (lent .list)
+
+  -- the first no of 1 to 14 and 25
+  pub list-of-lent : (n : No) → lentRefusal pack lent ≡ some n → listRefusal pack lent ≡ some n
+  unfolding listRefusal Questions.orElse
+  list-of-lent n e = rw e refl
+
+  pub list-of-25 : lentRefusal pack lent ≡ none → listRight work ≡ false → listRefusal pack lent ≡ some (number 25)
+  unfolding listRefusal Questions.orElse Questions.ask
+  list-of-25 e f = rw (e, f) refl
+
+  pub list-all : lentRefusal pack lent ≡ none → listRight work ≡ true → listRefusal pack lent ≡ none
+  unfolding listRefusal Questions.orElse Questions.ask
+  list-all e f = rw (e, f) refl
+
+  -- what a yes to all says
+  module _ (e : listRefusal pack lent ≡ none) where
+    pub list-lent : lentRefusal pack lent ≡ none
+    unfolding listRefusal
+    list-lent = orElse-none _ _ e .0
+
+    pub list-right : listRight work ≡ true
+    unfolding listRefusal
+    list-right = ask-none _ _ _ (orElse-none _ _ e .1) .0
+
+    -- and what is left of each call
+    pub add-left : (id : ℕ) → refusalFor pack lent (listAdd id)
+        ≡ ask (number 26) (canList id work) (ask (number 20) (isSome (contentsOf (storeOf (lent .store)) .book id)) none)
+    unfolding listRefusal refusalFor lentFor Calls.refusal stateOf
+    add-left id = first-left _ _ _ _ e
+
+    pub take-left : refusalFor pack lent listTake ≡ ask (number 27) (isSome (firstWaiting work)) none
+    unfolding listRefusal refusalFor lentFor Calls.refusal stateOf
+    take-left = first-left _ _ _ _ e
+
+    pub done-left : (id : ℕ) → refusalFor pack lent (listDone id) ≡ ask (number 27) (canDone (packOf pack) (stateOf lent) id) none
+    unfolding listRefusal refusalFor lentFor Calls.refusal stateOf
+    done-left id = first-left _ _ _ _ e
+
+  -- a no among them is the call's
+  module _ (n : No) (e : listRefusal pack lent ≡ some n) where
+    pub add-stops : (id : ℕ) → refusalFor pack lent (listAdd id) ≡ some n
+    unfolding listRefusal refusalFor lentFor Calls.refusal stateOf
+    add-stops id = same-first _ _ _ _ n e
+
+    pub take-stops : refusalFor pack lent listTake ≡ some n
+    unfolding listRefusal refusalFor lentFor Calls.refusal stateOf
+    take-stops = same-first _ _ _ _ n e
+
+    pub done-stops : (id : ℕ) → refusalFor pack lent (listDone id) ≡ some n
+    unfolding listRefusal refusalFor lentFor Calls.refusal stateOf
+    done-stops id = same-first _ _ _ _ n e
 
 module _ (pack : List ℕ) (lent : Lent) (slot : ℕ) where
   -- ── the first no of the sixteen ──

@@ -19,7 +19,9 @@ use Rattle.contents.specs.Contents.{contentsOf}
 use Rattle.questions.specs.Basics.{update, each}
 use Rattle.questions.specs.Questions.{No, no}
 use Rattle.questions.specs.Questions as Questions
-use Rattle.rules.specs.Calls.{Call, Outcome, gives, withSlot, refusal, withStore}
+use Rattle.rules.specs.Calls.{Call, Outcome, gives, withSlot, refusal, withStore, withWork}
+use Rattle.rules.specs.Worklist.{restarted}
+use Rattle.rules.specs.Worklist as Work
 use Rattle.rules.specs.Calls as Calls
 use Rattle.rules.specs.Store as Rules
 use Rattle.questions.proofs.Updates.{none-some, update-other}
@@ -42,6 +44,9 @@ use Rattle.agents.specs.Answers.{answerOf, outcome}
 use Rattle.agents.proofs.Slots.{records-back, records-with, slots-back, slots-past, slots-none, records-none}
 use Rattle.agents.proofs.Typed.{eight-records, eight-registers}
 use Rattle.agents.proofs.Agent as T
+use Rattle.worklist.specs.declared.Worklist.{Worklist}
+use Rattle.worklist.specs.Worklist.{worklistOf, Kept}
+use Rattle.worklist.proofs.Kept.{kept-same}
 use Rattle.meaning.specs.State.{stateOf, Lent}
 use Rattle.meaning.specs.Questions.{slotRight, question14, lentFor, refusalFor}
 use Rattle.meaning.specs.Carried.{Left, Carried, ruled}
@@ -129,18 +134,24 @@ tidy-typed pack lent vs is e =
 
 -- refused by the first no
 pub is-refused : (pack : List ℕ) (lent : Lent) (c : Call) (r : Outcomes.Outcome) (q w i : ℕ) → refusalFor pack lent c ≡ some (no q w i) →
-    r ≡ outcome (Refused q w i) (lent .records) → Carried pack lent c (r .answer) (record { store = lent .store; records = r .agents })
+    r ≡ outcome (Refused q w i) (lent .records) → Carried pack lent c (r .answer)
+    (record { store = lent .store; records = r .agents; list = lent .list })
 unfolding answerOf
 is-refused pack lent c r q w i e a =
-    subst (λ (x : Outcomes.Outcome). Carried pack lent c (x .answer) (record { store = lent .store; records = x .agents })) (sym a)
+    subst (λ (x : Outcomes.Outcome). Carried pack lent c (x .answer)
+    (record { store = lent .store; records = x .agents; list = lent .list }))
+    (sym a)
     (carried-refused pack lent c (no q w i) (Refused q w i) e refl)
 
 -- carried out, with another thing in one slot
-module _ (pack : List ℕ) (lent lent′ : Lent) (c : Call) (answer : Answer) (slot : ℕ) (o : Option Calls.Agent) (st : Rules.Store)
-    (a : Calls.Answer) where
+module _ (pack : List ℕ) (lent : Lent) (store′ : List ℕ) (records′ : List Agent) (c : Call) (answer : Answer) (slot : ℕ)
+    (o : Option Calls.Agent) (st : Rules.Store) (a : Calls.Answer) where
+  abbrev lent′ : Lent
+  lent′ = record { store = store′; records = records′; list = lent .list }
+
   pub is-done : Tidy (lent .records) → slot < 8 → refusalFor pack lent c ≡ none →
-      ruled pack lent c ≡ gives a (withSlot (withStore (stateOf lent) st) slot o) → Wrote (lent .store) (lent′ .store) st →
-      answerOf answer ≡ a → lent′ .records ≡ set (lent .records) slot (recordOf o) → Carried pack lent c answer lent′
+      ruled pack lent c ≡ gives a (withSlot (withStore (stateOf lent) st) slot o) → Wrote (lent .store) store′ st →
+      answerOf answer ≡ a → records′ ≡ set (lent .records) slot (recordOf o) → Carried pack lent c answer lent′
   unfolding stateOf
   is-done t h e q w u v =
       carried-out pack lent c answer lent′ e (u ∙ ap (λ (x : Outcome). x .answer) (sym q))
@@ -149,28 +160,39 @@ module _ (pack : List ℕ) (lent lent′ : Lent) (c : Call) (answer : Answer) (s
         written = w;
         slots = ap slotsOf v ∙ set-slots (lent .records) t slot h o;
         whole = inl (v ∙ set-records (lent .records) t slot h o);
+        list = kept-same (lent .list);
       }))
 
 -- restart
-pub is-restart : (pack : List ℕ) (lent : Lent) (r : Outcomes.Outcome) → r ≡ outcome Done (replicate 8 noAgent) →
-    Carried pack lent Calls.restart (r .answer) (record { store = lent .store; records = r .agents })
+pub is-restart : (pack : List ℕ) (lent : Lent) (list′ : Worklist) → Kept (lent .list) list′ (restarted (worklistOf (lent .list))) →
+    Carried pack lent Calls.restart Done (record { store = lent .store; records = replicate 8 noAgent; list = list′ })
 unfolding answerOf lentFor Calls.refusal Calls.rule stateOf
-is-restart pack lent r a =
-    subst (λ (x : Outcomes.Outcome). Carried pack lent Calls.restart (x .answer) (record { store = lent .store; records = x .agents }))
-    (sym a)
-    (carried-out pack lent Calls.restart Done (record { store = lent .store; records = replicate 8 noAgent })
+is-restart pack lent list′ k =
+    carried-out pack lent Calls.restart Done (record { store = lent .store; records = replicate 8 noAgent; list = list′ })
     (refused-by pack lent Calls.restart none refl refl) refl
-    (record { written = wrote-nothing (lent .store); slots = slots-none; whole = inl (sym records-none) }))
+    (record { written = wrote-nothing (lent .store); slots = slots-none; whole = inl (sym records-none); list = k })
+
+-- add, take, done: the worklist alone is another
+module _ (pack : List ℕ) (lent : Lent) (c : Call) (answer : Answer) (list′ : Worklist) (work : Work.Worklist) (a : Calls.Answer) where
+  pub is-listed : refusalFor pack lent c ≡ none → ruled pack lent c ≡ gives a (withWork (stateOf lent) work) → answerOf answer ≡ a →
+      Kept (lent .list) list′ work → Carried pack lent c answer (record { store = lent .store; records = lent .records; list = list′ })
+  unfolding stateOf
+  is-listed e q u k =
+      carried-out pack lent c answer (record { store = lent .store; records = lent .records; list = list′ }) e
+      (u ∙ ap (λ (x : Outcome). x .answer) (sym q))
+      (subst (Left lent (record { store = lent .store; records = lent .records; list = list′ })) (ap (λ (x : Outcome). x .state) (sym q))
+      (record { written = wrote-nothing (lent .store); slots = refl; whole = inr refl; list = k }))
 
 -- order
 module _ (pack : List ℕ) (lent : Lent) (store′ : List ℕ) (r : Verdict) (o : Ordered (lent .store) store′ r) where
   abbrev left : Lent
-  left = record { store = store′; records = lent .records }
+  left = record { store = store′; records = lent .records; list = lent .list }
 
   pub order-refused : (q w i : ℕ) → r ≡ Verdicts.Refused q w i → Carried pack lent Calls.order (Refused q w i) left
   unfolding answerOf lentFor
   order-refused q w i e =
-      subst (λ (x : List ℕ). Carried pack lent Calls.order (Refused q w i) (record { store = x; records = lent .records }))
+      subst (λ (x : List ℕ). Carried pack lent Calls.order (Refused q w i)
+      (record { store = x; records = lent .records; list = lent .list }))
       (sym (o .kept (λ a. never a)))
       (carried-refused pack lent Calls.order (no q w i) (Refused q w i)
       (stopped-by pack lent Calls.order (no q w i) (refused-some r (orderRefusal (lent .store)) q w i (o .answer) e)) refl)
@@ -197,4 +219,5 @@ module _ (pack : List ℕ) (lent : Lent) (store′ : List ℕ) (r : Verdict) (o 
             };
         slots = refl;
         whole = inr refl;
+        list = kept-same (lent .list);
       })

@@ -13,15 +13,17 @@ use Rattle.pack.specs.Meaning.{packOf}
 use Rattle.agents.specs.declared.Answer.{Answer}
 use Rattle.agents.specs.Slots.{slotsOf, recordsOf}
 use Rattle.agents.specs.Answers.{answerOf}
+use Rattle.worklist.specs.Worklist.{Kept}
 use Rattle.meaning.specs.State.{stateOf, Lent}
 use Rattle.meaning.specs.Questions.{refusalFor}
 
--- What is left is state s of the rules: its store, and exactly its agents. The records are written from these, or are those that were
--- lent, unchanged (order, which does not get them).
+-- What is left is state s of the rules: its store, exactly its agents, and exactly its worklist. The records are written from the agents,
+-- or are those that were lent, unchanged (a call that does not get them, or only reads them).
 pub record Left (before after : Lent) (s : State) : Type 0 where
   pub written : Wrote (before .store) (after .store) (s .store)
   pub slots : slotsOf (after .records) ≡ s .slots
   pub whole : (after .records ≡ recordsOf (s .slots)) ⊎ (after .records ≡ before .records)
+  pub list : Kept (before .list) (after .list) (s .work)
 
 -- what the rule for a call does, on what is lent
 abbrev pub ruled : (pack : List ℕ) → Lent → Call → Outcome
@@ -31,6 +33,6 @@ ruled pack lent c = rule (packOf pack) (stateOf lent) c
 pub record Carried (pack : List ℕ) (before : Lent) (c : Call) (answer : Answer) (after : Lent) : Type 0 where
   -- the first no of all questions put to the call is the answer, and nothing lent is changed, byte for byte
   pub refused : (n : No) → refusalFor pack before c ≡ some n → (answerOf answer ≡ Calls.refused n) × (after ≡ before)
-  -- otherwise answer, store and slots are those of the rule
+  -- otherwise answer, store, slots and worklist are those of the rule
   pub carried : refusalFor pack before c ≡ none →
       (answerOf answer ≡ ruled pack before c .answer) × Left before after (ruled pack before c .state)

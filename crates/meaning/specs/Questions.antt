@@ -7,21 +7,23 @@ use lib.Dec.{ltb, leb, eqb}
 use lib.ListN.{length, getD}
 use Rattle.rules.specs.Calls as Rules
 use Rattle.keys.specs.Keys.{isWorkflowKey}
-use Rattle.contents.specs.Contents.{valueIn, bookOf, bookRows}
+use Rattle.contents.specs.Contents.{contentsOf, valueIn, bookOf, bookRows}
 use Rattle.words.specs.Words.{le}
 use Rattle.questions.specs.Basics.{if_then_else_, each, isSome}
 use Rattle.questions.specs.Questions.{No, number, ask, orElse}
 use Rattle.rules.specs.Store.{Request}
-use Rattle.rules.specs.Calls.{Call, arrival, retry, turn, crash, restart, order, stopped, refusal}
+use Rattle.rules.specs.Calls.{Call, arrival, retry, turn, crash, restart, order, listAdd, listTake, listDone, stopped, refusal}
 use Rattle.code.specs.Questions.{insideAt}
 use Rattle.pack.specs.Layout.{count, sizeOf, total, operationsOf}
 use Rattle.pack.specs.Refusal.{packRefusal}
 use Rattle.pack.specs.Meaning.{packOf}
-use Rattle.store.specs.Rows.{Row}
+use Rattle.store.specs.Rows.{Row, storeOf}
 use Rattle.store.specs.Layout.{partsOf}
 use Rattle.store.specs.Questions.{storeRefusal, orderRefusal}
 use Rattle.agents.specs.declared.Agent.{Agent}
 use Rattle.agents.specs.Slots.{agentAt, slotsOf, isBlank}
+use Rattle.rules.specs.Worklist.{listRight}
+use Rattle.worklist.specs.Worklist.{worklistOf}
 use Rattle.meaning.specs.State.{stateOf, Lent}
 
 -- a row of the book that has a workflow number has one below m
@@ -77,6 +79,21 @@ lentRefusal pack lent =
     (ask (number 14) (question14 pack (lent .store) (lent .records))
     none)))
 
+-- Questions 1 to 13, of pack and store, in order: the first no.
+unfoldable pub firstThirteen : (pack store : List ℕ) → Option No
+firstThirteen pack store = orElse (packRefusal pack) (orElse (storeRefusal store) (ask (number 13) (question13 pack store) none))
+
+-- Questions 1 to 13 and 20, which the reading of a reply puts: the first no.
+unfoldable pub replyRefusal : (pack store : List ℕ) (id : ℕ) → Option No
+replyRefusal pack store id =
+    orElse (firstThirteen pack store)
+    (ask (number 20) (isSome (contentsOf (storeOf store) .book id))
+    none)
+
+-- Questions 1 to 14 and 25, with which add, take and done begin: the first no.
+unfoldable pub listRefusal : (pack : List ℕ) → Lent → Option No
+listRefusal pack lent = orElse (lentRefusal pack lent) (ask (number 25) (listRight (worklistOf (lent .list))) none)
+
 -- 16 of a slot, by what is wanted of it: in use, or empty
 abbrev pub asWanted : (used : Bool) → Option Rules.Agent → Bool
 asWanted true held = isSome held
@@ -98,8 +115,11 @@ lentFor (turn slot) pack lent = lentRefusal pack lent
 lentFor (crash slot) pack lent = lentRefusal pack lent
 lentFor restart pack lent = none
 lentFor order pack lent = orderRefusal (lent .store)
+lentFor (listAdd id) pack lent = lentRefusal pack lent
+lentFor listTake pack lent = lentRefusal pack lent
+lentFor (listDone id) pack lent = lentRefusal pack lent
 lentFor (stopped n) pack lent = lentRefusal pack lent
 
--- All questions that a call puts, 1 to 21 and 24, in the order in which they are put: the first no.
+-- All questions that a call puts, in the order in which they are put: the first no.
 unfoldable pub refusalFor : (pack : List ℕ) → Lent → Call → Option No
 refusalFor pack lent c = orElse (lentFor c pack lent) (refusal (packOf pack) (stateOf lent) c)

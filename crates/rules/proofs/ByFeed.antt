@@ -2,11 +2,13 @@
 use mathlib.Core.Bool.{true}
 use mathlib.Core.Path.{_≡_, refl, sym, _∙_, ap}
 use mathlib.Core.List.{List}
-use mathlib.Core.Option.{none, some}
+use mathlib.Core.Option.{Option, none, some}
 use Prim.Native.Nat.{ℕ}
 use Rattle.rules.specs.Instructions.{Pack}
 use Rattle.rules.specs.Calls.{Agent, State, Call, arrival, retry, turn, crash, restart, order, stopped}
+use Rattle.rules.specs.Calls.{listAdd, listTake, listDone, given, takes, withWork}
 use Rattle.rules.specs.Calls.{Answer, done, Outcome, gives, rule}
+use Rattle.rules.specs.Worklist.{firstWaiting}
 use Rattle.rules.specs.Plain.{Reply, withAnswer, accepted, nothing, feeds}
 use Rattle.questions.proofs.Updates.{none-some, update-each}
 
@@ -45,6 +47,20 @@ module _ (pack : Pack) (s : State) where
       only-empties c f (ap (λ (o : Outcome). o .answer) e) (ap (λ (o : Outcome). o .state .store) e)
       (λ slot a h. ap (λ (o : Outcome). o .state .slots slot) (sym e) ∙ h)
 
+  -- a take answers with an id, or with done where there is none; it leaves store and slots
+  idle-take : (o : Option ℕ) → rule pack s listTake ≡ takes s o → Kind pack s listTake
+  unfolding takes
+  idle-take none e = leaves-all listTake refl e
+  idle-take (some id) e =
+      an-idle listTake
+      (record {
+        feeds-none = refl;
+        accepts = ap (λ (o : Outcome). accepted (o .answer)) e;
+        no-reply = λ rs. ap (λ (o : Outcome). withAnswer (o .answer) rs) e;
+        store-left = ap (λ (o : Outcome). o .state .store) e;
+        slots-left = λ slot a h. ap (λ (o : Outcome). o .state .slots slot) (sym e) ∙ h;
+      })
+
   pub kind : (c : Call) → Kind pack s c
   unfolding rule
   kind (arrival slot id w args) = an-arrival slot id w args
@@ -55,4 +71,7 @@ module _ (pack : Pack) (s : State) where
       (update-each (s .slots) slot none (λ j a. s .slots j ≡ some a) (λ a e. none-some a refl e) (λ j a n e. e))
   kind restart = only-empties restart refl refl refl (λ slot a e. none-some a refl e)
   kind order = leaves-all order refl refl
+  kind (listAdd id) = only-empties (listAdd id) refl refl refl (λ slot a e. e)
+  kind listTake = idle-take (firstWaiting (s .work)) refl
+  kind (listDone id) = only-empties (listDone id) refl refl refl (λ slot a e. e)
   kind (stopped n) = leaves-all (stopped n) refl refl

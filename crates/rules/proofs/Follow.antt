@@ -120,7 +120,7 @@ byNext-stays log log′ id t (goes to) s g e = e
 byNext-stays log log′ id t (says r) s g e = e
 byNext-stays log log′ id t (does from p onto) s g e = behind-stays onto t _ _ s (g p _) e
 
-onward-stays : (log log′ : Log) (id : ℕ) (code : Code) (o o′ : Option Stage) (s : Stage) →
+pub onward-stays : (log log′ : Log) (id : ℕ) (code : Code) (o o′ : Option Stage) (s : Stage) →
     Grows log log′ id → ((u : Stage) → o ≡ some u → o′ ≡ some u) → onward log id code o ≡ some s → onward log′ id code o′ ≡ some s
 onward-stays log log′ id code none o′ s g k e = cc
 onward-stays log log′ id code (some (at c t)) o′ s g k e =

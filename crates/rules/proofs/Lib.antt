@@ -22,3 +22,5 @@ pub mod NeverWritten
 pub mod Move
 pub mod WholeCase
 pub mod States
+pub mod Worklists
+pub mod Listing

@@ -14,7 +14,7 @@ use Rattle.rules.specs.Store.{Request, Log}
 use Rattle.rules.specs.Checked.{Checked}
 use Rattle.rules.specs.Logged.{requestCode, start, Stage, at, finished, onward, follow, replyOr, replyFrom, replyLogged}
 use Rattle.questions.proofs.Updates.{none-some}
-use Rattle.rules.proofs.Follow.{Grows, follow-stays, follow-before, follow-below}
+use Rattle.rules.proofs.Follow.{Grows, onward-stays, follow-stays, follow-before, follow-below}
 use Rattle.rules.proofs.Positions.{follow-position}
 
 module _ (log : Log) (id : ℕ) (code : Code) (q : Request) where
@@ -120,3 +120,26 @@ pub ends-logged : (pack : Pack) (log : Log) (id : ℕ) (q : Request) (v : Result
     replyLogged pack log id (some q) ≡ some v
 unfolding replyLogged
 ends-logged pack log id q v checked e = reply-within log id (requestCode pack q) q checked v e
+
+-- what is worked out within so many moves stays while the log grows
+module _ (log log′ : Log) (id : ℕ) (code : Code) (grows : Grows log log′ id) where
+  from-stays : (ahead : ℕ) (o o′ : Option Stage) → ((x : Stage) → o ≡ some x → o′ ≡ some x) → (v : Result) →
+      replyFrom log id code ahead o ≡ some v → replyFrom log′ id code ahead o′ ≡ some v
+  unfolding replyFrom
+  from-stays zero none o′ k v e = none-some v refl e
+  from-stays zero (some (at c t)) o′ k v e = none-some v refl e
+  from-stays zero (some (finished r)) o′ k v e = rw (k (finished r) refl) e
+  from-stays (suc ahead) none o′ k v e = none-some v refl e
+  from-stays (suc ahead) (some (at c t)) o′ k v e =
+      rw (k (at c t) refl)
+      (from-stays ahead (onward log id code (some (at c t))) (onward log′ id code (some (at c t)))
+      (λ x. onward-stays log log′ id code (some (at c t)) (some (at c t)) x grows (λ u h. h)) v e)
+  from-stays (suc ahead) (some (finished r)) o′ k v e = rw (k (finished r) refl) e
+
+-- of a booked request, for any pack, checked or not
+pub logged-stays : (pack : Pack) (log log′ : Log) (id : ℕ) (q : Request) (v : Result) → Grows log log′ id →
+    replyLogged pack log id (some q) ≡ some v → replyLogged pack log′ id (some q) ≡ some v
+unfolding replyLogged
+logged-stays pack log log′ id q v grows e =
+    from-stays log log′ id (requestCode pack q) grows (length (requestCode pack q)) (some (at (start q) 0)) (some (at (start q) 0))
+    (λ x h. h) v e

@@ -205,7 +205,7 @@ module _ (code : Code) (checked : Checked code) where
         does-by (c .place) in-code side from p onto _ (agrees (instructionAt code (c .place .position)) (c .place)) e r
 
     -- a move by the log, and by one step at most
-    forward : (log : Log) (id t : ℕ) (c′ : Course) (t′ : ℕ) (y : Next) → nextOf code c ≡ y → byNext log id t y ≡ some (at c′ t′) →
+    pub forward : (log : Log) (id t : ℕ) (c′ : Course) (t′ : ℕ) (y : Next) → nextOf code c ≡ y → byNext log id t y ≡ some (at c′ t′) →
         Forward c c′ × (t′ ≤ suc t)
     forward log id t c′ t′ (goes to) e r =
         let q : to ≡ c′ = cc in

@@ -13,6 +13,7 @@ use Rattle.rules.specs.Blocks.{Result}
 use Rattle.rules.specs.Courses.{Course, Next, goes, does, says, nextOf}
 use Rattle.rules.specs.Store.{Request, Store, sought, found}
 use Rattle.rules.specs.Calls.{Agent, State, Call, arrival, retry, turn, crash, restart, order, stopped, codeBy}
+use Rattle.rules.specs.Calls.{listAdd, listTake, listDone}
 use Rattle.rules.specs.Calls.{refusal, rule, arrive, again, throughBlock, turnOn, turnIn, unless, call, History, stateAfter}
 use Rattle.rules.specs.Plain.{machineAfter}
 use Rattle.rules.specs.RequestZero.{zeroNo, RequestZero, NoZero}
@@ -70,6 +71,9 @@ module _ (pack : Pack) (s : State) where
   nobody-else (crash slot) e = none-some (number 24) refl (behind 16 _ _ refl (behind 15 _ _ refl e))
   nobody-else restart e = none-some (number 24) refl e
   nobody-else order e = none-some (number 24) refl e
+  nobody-else (listAdd id) e = none-some (number 24) refl (behind 20 _ _ refl (behind 26 _ _ refl (behind 25 _ _ refl e)))
+  nobody-else listTake e = none-some (number 24) refl (behind 27 _ _ refl (behind 25 _ _ refl e))
+  nobody-else (listDone id) e = none-some (number 24) refl (behind 27 _ _ refl (behind 25 _ _ refl e))
   nobody-else (stopped n) e = inr (ap stopped (Option·some-injective n (number 24) e))
 
   -- ── the book ──

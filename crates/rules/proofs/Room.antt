@@ -19,6 +19,7 @@ use Rattle.rules.specs.Courses.{Course, Next, goes, does, says, nextOf}
 use Rattle.rules.specs.Store.{Request, Log, Store, found, withRow}
 use Rattle.rules.specs.Store as Stores
 use Rattle.rules.specs.Logged.{requestCode, start, at, behind, byNext, follow}
+use Rattle.rules.specs.Worklist.{Worklist}
 use Rattle.rules.specs.Calls.{codeBy, Agent, State, Call, turn, withStore, withSlot, started, arrive, again, movesTo, throughBlock}
 use Rattle.rules.specs.Calls.{turnOn, turnIn, canWrite, canDo, canTurn, rule}
 use Rattle.rules.specs.Checked.{sideAt, Checked}
@@ -125,11 +126,11 @@ module _ (pack : Pack) (P id : ℕ) (q : Request) (checked : Checked (requestCod
         s .store .used p + countOn (byRows p) code _ r ≤ s .store .room
     agents : (slot : ℕ) (a : Agent) → s .slots slot ≡ some a → a .id ≡ id → Led (s .store .log) a
 
-  -- other agents in the slots
-  with-slots : (s : State) → HasRoom s → (slots : ℕ → Option Agent) →
+  -- other agents in the slots, and any worklist
+  with-slots : (s : State) → HasRoom s → (slots : ℕ → Option Agent) (work : Worklist) →
       ((slot : ℕ) (a : Agent) → slots slot ≡ some a → a .id ≡ id → Led (s .store .log) a) →
-      HasRoom (record { store = s .store; slots = slots })
-  with-slots s h slots g =
+      HasRoom (record { store = s .store; slots = slots; work = work })
+  with-slots s h slots work g =
       record {
         booked = h .booked;
         far = h .far;
@@ -144,7 +145,7 @@ module _ (pack : Pack) (P id : ℕ) (q : Request) (checked : Checked (requestCod
   in-slot : (s : State) → HasRoom s → (slot : ℕ) (o : Option Agent) →
       ((a : Agent) → o ≡ some a → a .id ≡ id → Led (s .store .log) a) → HasRoom (withSlot s slot o)
   in-slot s h slot o g =
-      with-slots s h (update (s .slots) slot o)
+      with-slots s h (update (s .slots) slot o) (s .work)
       (update-each (s .slots) slot o (λ j a. a .id ≡ id → Led (s .store .log) a) g (λ j a n e. h .agents j a e))
 
   -- nobody, an agent of the request, one of another
@@ -397,7 +398,7 @@ module _ (pack : Pack) (P id : ℕ) (q : Request) (checked : Checked (requestCod
     idle-keeps : (c : Call) → Idle pack s c → HasRoom (rule pack s c .state)
     idle-keeps c i =
         subst (λ (st : Store). HasRoom (withStore (rule pack s c .state) st)) (sym (i .store-left))
-        (with-slots s h (rule pack s c .state .slots) (λ slot a e. h .agents slot a (i .slots-left slot a e)))
+        (with-slots s h (rule pack s c .state .slots) (rule pack s c .state .work) (λ slot a e. h .agents slot a (i .slots-left slot a e)))
 
     -- What a call does keeps the room, if no other request's block runs in it.
     pub rule-keeps : (c : Call) → NoOther pack id s c → HasRoom (rule pack s c .state)

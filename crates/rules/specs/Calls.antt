@@ -1,5 +1,5 @@
--- Agents and slots, and the six calls: the questions 15 to 21 and 24 of each, then what it does.
-use mathlib.Core.Bool.{Bool, true, not}
+-- Agents, slots and the worklist, and the nine calls: the questions from 15 on of each, then what it does.
+use mathlib.Core.Bool.{Bool, true, not, _&&_}
 use mathlib.Core.List.{List, [], _∷_}
 use mathlib.Core.Option.{Option, none, some}
 use Prim.Native.Nat.{ℕ, suc, _+_}
@@ -11,6 +11,8 @@ use Rattle.rules.specs.Instructions.{Code, Pack, Place}
 use Rattle.rules.specs.Blocks.{Result, runBlock, rowsNeeded}
 use Rattle.rules.specs.Courses.{Course, Next, goes, does, says, nextOf}
 use Rattle.rules.specs.Store.{Request, sameRequest, Store, freshStore, rowsPerRequest, booked, found, written}
+use Rattle.rules.specs.Logged.{loggedThrough}
+use Rattle.rules.specs.Worklist.{Worklist, listRight, canList, firstWaiting, takenOn, added, tookFirst, without, restarted}
 pub use Rattle.rules.specs.Logged.{requestCode, start}
 
 -- an agent in a slot: id, where it stands, step number
@@ -19,12 +21,13 @@ pub record Agent : Type 0 where
   pub course : Course
   pub step : ℕ
 
--- the store and the slots; an empty slot holds none
+-- the store, the slots and the worklist; an empty slot holds none
 pub record State : Type 0 where
   pub store : Store
   pub slots : (slot : ℕ) → Option Agent
+  pub work : Worklist
 
--- The calls. A call that is added later and works on store or slots is a further constructor.
+-- The calls. A call that is added later and works on store, slots or worklist is a further constructor.
 pub data Call : Type 0 where
   arrival : (slot id workflow : ℕ) (arguments : List ℕ) → Call
   retry : (slot id : ℕ) → Call
@@ -33,6 +36,10 @@ pub data Call : Type 0 where
   restart : Call
   -- W-203: puts the rows of an earlier store in order
   order : Call
+  -- W-208: puts an id on the worklist, gives the first waiting one, and removes one that is done
+  listAdd : (id : ℕ) → Call
+  listTake : Call
+  listDone : (id : ℕ) → Call
   -- a call of any kind to which a question before 15 says no
   stopped : No → Call
 
@@ -41,6 +48,8 @@ pub data Answer : Type 0 where
   done : Answer
   moved : Answer
   reply : (id : ℕ) (value : Result) → Answer
+  -- the id that a take gives
+  given : (id : ℕ) → Answer
   refused : No → Answer
 
 -- ── The questions ──
@@ -76,8 +85,16 @@ canTurn pack s none = true
 canTurn pack s (some a) =
     canDo s (a .id) (a .step) (codeBy pack (s .book (a .id))) (nextOf (codeBy pack (s .book (a .id))) (a .course))
 
--- The questions 15 to 21 and 24 that each call puts, in order: the first no. 24, is an arrival's id other than 0, is asked between 16 and
--- 17, whatever the book has of 0; a retry does not put it.
+-- Is an id booked?
+abbrev pub isBooked : Store → (id : ℕ) → Bool
+isBooked s id = isSome (s .book id)
+
+-- Is an id listed as taken, and does its log lead through to RETURN? (What isn't booked has no log that leads anywhere.)
+unfoldable pub canDone : Pack → State → (id : ℕ) → Bool
+canDone pack s id = takenOn id (s .work) && loggedThrough pack (s .store .log) id (s .store .book id)
+
+-- The questions from 15 on that each call puts, in order: the first no. 24, is an arrival's id other than 0, is asked between 16 and 17,
+-- whatever the book has of 0; a retry does not put it. 20 of an add comes last, and is put to any id, a listed one too.
 unfoldable pub refusal : Pack → State → Call → Option No
 refusal pack s (arrival slot id w args) =
     ask (number 15) (ltb slot 8)
@@ -99,6 +116,16 @@ refusal pack s (crash slot) =
     (ask (number 16) (isSome (s .slots slot)) none)
 refusal pack s restart = none
 refusal pack s order = none
+refusal pack s (listAdd id) =
+    ask (number 25) (listRight (s .work))
+    (ask (number 26) (canList id (s .work))
+    (ask (number 20) (isBooked (s .store) id) none))
+refusal pack s listTake =
+    ask (number 25) (listRight (s .work))
+    (ask (number 27) (isSome (firstWaiting (s .work))) none)
+refusal pack s (listDone id) =
+    ask (number 25) (listRight (s .work))
+    (ask (number 27) (canDone pack s id) none)
 refusal pack s (stopped n) = some n
 
 -- ── What the calls do ──
@@ -112,15 +139,19 @@ gives a s = record { answer = a; state = s }
 
 -- the state with another store
 abbrev pub withStore : State → Store → State
-withStore s store = record { store = store; slots = s .slots }
+withStore s store = record { store = store; slots = s .slots; work = s .work }
 
 -- the state with something else in one slot
 abbrev pub withSlot : State → (slot : ℕ) → Option Agent → State
-withSlot s slot a = record { store = s .store; slots = update (s .slots) slot a }
+withSlot s slot a = record { store = s .store; slots = update (s .slots) slot a; work = s .work }
 
 -- the state with every slot empty
 abbrev pub emptied : State → State
-emptied s = record { store = s .store; slots = λ slot. none }
+emptied s = record { store = s .store; slots = λ slot. none; work = s .work }
+
+-- the state with another worklist
+abbrev pub withWork : State → Worklist → State
+withWork s work = record { store = s .store; slots = s .slots; work = work }
 
 abbrev pub started : State → (slot id : ℕ) → Request → State
 started s slot id q = withSlot s slot (some (record { id = id; course = start q; step = 0 }))
@@ -160,14 +191,22 @@ turnIn pack s slot none = gives moved s
 turnIn pack s slot (some a) =
     turnOn s slot a (codeBy pack (s .store .book (a .id))) (nextOf (codeBy pack (s .store .book (a .id))) (a .course))
 
+-- Take, by the first waiting id: it is marked and given. (With none waiting it is refused, by 27.)
+unfoldable pub takes : State → Option ℕ → Outcome
+takes s none = gives done s
+takes s (some id) = gives (given id) (withWork s (tookFirst (s .work)))
+
 -- What a call does when no question says no.
 unfoldable pub rule : Pack → State → Call → Outcome
 rule pack s (arrival slot id w args) = arrive s slot id (record { workflow = w; arguments = args }) (s .store .book id)
 rule pack s (retry slot id) = again s slot id (s .store .book id)
 rule pack s (turn slot) = turnIn pack s slot (s .slots slot)
 rule pack s (crash slot) = gives done (withSlot s slot none)
-rule pack s restart = gives done (emptied s)
+rule pack s restart = gives done (withWork (emptied s) (restarted (s .work)))
 rule pack s order = gives done s
+rule pack s (listAdd id) = gives done (withWork s (added id (s .work)))
+rule pack s listTake = takes s (firstWaiting (s .work))
+rule pack s (listDone id) = gives done (withWork s (without id (s .work)))
 rule pack s (stopped n) = gives done s
 
 -- The first no is the answer, and nothing is changed.
@@ -181,11 +220,11 @@ call pack s c = unless (refusal pack s c) s (rule pack s c)
 
 -- ── Lists of calls ──
 
--- what an accepted create leaves, all slots empty
+-- what an accepted create leaves, all slots empty, nothing on the worklist
 abbrev pub fresh : (room : ℕ) → State
-fresh room = record { store = freshStore room; slots = λ slot. none }
+fresh room = record { store = freshStore room; slots = λ slot. none; work = [] }
 
--- A list of calls, the latest first; each gets the store and slots that the one before left.
+-- A list of calls, the latest first; each gets the store, slots and worklist that the one before left.
 abbrev pub History : Type 0
 History = List Call
 

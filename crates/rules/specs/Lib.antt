@@ -6,6 +6,7 @@ pub mod Courses
 pub mod Checked
 pub mod Store
 pub mod Logged
+pub mod Worklist
 pub mod Calls
 pub mod Plain
 pub mod Demand3
@@ -13,3 +14,4 @@ pub mod RequestZero
 pub mod NeverWritten
 pub mod Routes
 pub mod Room
+pub mod Listed

@@ -11,7 +11,8 @@ use Rattle.rules.specs.Courses.{Course, Next, goes, does, says, nextOf}
 use Rattle.rules.specs.Store.{Request}
 use Rattle.rules.specs.Logged.{requestCode, start}
 use Rattle.rules.specs.Calls.{Call, arrival, retry, turn, crash, restart, order, stopped, History, answerTo}
-use Rattle.rules.specs.Calls.{Answer, done, moved, reply, refused}
+use Rattle.rules.specs.Calls.{listAdd, listTake, listDone}
+use Rattle.rules.specs.Calls.{Answer, done, moved, reply, given, refused}
 
 -- a reply: id and value
 pub record Reply : Type 0 where
@@ -83,6 +84,7 @@ abbrev pub accepted : Answer → Bool
 accepted done = true
 accepted moved = true
 accepted (reply id v) = true
+accepted (given id) = true
 accepted (refused n) = false
 
 -- What a call feeds: an agent starts in a slot, and with an arrival its request may be booked; a move; nothing.
@@ -99,6 +101,9 @@ feeds (turn slot) = moves slot
 feeds (crash slot) = nothing
 feeds restart = nothing
 feeds order = nothing
+feeds (listAdd id) = nothing
+feeds listTake = nothing
+feeds (listDone id) = nothing
 feeds (stopped n) = nothing
 
 -- by its answer: a call that isn't accepted feeds nothing. (A later answer that is neither accepted nor refused has its place here.)
@@ -163,6 +168,7 @@ abbrev pub withAnswer : Answer → List Reply → List Reply
 withAnswer (reply id v) rs = record { id = id; value = v } ∷ rs
 withAnswer done rs = rs
 withAnswer moved rs = rs
+withAnswer (given id) rs = rs
 withAnswer (refused n) rs = rs
 
 -- the replies among the answers, the latest first

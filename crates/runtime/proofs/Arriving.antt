@@ -45,9 +45,9 @@ as-booked s id q e = ask-none _ _ _ e .0
 pub is-unbooked : (pack : List ℕ) (lent : Lent) (store′ : List ℕ) (c : Calls.Call) (r : Outcome) (id : ℕ) (q : Request) (v : Verdict) →
     Booked (lent .store) store′ id q v → refusalFor pack lent c ≡ bookRefusal (contentsOf (storeOf (lent .store))) id q →
     (n w i : ℕ) → v ≡ Refused n w i → r ≡ outcome (Answers.Refused n w i) (lent .records) →
-    Carried pack lent c (r .answer) (record { store = store′; records = r .agents })
+    Carried pack lent c (r .answer) (record { store = store′; records = r .agents; list = lent .list })
 is-unbooked pack lent store′ c r id q v b p n w i u a =
     let f = refused-some v _ n w i (b .answer) u in
-    subst (λ (x : List ℕ). Carried pack lent c (r .answer) (record { store = x; records = r .agents }))
+    subst (λ (x : List ℕ). Carried pack lent c (r .answer) (record { store = x; records = r .agents; list = lent .list }))
     (sym (b .kept (Questions.no n w i) f))
     (is-refused pack lent c r n w i (p ∙ f) a)

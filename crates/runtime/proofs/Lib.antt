@@ -1,3 +1,4 @@
 pub mod Rules
 pub mod Turning
 pub mod Arriving
+pub mod Listing

@@ -72,14 +72,14 @@ module _ (pack : List ℕ) (lent : Lent) (slot : ℕ) (e : firstSixteen pack len
 
   pub is-turned : Tidy (lent .records) → (store′ : List ℕ) (r : Turned) (o : Outcome) → TurnedBy pack (lent .store) a r store′ →
       o ≡ outcome (r .answer) (set (lent .records) slot (r .agent)) →
-      Carried pack lent (Calls.turn slot) (o .answer) (record { store = store′; records = o .agents })
+      Carried pack lent (Calls.turn slot) (o .answer) (record { store = store′; records = o .agents; list = lent .list })
   unfolding Calls.rule stateOf answerOf Questions.ask
   is-turned tidy store′ r o t p = go (canTurn (packOf pack) (contentsOf (storeOf (lent .store))) (some (held a))) refl
     where
       go : (b : Bool) → canTurn (packOf pack) (contentsOf (storeOf (lent .store))) (some (held a)) ≡ b →
-          Carried pack lent (Calls.turn slot) (o .answer) (record { store = store′; records = o .agents })
+          Carried pack lent (Calls.turn slot) (o .answer) (record { store = store′; records = o .agents; list = lent .list })
       go true y =
-          is-done pack lent (record { store = store′; records = o .agents }) (Calls.turn slot) (o .answer) slot (agentOf (r .agent))
+          is-done pack lent store′ (o .agents) (Calls.turn slot) (o .answer) slot (agentOf (r .agent))
           (contentsOf (storeOf store′)) (answerOf (r .answer))
           tidy (begun-below pack lent slot true e) (may true y)
           (ap (turnIn (packOf pack) (stateOf lent) slot) there ∙ t .turned y (stateOf lent) slot)
@@ -90,5 +90,6 @@ module _ (pack : List ℕ) (lent : Lent) (slot : ℕ) (e : firstSixteen pack len
           let q : o ≡ outcome (Refused 21 0 0) (lent .records) =
           p ∙ ap (λ (x : Turned). outcome (x .answer) (set (lent .records) slot (x .agent))) (f .0)
           ∙ ap (outcome (Refused 21 0 0)) (set-getD (lent .records) slot past) in
-          subst (λ (x : List ℕ). Carried pack lent (Calls.turn slot) (o .answer) (record { store = x; records = o .agents })) (sym (f .1))
+          subst (λ (x : List ℕ). Carried pack lent (Calls.turn slot) (o .answer)
+          (record { store = x; records = o .agents; list = lent .list })) (sym (f .1))
           (is-refused pack lent (Calls.turn slot) o 21 0 0 (may false n) q)

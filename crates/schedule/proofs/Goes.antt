@@ -31,6 +31,7 @@ use Rattle.text.specs.Text.{Appended}
 use Rattle.text.proofs.Laws.{appended-none, appended-then}
 use Rattle.lines.specs.Lines.{eventsLine, refusedLine, answerLine}
 use Rattle.listing.specs.Store.{storeText}
+use Rattle.worklist.specs.Worklist.{noWorklist}
 use Rattle.meaning.specs.Carried.{Carried}
 use Rattle.chain.specs.Chain.{Chain, begins, goes-on}
 use Rattle.chain.proofs.Theorem.{sized}
@@ -59,7 +60,7 @@ verdict-none (some n) e = let z : _≡_ {A = ℕ} 0 1 = cc in absurd (omega arit
 -- a create on a store of that length is accepted, and begins a list of calls
 pub fresh-chain : (pack s xs ys : List ℕ) (P C : ℕ) (v : Verdict) → P ≡ partsOf s → C ≡ capOf s → Allowed s →
     length xs ≡ storeLength (partsOf s) (capOf s) → Created xs ys P C v
-    → Chain pack (partsOf s) (capOf s) [] (record { store = ys; records = replicate 8 noAgent })
+    → Chain pack (partsOf s) (capOf s) [] (record { store = ys; records = replicate 8 noAgent; list = noWorklist })
 unfolding createRefusal ask
 fresh-chain pack s xs ys P C v p q h l c =
     begins xs ys (accepted (partsOf s) (capOf s)
@@ -96,7 +97,8 @@ length-made (e ∷ es) = ap suc (length-made es)
 
 module _ {pack s out : List ℕ} {n : ℕ} where
   pub going-none : (store : List ℕ) (records : List Agent) →
-      Chain pack (partsOf s) (capOf s) [] (record { store = store; records = replicate 8 noAgent }) → records ≡ replicate 8 noAgent →
+      Chain pack (partsOf s) (capOf s) [] (record { store = store; records = replicate 8 noAgent; list = noWorklist }) →
+      records ≡ replicate 8 noAgent →
       n ≤ length out
       → Going pack s out n 0 store records out n
   unfolding callsOf madeIn answerLines
@@ -104,7 +106,8 @@ module _ {pack s out : List ℕ} {n : ℕ} where
       record {
         events = [];
         ran = record {
-          chain = subst (λ (rs : List Agent). Chain pack (partsOf s) (capOf s) [] (record { store = store; records = rs }))
+          chain = subst (λ (rs : List Agent). Chain pack (partsOf s) (capOf s) []
+              (record { store = store; records = rs; list = noWorklist }))
               (sym e) c;
           calls = refl;
         };
@@ -114,7 +117,8 @@ module _ {pack s out : List ℕ} {n : ℕ} where
   pub going-more : {i : ℕ} {store : List ℕ} {records : List Agent} {out′ : List ℕ} {at : ℕ} {answer : Answer} {records′ : List Agent}
       {store′ out″ : List ℕ} {at′ : ℕ}
       → Going pack s out n i store records out′ at →
-      Carried pack (record { store = store; records = records }) (callAt s i) answer (record { store = store′; records = records′ }) →
+      Carried pack (record { store = store; records = records; list = noWorklist }) (callAt s i) answer
+      (record { store = store′; records = records′; list = noWorklist }) →
       Appended out′ at (answerLine i (answerOf answer)) out″ at′
       → Going pack s out n (i + 1) store′ records′ out″ at′
   unfolding callsOf madeIn answerLines
@@ -138,9 +142,9 @@ module _ {pack s out : List ℕ} {n : ℕ} where
 -- ---- the store that is left is sound
 
 pub chain-sound : {pack : List ℕ} {P C : ℕ} {events : List Event} {store : List ℕ} {records : List Agent} →
-    Chain pack P C events (record { store = store; records = records }) → Sound store
+    Chain pack P C events (record { store = store; records = records; list = noWorklist }) → Sound store
 chain-sound {pack} {P} {C} {events} {store} {records} h =
-    store-ok store (sized pack P C events (record { store = store; records = records }) h .passes) .0
+    store-ok store (sized pack P C events (record { store = store; records = records; list = noWorklist }) h .passes) .0
 
 -- ---- what is printed
 

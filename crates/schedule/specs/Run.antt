@@ -11,6 +11,7 @@ use Rattle.store.specs.Layout.{partsOf, capOf, storeLength}
 use Rattle.agents.specs.declared.Agent.{Agent}
 use Rattle.lines.specs.Lines.{eventsLine, refusedLine, answerLine}
 use Rattle.listing.specs.Store.{storeText}
+use Rattle.worklist.specs.Worklist.{noWorklist}
 use Rattle.chain.specs.Chain.{Chain}
 use Rattle.schedule_check.specs.Layout.{eventCount}
 use Rattle.schedule_check.specs.Questions.{scheduleRefusal}
@@ -29,7 +30,7 @@ answerLines (e ∷ before) = answerLines before ++ answerLine (length before) (e
 -- The calls of a schedule's first `count` events were made, in order, each with its answer, from a fresh store of the schedule's P and C,
 -- and left this store. Demand 3 speaks of every such list (crate `chain`).
 pub record Ran (pack schedule : List ℕ) (count : ℕ) (events : List Event) (store : List ℕ) (records : List Agent) : Type 0 where
-  pub chain : Chain pack (partsOf schedule) (capOf schedule) events (record { store = store; records = records })
+  pub chain : Chain pack (partsOf schedule) (capOf schedule) events (record { store = store; records = records; list = noWorklist })
   pub calls : madeIn events ≡ callsOf schedule count
 
 -- A run of all events that leaves this store prints the event total, the answers, and the store.

@@ -1,4 +1,4 @@
-// The call that an event lists, made on the runtime.
+// The call that an event lists, made on the runtime. A schedule lists nothing for a worker: its worklist is and stays empty.
 use agents::Agent;
 use agents::Outcome;
 use agents::Request;
@@ -6,6 +6,7 @@ ghost use mathlib.Core.Bool.{true};
 ghost use mathlib.Core.Path.{_≡_};
 ghost use Prim.Native.Nat.{_<_};
 ghost use Rattle.rules.specs.Calls.{Call};
+ghost use Rattle.worklist.specs.Worklist.{noWorklist};
 ghost use Rattle.meaning.specs.Carried.{Carried};
 ghost use Rattle.schedule_check.specs.Layout.{requestCount, eventCount, requestId, requestWorkflow, requestArguments};
 ghost use Rattle.schedule_check.specs.Questions.{ScheduleLaid, Allowed, eventRight};
@@ -21,10 +22,10 @@ fn arrival_of(
     request: usize,
 ) -> Outcome
     requires { ⌜ ScheduleLaid (now schedule) × (request < requestCount (now schedule)) ⌝ }
-    ensures { λ o. ⌜ Carried (now (pack .entry)) (record { store = now (store .entry); records = agents })
+    ensures { λ o. ⌜ Carried (now (pack .entry)) (record { store = now (store .entry); records = agents; list = noWorklist })
         (Call.arrival slot (requestId (now (schedule .entry)) request) (requestWorkflow (now (schedule .entry)) request)
         (requestArguments (now (schedule .entry)) request))
-        (o .answer) (record { store = now (store .exit); records = o .agents }) ⌝ }
+        (o .answer) (record { store = now (store .exit); records = o .agents; list = noWorklist }) ⌝ }
 {
     let from = 6 + 24 * request;
     let id = words::read32(schedule, from);
@@ -48,9 +49,9 @@ fn retry_of(
     request: usize,
 ) -> Outcome
     requires { ⌜ ScheduleLaid (now schedule) × (request < requestCount (now schedule)) ⌝ }
-    ensures { λ o. ⌜ Carried (now (pack .entry)) (record { store = now (store .entry); records = agents })
+    ensures { λ o. ⌜ Carried (now (pack .entry)) (record { store = now (store .entry); records = agents; list = noWorklist })
         (Call.retry slot (requestId (now (schedule .entry)) request))
-        (o .answer) (record { store = now (store .entry); records = o .agents }) ⌝ }
+        (o .answer) (record { store = now (store .entry); records = o .agents; list = noWorklist }) ⌝ }
 {
     let id = words::read32(schedule, 6 + 24 * request);
     runtime::retry(pack, store, agents, slot, id)
@@ -67,9 +68,9 @@ fn call_of(
     request: u8,
 ) -> Outcome
     requires { ⌜ ScheduleLaid (now schedule) × (eventRight (requestCount (now schedule)) kind request ≡ true) ⌝ }
-    ensures { λ o. ⌜ Carried (now (pack .entry)) (record { store = now (store .entry); records = agents })
+    ensures { λ o. ⌜ Carried (now (pack .entry)) (record { store = now (store .entry); records = agents; list = noWorklist })
         (callOf (now (schedule .entry)) kind slot request)
-        (o .answer) (record { store = now (store .exit); records = o .agents }) ⌝ }
+        (o .answer) (record { store = now (store .exit); records = o .agents; list = noWorklist }) ⌝ }
 {
     if kind == 0 {
         return arrival_of(pack, schedule, store, agents, slot, request as usize);
@@ -83,7 +84,9 @@ fn call_of(
     if kind == 3 {
         return retry_of(pack, schedule, store, agents, slot, request as usize);
     }
-    runtime::restart()
+    let r = runtime::restart(worklist::no_worklist());
+    let slots = r.agents;
+    agents::done(slots)
 }
 
 // The call of an event, by its number.
@@ -95,9 +98,9 @@ pub fn call_event(
     event: usize,
 ) -> Outcome
     requires { ⌜ Allowed (now schedule) × (event < eventCount (now schedule)) ⌝ }
-    ensures { λ o. ⌜ Carried (now (pack .entry)) (record { store = now (store .entry); records = agents })
+    ensures { λ o. ⌜ Carried (now (pack .entry)) (record { store = now (store .entry); records = agents; list = noWorklist })
         (callAt (now (schedule .entry)) event)
-        (o .answer) (record { store = now (store .exit); records = o .agents }) ⌝ }
+        (o .answer) (record { store = now (store .exit); records = o .agents; list = noWorklist }) ⌝ }
 {
     let kinds = 6 + 24 * schedule[3] as usize;
     let events = words::read16(schedule, 4) as usize;

@@ -8,6 +8,7 @@ ghost use Prim.Native.Nat.{_+_, _≤_};
 ghost use lib.ListN.{length, take, drop, replicate};
 ghost use Rattle.store.specs.Layout.{partsOf, capOf};
 ghost use Rattle.agents.specs.Slots.{noAgent};
+ghost use Rattle.worklist.specs.Worklist.{noWorklist};
 ghost use Rattle.chain.specs.Chain.{Chain};
 ghost use Rattle.schedule_check.specs.Questions.{Allowed};
 ghost use Rattle.schedule.specs.Run.{RunPrints, storeSize, WholeRun, Printed};
@@ -22,7 +23,8 @@ fn run_events(
     written: usize,
 ) -> usize
     requires { ⌜ Allowed (now schedule)
-        × Chain (now pack) (partsOf (now schedule)) (capOf (now schedule)) [] (record { store = now store; records = replicate 8 noAgent })
+        × Chain (now pack) (partsOf (now schedule)) (capOf (now schedule)) []
+        (record { store = now store; records = replicate 8 noAgent; list = noWorklist })
         × (written + 70656 ≤ length (now out)) ⌝ }
     ensures { λ r. ⌜ Went (now (pack .entry)) (now (schedule .entry)) (now (out .entry)) written (now (store .exit)) (now (out .exit)) r
         × (r ≤ written + 70656) ⌝ }

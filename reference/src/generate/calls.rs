@@ -12,6 +12,7 @@ use crate::pack::Pack;
 use crate::random::Random;
 use crate::schedule::{Event, Kind};
 use crate::store::{Key, Request, Shape, Store};
+use crate::worklist::Worklist;
 
 /// A call that reads nothing but the pack.
 pub fn on_pack(pack: Vec<u8>, order: Order) -> Case {
@@ -19,6 +20,7 @@ pub fn on_pack(pack: Vec<u8>, order: Order) -> Case {
         pack,
         store: Vec::new(),
         slots: ALL_EMPTY,
+        list: None,
         order,
     }))
 }
@@ -77,6 +79,7 @@ pub fn create(random: &mut Random) -> Case {
         pack: Vec::new(),
         store: random.bytes(length),
         slots: world.slots,
+        list: None,
         order: Order::Create { partitions, rows },
     }))
 }
@@ -97,6 +100,7 @@ pub fn case_on(world: World, order: Order) -> CallCase {
         pack: world.pack,
         store: world.store,
         slots: world.slots,
+        list: None,
         order,
     }
 }
@@ -176,7 +180,7 @@ pub fn any_key(random: &mut Random) -> u64 {
 }
 
 /// A sound record of a booked id, anywhere outside a block.
-fn any_sound(
+pub fn any_sound(
     random: &mut Random,
     pack: &[u8],
     store: &Store<Vec<u8>>,
@@ -262,7 +266,7 @@ pub fn wrong(random: &mut Random, question: u8, lane: usize) -> Case {
         24 => zero_arrives(random, &mut world, empty, lane),
         _ => Call::Retry {
             slot: empty,
-            id: unbooked_id(random, &world),
+            id: unbooked_id(random, &booked_ids(&world)),
         },
     };
     Case::Call(Box::new(case_on(world, Order::Call(call))))
@@ -350,8 +354,8 @@ fn exact_repeat(random: &mut Random, world: &World) -> Request {
     booked.unwrap_or_else(|| random.pick(&world.schedule.requests))
 }
 
-fn unbooked_id(random: &mut Random, world: &World) -> u32 {
-    let ids = booked_ids(world);
+/// An id that is none of these.
+pub fn unbooked_id(random: &mut Random, ids: &[u32]) -> u32 {
     // Ids that share their low bits with a booked one are likely to be mistaken for it.
     let near = ids
         .first()
@@ -375,7 +379,8 @@ fn one_too_many(random: &mut Random, world: &mut World) -> Request {
         store.book(&request);
     }
     world.store = store.bytes().to_vec();
-    let unbooked = (0..).map(|_| unbooked_id(random, world));
+    let ids = booked_ids(world);
+    let unbooked = (0..).map(|_| unbooked_id(random, &ids));
     let id = unbooked.into_iter().find(|id| *id != 0).unwrap_or(1);
     right_request(random, world.workflows, id)
 }
@@ -439,6 +444,7 @@ pub fn older(random: &mut Random, lane: usize) -> Case {
         pack: world.pack,
         store,
         slots,
+        list: Worklist::default(),
         calls,
     }))
 }

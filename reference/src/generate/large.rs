@@ -97,6 +97,7 @@ fn largest_create(random: &mut Random) -> Case {
         pack: Vec::new(),
         store: random.bytes(length),
         slots: ALL_EMPTY,
+        list: None,
         order: Order::Create { partitions, rows },
     }))
 }

@@ -4,6 +4,7 @@
 //! Question 21 never says no in such a list: a book of C rows has at most C / 5 requests, and
 //! each takes at most two rows of a partition, a log row and a data row.
 
+use super::workers::with_worklist;
 use crate::agents::{Slots, ALL_EMPTY, SLOTS};
 use crate::calls::Call;
 use crate::pack::encode;
@@ -36,7 +37,8 @@ pub fn move_list(random: &mut Random) -> (Vec<u8>, Vec<u8>, Vec<Call>) {
         1..=6 => random.between(10, 80),
         _ => random.between(80, 250),
     };
-    let calls = (0..count).map(|_| moves.next(random)).collect();
+    let calls: Vec<Call> = (0..count).map(|_| moves.next(random)).collect();
+    let calls = with_worklist(random, &moves.pack, &store, &calls);
     (moves.pack, store, calls)
 }
 

@@ -12,6 +12,7 @@ use crate::cases::{CallCase, Case, ListCase, Order};
 use crate::random::Random;
 use crate::schedule::Kind;
 use crate::store::{Key, Store};
+use crate::worklist::Worklist;
 
 /// How many ways there are to leave the order.
 const WAYS: usize = 8;
@@ -184,7 +185,10 @@ pub fn not_rising(random: &mut Random, lane: usize) -> Case {
 pub fn new_id(random: &mut Random, lane: usize) -> Case {
     // Room for the three requests that a booked world may have, and one more.
     let rows = random.between(20, 22);
-    let world = booked_world(random, rows);
+    let mut world = booked_world(random, rows);
+    if lane % 4 == 1 {
+        book_above(random, &mut world);
+    }
     let ids = Store::lay_out(world.store.as_slice()).map_or(Vec::new(), |store| store.booked_ids());
     let first = ids.first().copied().unwrap_or(1);
     let last = ids.last().copied().unwrap_or(1);
@@ -200,6 +204,15 @@ pub fn new_id(random: &mut Random, lane: usize) -> Case {
     let slot = u32::from(world.some_slot(random, false).unwrap_or(0));
     let order = Order::Call(Call::Arrival { slot, request });
     Case::Call(Box::new(case_on(world, order)))
+}
+
+/// Where one id alone is booked, books another above it, with room for ids between.
+fn book_above(random: &mut Random, world: &mut World) {
+    let mut store = Store::lay_out(world.store.as_mut_slice()).expect("a store that ran");
+    if let [only] = store.booked_ids()[..] {
+        let above = only.saturating_add(random.between(3, 99) as u32);
+        store.book(&right_request(random, world.workflows, above));
+    }
 }
 
 /// The call that puts a store in order, on one that is right but for its order, or altogether.
@@ -313,6 +326,7 @@ pub fn list(random: &mut Random, lane: usize) -> Case {
         pack: case.pack,
         store: case.store,
         slots: case.slots,
+        list: Worklist::default(),
         calls,
     }))
 }

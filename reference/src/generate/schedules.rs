@@ -2,6 +2,7 @@
 
 use super::near_miss::any_near_miss;
 use super::packs::Bounds;
+use super::workers::with_worklist;
 use super::world::World;
 use crate::calls::Call;
 use crate::cases::Case;
@@ -32,7 +33,8 @@ fn to_case(world: &World) -> Case {
 }
 
 /// A list for demand 3: pack, fresh store and calls, longer than in a file of cases. Its calls
-/// are a schedule's, and now and then what puts a store in order, which no schedule has.
+/// are a schedule's, and now and then what no schedule has: what puts a store in order, and
+/// calls on the worklist.
 pub fn any_list(random: &mut Random) -> (Vec<u8>, Vec<u8>, Vec<Call>) {
     let world = any_world(random);
     let (partitions, rows) = (world.schedule.partitions, world.schedule.rows);
@@ -44,6 +46,7 @@ pub fn any_list(random: &mut Random) -> (Vec<u8>, Vec<u8>, Vec<Call>) {
         }
         calls.push(call);
     }
+    let calls = with_worklist(random, &world.pack, &store, &calls);
     (world.pack, store, calls)
 }
 

@@ -60,6 +60,7 @@ fn turn_case(random: &mut Random, pack: Vec<u8>, store: Vec<u8>, agent: Agent) -
         pack,
         store,
         slots,
+        list: None,
         order: Order::Call(Call::Turn { slot: slot as u32 }),
     }))
 }

@@ -10,7 +10,7 @@ use reference::pack::encode;
 use reference::schedule::{Event, Kind, Schedule};
 use reference::store::{fresh, Request, Store};
 use reference::sums::MOVE;
-use reference::{Call, Outcome};
+use reference::{Call, Outcome, Worklist};
 
 pub const RETURN: (u8, u32) = (0xB0, 0);
 pub const BEGIN: (u8, u32) = (0x60, 0);
@@ -56,11 +56,13 @@ pub fn whole_schedule() -> Schedule {
     }
 }
 
-/// Pack, store and slots that calls are made on.
+/// Pack, store, slots and worklist that calls are made on.
+#[derive(Clone, Debug, PartialEq)]
 pub struct State {
     pub pack: Vec<u8>,
     pub store: Vec<u8>,
     pub slots: Slots,
+    pub list: Worklist,
 }
 
 impl State {
@@ -69,6 +71,7 @@ impl State {
             pack,
             store: fresh(partitions, rows).expect("numbers in range"),
             slots: ALL_EMPTY,
+            list: Worklist::default(),
         }
     }
 
@@ -80,7 +83,7 @@ impl State {
     }
 
     pub fn call(&mut self, call: Call) -> Outcome {
-        call.perform(&self.pack, &mut self.store, &mut self.slots)
+        call.perform_listed(&self.pack, &mut self.store, &mut self.slots, &mut self.list)
     }
 
     pub fn arrival(&mut self, slot: u32, request: Request) -> Outcome {

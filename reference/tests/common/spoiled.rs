@@ -7,6 +7,10 @@ use reference::{Call, Outcome, Pack, Slots};
 /// A runtime that someone spoiled: may meddle with the state before a call and with the
 /// outcome after it.
 pub trait Spoiled {
+    /// Does the call itself, in its own way.
+    fn instead(&mut self, _pack: &[u8], _call: &Call, _state: &mut State) -> Option<Outcome> {
+        None
+    }
     fn before(&mut self, _call: &Call, _store: &mut Vec<u8>, _slots: &mut Slots) {}
     fn after(&mut self, _outcome: &mut Outcome, _slots: &mut Slots) {}
     fn leave(&mut self, _call: &Call, _given: &[u8], _left: &mut State) {}
@@ -17,7 +21,8 @@ pub trait Spoiled {
 pub fn perform(pack: &[u8], call: &Call, state: &mut State, spoiled: &mut dyn Spoiled) -> Outcome {
     let given = state.store.clone();
     spoiled.before(call, &mut state.store, &mut state.slots);
-    let mut outcome = call.perform(pack, &mut state.store, &mut state.slots);
+    let own = spoiled.instead(pack, call, state);
+    let mut outcome = own.unwrap_or_else(|| state.perform(pack, call));
     spoiled.after(&mut outcome, &mut state.slots);
     spoiled.leave(call, &given, state);
     outcome

@@ -1,17 +1,14 @@
 -- `lent_check::check_behind_pack` meets its contract: the first no, by the answers in hand.
 use borrow.Author.Needs.{needs}
-use mathlib.Core.Bool.{true}
 use mathlib.Core.Option.{none}
 use mathlib.Core.Path.{_≡_, sym, _∙_, ap}
 use borrow.Author.Tests.{not-true, not-false}
-use Rattle.meaning.proofs.Tests.{booked-of-13}
 use Rattle.questions.specs.Verdicts.{verdictOf}
 use Rattle.pack.proofs.Laws.{accepted-laid}
 use Rattle.store.specs.Questions.{storeRefusal}
 use Rattle.store.proofs.Sound.{store-ok}
 use Rattle.agents.proofs.Answers.{accepted-none, refused-some}
-use Rattle.meaning.specs.Questions.{question13}
-use Rattle.meaning.proofs.Asked.{no-of-store, no-of-13, no-of-14, all-yes}
+use Rattle.meaning.proofs.Asked.{thirteen-of-store, thirteen-of-13, all-thirteen}
 use Rattle.lent_check.proofs.check_behind_pack.Statement.{statement}
 use Rattle.lent_check.proofs.check_behind_pack.Tie as tie
 
@@ -23,11 +20,6 @@ start t = t .before .before .before .before .before
 stored : (c : tie.After-enum-told) → storeRefusal (start c .args .store .now) ≡ none
 stored c = let k = c .before .before in accepted-none (k .check-store .result) _ (k .check-store .ensures) (c .enum-told .given .1)
 
--- 13 says yes
-right : (c : tie.Else1) →
-    let a = start (c .before .before) .args in question13 (a .pack .now) (a .store .now) ≡ true
-right c = sym (c .before .check-13 .ensures) ∙ not-false _ (c .if1 .left)
-
 pub check-behind-pack-spec : {M : Type 1} → statement M
 check-behind-pack-spec =
     tie.close
@@ -38,32 +30,18 @@ check-behind-pack-spec =
     (λ c κs. search needs)
     (λ c.
     let t = c .before .before .before in
-    let s = start t in
     c .refused .ensures
-    ∙ sym (ap verdictOf (no-of-13 _ (record { store = s .args .store .now; records = s .args .agents }) (s .pre) (stored t)
+    ∙ sym (ap verdictOf (thirteen-of-13 _ _ (start t .pre) (stored t)
     (sym (c .before .before .check-13 .ensures) ∙ not-true _ (c .before .if1 .taken)))))
-    (λ c κs.
-    let s = start (c .before .before) in
-    (accepted-laid _ (s .pre), store-ok _ (stored (c .before .before)) .0, booked-of-13 _ _ (right c)))
-    (λ c κs. search needs)
-    (λ c.
-    let e = c .before .before .before in
-    let t = e .before .before in
-    let s = start t in
-    c .refused2 .ensures
-    ∙ sym (ap verdictOf (no-of-14 _ (record { store = s .args .store .now; records = s .args .agents }) (s .pre) (stored t) (right e)
-    (sym (c .before .before .check-14 .ensures) ∙ not-true _ (c .before .if2 .taken)))))
     (λ c. search needs)
     (λ c.
-    let e = c .before .before in
-    let t = e .before .before in
-    let s = start t in
+    let t = c .before .before in
     t .enum-told .given .1
-    ∙ sym (ap verdictOf (all-yes _ (record { store = s .args .store .now; records = s .args .agents }) (s .pre) (stored t) (right e)
-    (sym (c .before .check-14 .ensures) ∙ not-false _ (c .if2 .left)))))
+    ∙ sym (ap verdictOf (all-thirteen _ _ (start t .pre) (stored t)
+    (sym (c .before .check-13 .ensures) ∙ not-false _ (c .if1 .left)))))
     (λ c.
     let k = c .before .before in
     let s = k .before .before .before in
     c .enum-told2 .given .1
-    ∙ sym (ap verdictOf (no-of-store _ (record { store = s .args .store .now; records = s .args .agents }) (s .pre) _
+    ∙ sym (ap verdictOf (thirteen-of-store _ _ (s .pre) _
     (refused-some (k .check-store .result) _ _ _ _ (k .check-store .ensures) (c .enum-told2 .given .1))))))

@@ -23,6 +23,9 @@ append-answer-spec =
     (λ c. search needs)
     (λ c κs. search needs)
     (λ c. search needs)
+    (λ c. search needs)
+    (λ c κs. search needs)
+    (λ c. search needs)
     (λ c κs. search needs)
     (λ c. search needs)
     (λ c. let d = c .before .before in
@@ -35,4 +38,7 @@ append-answer-spec =
     (answer-as _ _ (d .before .before .before .answer .given .1) (d .append-reply .ensures .0), omega arith))
     (λ c. search needs)
     (λ c. let d = c .before .before in
-    (answer-as _ _ (d .before .before .before .answer2 .given .1) (d .append-refused .ensures .0), omega arith)))
+    (answer-as _ _ (d .before .before .before .answer2 .given .1) (d .append-taken .ensures .0), omega arith))
+    (λ c. search needs)
+    (λ c. let d = c .before .before in
+    (answer-as _ _ (d .before .before .before .answer3 .given .1) (d .append-refused .ensures .0), omega arith)))

@@ -20,6 +20,8 @@ use Rattle.agents.specs.Slots.{recordOf, Tidy}
 use Rattle.agents.specs.Answers as Answers
 use Rattle.agents.proofs.Answers.{accepted-none, refused-some}
 use Rattle.meaning.specs.State.{stateOf}
+use Rattle.worklist.specs.declared.Worklist.{Worklist}
+use Rattle.worklist.specs.Worklist.{noWorklist}
 use Rattle.meaning.specs.Questions.{lentRefusal, firstSixteen, refusalFor}
 use Rattle.meaning.proofs.Asked.{lent-pack, lent-store, lent-14}
 use Rattle.meaning.proofs.Begun.{begun-lent, begun-below, arrival-stops, arrival-left}
@@ -32,41 +34,42 @@ abbrev start : tie.After-enum-told → tie.Start
 start c = c .before .before .before .before .before .before
 
 -- 1 to 16 say yes
-begun : (c : tie.After-enum-told) →
+begun : (c : tie.After-enum-told) (list : Worklist) →
     let a = start c .args in
-    firstSixteen (a .pack .now) (record { store = a .store .now; records = a .agents }) (a .slot) false ≡ none
-begun c = let k = c .before .before in accepted-none (k .check-to-16 .result) _ (k .check-to-16 .ensures) (c .enum-told .given .1)
+    firstSixteen (a .pack .now) (record { store = a .store .now; records = a .agents; list = list }) (a .slot) false ≡ none
+begun c list = let k = c .before .before in accepted-none (k .check-to-16 .result) _ (k .check-to-16 .ensures list) (c .enum-told .given .1)
 
-lent-yes : (c : tie.After-enum-told) →
+lent-yes : (c : tie.After-enum-told) (list : Worklist) →
     let a = start c .args in
-    lentRefusal (a .pack .now) (record { store = a .store .now; records = a .agents }) ≡ none
-lent-yes c = let a = start c .args in begun-lent _ _ (a .slot) false (begun c)
+    lentRefusal (a .pack .now) (record { store = a .store .now; records = a .agents; list = list }) ≡ none
+lent-yes c list = let a = start c .args in begun-lent _ _ (a .slot) false (begun c list)
 
 below : (c : tie.After-enum-told) → start c .args .slot < 8
-below c = begun-below _ _ _ false (begun c)
+below c = begun-below _ _ _ false (begun c noWorklist)
 
 tidied : (c : tie.After-enum-told) → Tidy (start c .args .agents)
 tidied c =
     let s = start c in
-    tidy-typed (s .args .pack .now) (record { store = s .args .store .now; records = s .args .agents }) _ (s .good .1 .1 .0)
-    (lent-14 _ _ (lent-yes c))
+    tidy-typed (s .args .pack .now) (record { store = s .args .store .now; records = s .args .agents; list = noWorklist }) _
+    (s .good .1 .1 .0)
+    (lent-14 _ _ (lent-yes c noWorklist))
 
 -- that yes, from behind 17
 abbrev yes-16 : tie.Else2 → tie.After-enum-told
 yes-16 c = c .before .before .before .before
 
 -- behind 17 only 18 and 19 are left
-later : (c : tie.Else2) →
+later : (c : tie.Else2) (list : Worklist) →
     let a = start (yes-16 c) .args in
-    refusalFor (a .pack .now) (record { store = a .store .now; records = a .agents })
+    refusalFor (a .pack .now) (record { store = a .store .now; records = a .agents; list = list })
     (Calls.arrival (a .slot) (a .id) (a .q .workflow) (asked (a .q) .arguments))
     ≡ bookRefusal (contentsOf (storeOf (a .store .now))) (a .id) (asked (a .q))
 unfolding bookRefusal
-later c =
+later c list =
     let m = c .before .before in
     let t = yes-16 c in
     let s = start t .args in
-    arrival-left _ _ (s .slot) (s .id) (s .q .workflow) _ (begun t)
+    arrival-left _ _ (s .slot) (s .id) (s .q .workflow) _ (begun t list)
     ∙ booking-left (s .id) (s .q .workflow) (length (packOf (s .pack .now))) _ (m .before .if1 .left)
     (omega (arith, c .if2 .left, m .count-of .ensures, length-pack (s .pack .now)))
 
@@ -82,22 +85,24 @@ arrival-spec =
     (λ c.
     let t = c .before .before in
     let s = start t .args in
+    λ list.
     is-refused _ _ _ _ 24 0 0
-    (arrival-left _ _ (s .slot) (s .id) (s .q .workflow) _ (begun t)
+    (arrival-left _ _ (s .slot) (s .id) (s .q .workflow) _ (begun t list)
     ∙ zero-no (s .id) (s .q .workflow) (length (packOf (s .pack .now))) _ (c .before .if1 .taken)) (c .refused .ensures))
-    (λ c κs. omega (arith, accepted-laid _ (lent-pack _ _ (lent-yes (c .before))) .whole))
+    (λ c κs. omega (arith, accepted-laid _ (lent-pack _ _ (lent-yes (c .before) noWorklist)) .whole))
     (λ c κs. search needs)
     (λ c. search needs)
     (λ c.
     let m = c .before .before .before in
     let t = m .before .before in
     let s = start t .args in
+    λ list.
     is-refused _ _ _ _ 17 0 0
-    (arrival-left _ _ (s .slot) (s .id) (s .q .workflow) _ (begun t)
+    (arrival-left _ _ (s .slot) (s .id) (s .q .workflow) _ (begun t list)
     ∙ workflow-no (s .id) (s .q .workflow) (length (packOf (s .pack .now))) _ (m .before .if1 .left)
     (omega (arith, c .before .if2 .taken, m .count-of .ensures, length-pack (s .pack .now))))
     (c .refused2 .ensures))
-    (λ c κs. lent-store _ _ (lent-yes (c .before .before .before .before .before)))
+    (λ c κs. lent-store _ _ (lent-yes (c .before .before .before .before .before) noWorklist))
     (λ c. search needs)
     (λ c κs. search needs)
     (λ c κs. let k = c .before .before .before .before .before in omega (arith, below (yes-16 (k .before .before))))
@@ -115,8 +120,10 @@ arrival-spec =
     let t = yes-16 e in
     let s = start t .args in
     let yes-both = accepted-none (k .book-request .result) _ (k .book-request .ensures .answer) (y .enum-told2 .given .1) in
-    is-done _ _ _ _ _ (s .slot) (some (record { id = s .id; course = Calls.start (asked (s .q)); step = 0 })) _ _ (tidied t) (below t)
-    (later e ∙ yes-both) (arrives (stateOf (record { store = s .store .now; records = s .agents })) (s .slot) (s .id) (asked (s .q)) _
+    λ list.
+    is-done _ _ _ _ _ _ (s .slot) (some (record { id = s .id; course = Calls.start (asked (s .q)); step = 0 })) _ _ (tidied t) (below t)
+    (later e list ∙ yes-both) (arrives (stateOf (record { store = s .store .now; records = s .agents; list = list })) (s .slot) (s .id)
+    (asked (s .q)) _
     (as-booked _ (s .id) (asked (s .q)) yes-both))
     (k .book-request .ensures .written yes-both) (ap (λ (o : Outcome). Answers.answerOf (o .answer)) (c .done .ensures))
     (ap (λ (o : Outcome). o .agents) (c .done .ensures) ∙ w .with-agent .ensures
@@ -127,12 +134,14 @@ arrival-spec =
     let k = b .before .before .before .before in
     let e = k .before .before in
     let s = start (yes-16 e) .args in
-    is-unbooked _ _ _ _ _ (s .id) (asked (s .q)) (k .book-request .result) (k .book-request .ensures) (later e)
+    λ list.
+    is-unbooked _ _ _ _ _ (s .id) (asked (s .q)) (k .book-request .result) (k .book-request .ensures) (later e list)
     _ _ _ (b .b .given .1) (c .refused3 .ensures))
     (λ c. search needs)
     (λ c.
     let v = c .before .before in
     let k = v .before .before in
+    λ list.
     is-refused _ _ _ _ _ _ _
-    (arrival-stops _ _ _ _ _ _ _ (refused-some (k .check-to-16 .result) _ _ _ _ (k .check-to-16 .ensures) (v .v .given .1)))
+    (arrival-stops _ _ _ _ _ _ _ (refused-some (k .check-to-16 .result) _ _ _ _ (k .check-to-16 .ensures list) (v .v .given .1)))
     (c .refused4 .ensures)))

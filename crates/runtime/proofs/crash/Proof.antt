@@ -13,6 +13,8 @@ use Rattle.agents.specs.Slots.{recordOf, Tidy}
 use Rattle.agents.specs.Answers as Answers
 use Rattle.agents.proofs.Answers.{accepted-none, refused-some}
 use Rattle.meaning.specs.State.{stateOf}
+use Rattle.worklist.specs.declared.Worklist.{Worklist}
+use Rattle.worklist.specs.Worklist.{noWorklist}
 use Rattle.meaning.specs.Questions.{lentRefusal, firstSixteen}
 use Rattle.meaning.proofs.Asked.{lent-14}
 use Rattle.meaning.proofs.Begun.{begun-lent, begun-below, crash-stops, crash-left}
@@ -25,24 +27,25 @@ abbrev start : tie.After-enum-told → tie.Start
 start c = c .before .before .before .before .before
 
 -- 1 to 16 say yes
-begun : (c : tie.After-enum-told) →
+begun : (c : tie.After-enum-told) (list : Worklist) →
     let a = start c .args in
-    firstSixteen (a .pack .now) (record { store = a .store .now; records = a .agents }) (a .slot) true ≡ none
-begun c = let k = c .before .before in accepted-none (k .check-to-16 .result) _ (k .check-to-16 .ensures) (c .enum-told .given .1)
+    firstSixteen (a .pack .now) (record { store = a .store .now; records = a .agents; list = list }) (a .slot) true ≡ none
+begun c list = let k = c .before .before in accepted-none (k .check-to-16 .result) _ (k .check-to-16 .ensures list) (c .enum-told .given .1)
 
-lent-yes : (c : tie.After-enum-told) →
+lent-yes : (c : tie.After-enum-told) (list : Worklist) →
     let a = start c .args in
-    lentRefusal (a .pack .now) (record { store = a .store .now; records = a .agents }) ≡ none
-lent-yes c = let a = start c .args in begun-lent _ _ (a .slot) true (begun c)
+    lentRefusal (a .pack .now) (record { store = a .store .now; records = a .agents; list = list }) ≡ none
+lent-yes c list = let a = start c .args in begun-lent _ _ (a .slot) true (begun c list)
 
 below : (c : tie.After-enum-told) → start c .args .slot < 8
-below c = begun-below _ _ _ true (begun c)
+below c = begun-below _ _ _ true (begun c noWorklist)
 
 tidied : (c : tie.After-enum-told) → Tidy (start c .args .agents)
 tidied c =
     let s = start c in
-    tidy-typed (s .args .pack .now) (record { store = s .args .store .now; records = s .args .agents }) _ (s .good .1 .1 .0)
-    (lent-14 _ _ (lent-yes c))
+    tidy-typed (s .args .pack .now) (record { store = s .args .store .now; records = s .args .agents; list = noWorklist }) _
+    (s .good .1 .1 .0)
+    (lent-14 _ _ (lent-yes c noWorklist))
 
 pub crash-spec : {M : Type 1} → statement M
 unfolding stateOf recordOf Calls.rule Answers.answerOf
@@ -60,13 +63,15 @@ crash-spec =
     let w = c .before in
     let t = w .before .before in
     let s = start t .args in
-    is-done _ _ _ _ _ (s .slot) none _ _ (tidied t) (below t) (crash-left _ _ (s .slot) (begun t)) refl (wrote-nothing _)
+    λ list.
+    is-done _ _ _ _ _ _ (s .slot) none _ _ (tidied t) (below t) (crash-left _ _ (s .slot) (begun t list)) refl (wrote-nothing _)
     (ap (λ (o : Outcome). Answers.answerOf (o .answer)) (c .done .ensures))
     (ap (λ (o : Outcome). o .agents) (c .done .ensures) ∙ w .with-agent .ensures
     ∙ ap (set (s .agents) (s .slot)) (w .before .no-agent .ensures)))
     (λ c.
     let v = c .before .before in
     let k = v .before .before in
+    λ list.
     is-refused _ _ _ _ _ _ _
-    (crash-stops _ _ _ _ (refused-some (k .check-to-16 .result) _ _ _ _ (k .check-to-16 .ensures) (v .v .given .1)))
+    (crash-stops _ _ _ _ (refused-some (k .check-to-16 .result) _ _ _ _ (k .check-to-16 .ensures list) (v .v .given .1)))
     (c .refused .ensures)))

@@ -18,8 +18,9 @@ order-spec =
     (λ c.
     let k = c .before .before .before .before in
     let a = k .before .before .before .args in (
-      λ pack records.
-          order-done pack (record { store = a .store .now; records = records }) (k .order .last .0) (k .order .result) (k .order .ensures)
+      λ pack records list.
+          order-done pack (record { store = a .store .now; records = records; list = list }) (k .order .last .0) (k .order .result)
+          (k .order .ensures)
           (c .enum-told .given .1),
       λ y. k .order .ensures .made (c .enum-told .given .1),
     ))
@@ -27,8 +28,8 @@ order-spec =
     (λ c.
     let k = c .before .before .before .before .before in
     let a = k .before .before .before .args in (
-      λ pack records.
-          order-refused pack (record { store = a .store .now; records = records }) (k .order .last .0) (k .order .result)
+      λ pack records list.
+          order-refused pack (record { store = a .store .now; records = records; list = list }) (k .order .last .0) (k .order .result)
           (k .order .ensures) _ _ _ (c .before .v .given .1),
       λ y. no-yes y,
     )))

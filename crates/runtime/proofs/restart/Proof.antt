@@ -1,8 +1,11 @@
 -- `runtime::restart` meets its contract.
 use borrow.Author.Needs.{needs}
-use mathlib.Core.Path.{_∙_, ap}
+use mathlib.Core.List.{List}
+use mathlib.Core.Path.{sym, subst}
+use Rattle.agents.specs.declared.Agent.{Agent}
 use Rattle.agents.specs.declared.Answer.the-variants.{Done}
-use Rattle.agents.specs.Answers.{outcome}
+use Rattle.rules.specs.Calls as Calls
+use Rattle.meaning.specs.Carried.{Carried}
 use Rattle.meaning.proofs.Carry.{is-restart}
 use Rattle.runtime.proofs.restart.Statement.{statement}
 use Rattle.runtime.proofs.restart.Tie as tie
@@ -13,5 +16,10 @@ restart-spec =
     (tie.spec
     (λ c κs. search needs)
     (λ c κs. search needs)
-    (λ c pack store records. is-restart pack (record { store = store; records = records }) _
-    (c .done .ensures ∙ ap (outcome Done) (c .before .no-agents .ensures))))
+    (λ c pack store records.
+    subst (λ (rs : List Agent). Carried pack
+    (record { store = store; records = records; list = c .before .before .args .list }) Calls.restart Done
+    (record { store = store; records = rs; list = c .restarted .result }))
+    (sym (c .before .no-agents .ensures))
+    (is-restart pack (record { store = store; records = records; list = c .before .before .args .list }) (c .restarted .result)
+    (c .restarted .ensures))))
