@@ -9,6 +9,8 @@
  *   pack    the workflows, as document 01 lays them out; only read
  *   store   SARTHULE_STORE_BYTES(P, C) bytes for P partitions (1 to 8) of C rows (5 to 256); first filled by sarthule_create
  *   slots   SARTHULE_SLOTS_BYTES bytes, eight agent records; 384 zero bytes are eight empty slots
+ *   list    at least SARTHULE_LIST_BYTES bytes, the worklist; 132 zero bytes are an empty one. What is behind is neither
+ *           read nor written
  *   answer  SARTHULE_ANSWER_BYTES bytes (sarthule_open: SARTHULE_OPEN_BYTES, sarthule_figures: SARTHULE_FIGURES_BYTES),
  *           written by every call; what is behind stays
  *
@@ -23,6 +25,15 @@
  * Slot s starts at byte 48 * s. An empty slot is all zero. Bytes that are no record (another word 0, a word 2 or 3 that is
  * too great) are refused with 14 by every call that puts question 14, and stay as they are.
  *
+ * In `list` word 0 is the number of entries, at most 16, and each entry is two words, in the order of entry:
+ *
+ *   word 1 + 2 * i   id of the request at place i
+ *   word 2 + 2 * i   its mark, SARTHULE_MARK_WAITING (0) or SARTHULE_MARK_TAKEN (1)
+ *
+ * A call writes the number and the entries and nothing behind the last of them: what stands there is left over, and is not
+ * read. A list that is not so (a greater number, an id twice, another mark) is refused with 25 by every call that puts
+ * question 25, and stays as it is.
+ *
  * Rows. In `store` the used rows of each partition and of the book come first, by rising stored key, so log rows stand
  * before data rows; the unused rows are zero. Two stores of the same P and C with equal contents are equal bytes, whichever
  * calls led to them. An earlier library left rows in the order in which they came: such a store is put in order once, by
@@ -33,19 +44,29 @@
  *   returned              word 0     word 1     word 2
  *   SARTHULE_DONE         0          0          0
  *   SARTHULE_MOVED        0          0          0            turn only: an instruction or a whole block is done
- *   SARTHULE_REPLY        id         value      0            turn only: the workflow has ended, its slot is empty
+ *   SARTHULE_REPLY        id         value      0            turn: the workflow has ended, its slot is empty; sarthule_reply
  *   SARTHULE_REFUSED      question   workflow   instruction  workflow and instruction with 4 to 8 only, otherwise 0
+ *   SARTHULE_TAKEN        id         0          0            take only: this id was the first one waiting
+ *   SARTHULE_NOT_YET      0          0          0            sarthule_reply only: the id is not logged through
  *   SARTHULE_BAD_ANSWER   -          -          -            `answer` is too short: not even `answer` is written
  *   SARTHULE_BAD_SLOTS    -          -          -            `slots` has not 384 bytes; not even `answer` is written
+ *   SARTHULE_BAD_LIST     -          -          -            `list` has fewer than 132 bytes; not even `answer` is written
  *
- * Where a call is refused, store and slots are byte for byte as they were. The last two numbers are this library's own;
- * `answer` is looked at first.
+ * Where a call is refused, store, slots and list are byte for byte as they were. The last three numbers are this library's
+ * own, and are looked at in that sequence: `answer` first.
  *
  * Questions. The first no is the number of the refusal; sarthule_question below has them, in the order in which they are
- * put: 24 stands between 16 and 17.
+ * put: 25 to 27 stand behind 14, and 24 between 16 and 17.
  *
  * The check puts 1 to 8. Open and figures put 1 to 8 and 17. Create puts 9 and 10. Order puts 9 to 12, of 11 all but the rising keys.
- * Restart puts none. Every other call puts all of them, save those marked for calls that it isn't.
+ * Add puts 1 to 14, 25, 26 and 20; take and done put 1 to 14, 25 and 27; sarthule_reply puts 1 to 13 and 20. Restart puts none.
+ * Arrival, retry, turn and crash put 1 to 21 and 24, save those marked for calls that they aren't; none of them gets the list.
+ *
+ * The worklist. An id that is booked may be put on the list (add), so that a terminal is told it is accepted, and be finished
+ * later: a worker takes the first id that waits (take), starts an agent for it (retry), and when it has replied takes it off
+ * the list (done). Done is refused until the id is logged through: starting from the booked request, with each block's result
+ * taken from its log row, the log leads to RETURN. So no listed request vanishes before its reply can be worked out from the
+ * log (sarthule_reply). A restart, where all agents are gone, has all entries waiting again.
  */
 #ifndef SARTHULE_H
 #define SARTHULE_H
@@ -60,6 +81,8 @@ extern "C" {
 #define SARTHULE_SLOTS 8
 #define SARTHULE_SLOT_BYTES 48
 #define SARTHULE_SLOTS_BYTES 384
+#define SARTHULE_LISTED 16
+#define SARTHULE_LIST_BYTES 132
 #define SARTHULE_ANSWER_BYTES 12
 #define SARTHULE_OPEN_BYTES 28
 #define SARTHULE_FIGURES_BYTES 48
@@ -69,10 +92,17 @@ extern "C" {
 #define SARTHULE_MOVED 1u
 #define SARTHULE_REPLY 2u
 #define SARTHULE_REFUSED 3u
+#define SARTHULE_TAKEN 4u
+#define SARTHULE_NOT_YET 5u
 #define SARTHULE_BAD_ANSWER 100u
 #define SARTHULE_BAD_SLOTS 101u
+#define SARTHULE_BAD_LIST 102u
 
-/* The i-th word of 4 bytes of a buffer: of `answer`, or with i = 12 * slot + word of `slots`. */
+/* The marks of a listed id. */
+#define SARTHULE_MARK_WAITING 0u
+#define SARTHULE_MARK_TAKEN 1u
+
+/* The i-th word of 4 bytes of a buffer: of `answer`, of `list`, or with i = 12 * slot + word of `slots`. */
 static inline uint32_t sarthule_word(const uint8_t *bytes, size_t i)
 {
     return (uint32_t)bytes[4 * i] | (uint32_t)bytes[4 * i + 1] << 8 | (uint32_t)bytes[4 * i + 2] << 16
@@ -98,13 +128,16 @@ static inline const char *sarthule_question(uint32_t number)
     case 12: return "Has each booked id all five rows?";
     case 13: return "Is each booked workflow below m, each BEGIN's partition below P?";
     case 14: return "Is each slot empty or sound?";
+    case 25: return "Has the list at most 16 ids, none twice, each waiting or taken (add, take, done)?";
+    case 26: return "If the id isn't listed, are fewer than 16 listed (add)?";
+    case 27: return "Is an id waiting (take), or the id taken and logged through (done)?";
     case 15: return "Is the slot 0 to 7?";
     case 16: return "Is it empty (arrival, retry) or in use (turn, crash)?";
     case 24: return "Is the id other than 0 (arrival)?";
-    case 17: return "Is the workflow below m (arrival, opening)?";
+    case 17: return "Is the workflow below m (arrival, opening, figures)?";
     case 18: return "If the id is known, are workflow and arguments those booked (arrival)?";
     case 19: return "If it is new, are five book rows free (arrival)?";
-    case 20: return "Is the id booked (retry)?";
+    case 20: return "Is the id booked (retry, add, reply)?";
     case 21: return "Has a block that isn't logged enough free rows: one, plus one per different new key it PUTs (turn)?";
     default: return "";
     }
@@ -174,8 +207,41 @@ uint32_t sarthule_turn(const uint8_t *pack, size_t pack_len, uint8_t *store, siz
 uint32_t sarthule_crash(const uint8_t *pack, size_t pack_len, const uint8_t *store, size_t store_len, uint8_t *slots,
     size_t slots_len, size_t slot, uint8_t *answer, size_t answer_len);
 
-/* All agents are gone: 384 zero bytes. Done; it asks nothing, whatever the slots held. */
-uint32_t sarthule_restart(uint8_t *slots, size_t slots_len, uint8_t *answer, size_t answer_len);
+/*
+ * All agents are gone: 384 zero bytes, and each id of the list waits, also one that was taken. Done; it asks nothing, whatever
+ * the slots held. A list that question 25 would refuse is left as it is.
+ */
+uint32_t sarthule_restart(uint8_t *slots, size_t slots_len, uint8_t *list, size_t list_len, uint8_t *answer,
+    size_t answer_len);
+
+/*
+ * Puts a booked id at the end of the list, waiting. One that is listed changes nothing: it keeps its place and its mark. Done,
+ * or refused; 26, where a new id finds 16 listed, comes before 20.
+ */
+uint32_t sarthule_add(const uint8_t *pack, size_t pack_len, const uint8_t *store, size_t store_len, const uint8_t *slots,
+    size_t slots_len, uint8_t *list, size_t list_len, uint32_t id, uint8_t *answer, size_t answer_len);
+
+/*
+ * Gives the first id that waits, and marks it as taken. It starts no agent: a retry does. Taken, or refused; 27 where none
+ * waits.
+ */
+uint32_t sarthule_take(const uint8_t *pack, size_t pack_len, const uint8_t *store, size_t store_len, const uint8_t *slots,
+    size_t slots_len, uint8_t *list, size_t list_len, uint8_t *answer, size_t answer_len);
+
+/*
+ * Removes a taken id whose log leads through to RETURN; those behind it move up. Whether an agent of it is still in a slot is
+ * not asked. Done, or refused; 27 where the id is not listed as taken, or is not logged through.
+ */
+uint32_t sarthule_done(const uint8_t *pack, size_t pack_len, const uint8_t *store, size_t store_len, const uint8_t *slots,
+    size_t slots_len, uint8_t *list, size_t list_len, uint32_t id, uint8_t *answer, size_t answer_len);
+
+/*
+ * The reply of a booked id, worked out from the log alone: what every agent of it replies, and what a retry would have it reply
+ * again. Listed or not, with an agent or without. Reply, not yet where the log does not lead through to RETURN, or refused. It
+ * changes nothing but `answer`.
+ */
+uint32_t sarthule_reply(const uint8_t *pack, size_t pack_len, const uint8_t *store, size_t store_len, uint32_t id,
+    uint8_t *answer, size_t answer_len);
 
 #ifdef __cplusplus
 }

@@ -1,6 +1,6 @@
 //! Generated single calls and lists of calls on any bytes, done by the library through its C interface and by the reference.
 
-use crate::sides::{answer, bytes, library_figures, Lent, NO_FIGURES};
+use crate::sides::{answer, bytes, is_list, library_figures, list_bytes, Lent, NO_FIGURES};
 use reference::cases::{self, CallCase, Case, ListCase, Order, Performed};
 use reference::generate;
 use reference::refusal::QUESTIONS;
@@ -30,6 +30,7 @@ fn ours(case: &CallCase, lent: &mut Lent) -> (sarthule::Answer, Beside) {
         Order::Create { partitions, rows } => {
             (sarthule::create(&mut lent.store, partitions as usize, rows as usize), none)
         }
+        Order::Reply { id } => (sarthule::reply(&lent.pack, &lent.store, id), none),
         Order::Call(call) => (lent.perform(&call), none),
     }
 }
@@ -37,9 +38,13 @@ fn ours(case: &CallCase, lent: &mut Lent) -> (sarthule::Answer, Beside) {
 /// What differs between the two, if anything does: the store byte for byte, since rows stand by rising key. Where a call is refused,
 /// nothing lent may have changed.
 fn difference(case: &CallCase) -> Option<&'static str> {
-    let mut lent = Lent { pack: case.pack.clone(), store: case.store.clone(), slots: bytes(&case.slots) };
+    let given = list_bytes(&case.list.clone().unwrap_or_default());
+    let (pack, store) = (case.pack.clone(), case.store.clone());
+    let mut lent = Lent { pack, store, slots: bytes(&case.slots), list: given };
     let (found, (parts, figures)) = ours(case, &mut lent);
-    let Performed { outcome, opened, figures: counted, store, slots } = case.perform();
+    let Performed { outcome, opened, figures: counted, store, slots, list } = case.perform();
+    let list = list.unwrap_or_default();
+    let behind = 4 + 8 * list.entries.len().min(sarthule::LISTED);
     let expected = opened.map_or(Parts::default(), |part| (part.operations.to_vec(), part.operands.to_vec()));
     let refused = matches!(found, sarthule::Answer::Refused { .. });
     let tests = [
@@ -48,7 +53,10 @@ fn difference(case: &CallCase) -> Option<&'static str> {
         ("the figures", figures == library_figures(counted)),
         ("the store", lent.store == store),
         ("the slots", lent.slots == bytes(&slots)),
+        ("the list", is_list(&lent.list, &list)),
+        ("what stands behind the list", lent.list[behind..] == given[behind..]),
         ("what a refusal leaves", !refused || (lent.store == case.store && lent.slots == bytes(&case.slots))),
+        ("the list that a refusal leaves", !refused || lent.list == given),
         ("the pack", lent.pack == case.pack),
     ];
     tests.iter().find(|(_, same)| !same).map(|(what, _)| *what)
@@ -56,13 +64,15 @@ fn difference(case: &CallCase) -> Option<&'static str> {
 
 /// The same of a list of calls: the answer of each, and what the last one left.
 fn list_difference(list: &ListCase) -> Option<&'static str> {
-    let mut lent = Lent { pack: list.pack.clone(), store: list.store.clone(), slots: bytes(&list.slots) };
+    let (pack, store) = (list.pack.clone(), list.store.clone());
+    let mut lent = Lent { pack, store, slots: bytes(&list.slots), list: list_bytes(&list.list) };
     let found: Vec<_> = list.calls.iter().map(|call| lent.perform(call)).collect();
     let expected = list.perform();
     let tests = [
         ("an answer", found == expected.outcomes.into_iter().map(answer).collect::<Vec<_>>()),
         ("the store", lent.store == expected.store),
         ("the slots", lent.slots == bytes(&expected.slots)),
+        ("the list", is_list(&lent.list, &expected.list)),
         ("the pack", lent.pack == list.pack),
     ];
     tests.iter().find(|(_, same)| !same).map(|(what, _)| *what)

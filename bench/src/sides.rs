@@ -2,7 +2,7 @@
 
 use crate::inputs::State;
 use reference::figures::figures;
-use reference::{Answer, Call, Refusal, Slots};
+use reference::{Answer, Call, Refusal, Slots, Worklist};
 
 /// The slots' bytes, as the library has them.
 pub fn bytes(slots: &Slots) -> sarthule::Slots {
@@ -16,26 +16,46 @@ pub fn bytes(slots: &Slots) -> sarthule::Slots {
     out
 }
 
-/// The library's state: the same but for the slots.
+/// The worklist's bytes, as the library has them: the number of entries, and the first 16 of them.
+pub fn list_bytes(list: &Worklist) -> sarthule::List {
+    let mut out = sarthule::NONE_LISTED;
+    let entries = list.entries.iter().flat_map(|entry| [entry.id, u32::from(entry.mark)]);
+    let words = std::iter::once(list.entries.len() as u32).chain(entries);
+    for (word, n) in out.chunks_mut(4).zip(words) {
+        word.copy_from_slice(&n.to_le_bytes());
+    }
+    out
+}
+
+/// Whether the library's bytes are this list; what stands behind its last entry may be left over.
+pub fn is_list(found: &sarthule::List, list: &Worklist) -> bool {
+    let bytes = 4 + 8 * list.entries.len().min(sarthule::LISTED);
+    found[..bytes] == list_bytes(list)[..bytes]
+}
+
+/// The library's state: the same but for the slots and the worklist.
 #[derive(Clone)]
 pub struct Lent {
     pub pack: Vec<u8>,
     pub store: Vec<u8>,
     pub slots: sarthule::Slots,
+    pub list: sarthule::List,
 }
 
 impl Lent {
     pub fn of(state: &State) -> Self {
-        Self { pack: state.pack.clone(), store: state.store.clone(), slots: bytes(&state.slots) }
+        let (pack, store) = (state.pack.clone(), state.store.clone());
+        Self { pack, store, slots: bytes(&state.slots), list: sarthule::NONE_LISTED }
     }
 
     pub fn reset(&mut self, from: &Self) {
         self.store.copy_from_slice(&from.store);
         self.slots = from.slots;
+        self.list = from.list;
     }
 
     pub fn perform(&mut self, call: &Call) -> sarthule::Answer {
-        let (pack, store, slots) = (&self.pack, &mut self.store, &mut self.slots);
+        let (pack, store, slots, list) = (&self.pack, &mut self.store, &mut self.slots, &mut self.list);
         match *call {
             Call::Arrival { slot, request } => {
                 let request =
@@ -45,8 +65,11 @@ impl Lent {
             Call::Retry { slot, id } => sarthule::retry(pack, store, slots, slot as usize, id),
             Call::Turn { slot } => sarthule::turn(pack, store, slots, slot as usize),
             Call::Crash { slot } => sarthule::crash(pack, store, slots, slot as usize),
-            Call::Restart => sarthule::restart(slots),
+            Call::Restart => sarthule::restart(slots, list),
             Call::PutInOrder => sarthule::order(store),
+            Call::Add { id } => sarthule::add(pack, store, slots, list, id),
+            Call::Take => sarthule::take(pack, store, slots, list),
+            Call::Done { id } => sarthule::done(pack, store, slots, list, id),
         }
     }
 }
@@ -90,6 +113,8 @@ pub fn answer(outcome: Result<Answer, Refusal>) -> sarthule::Answer {
         Ok(Answer::Done) => sarthule::Answer::Done,
         Ok(Answer::Moved) => sarthule::Answer::Moved,
         Ok(Answer::Reply { id, value }) => sarthule::Answer::Reply { id, value },
+        Ok(Answer::Taken { id }) => sarthule::Answer::Taken { id },
+        Ok(Answer::NotYet) => sarthule::Answer::NotYet,
         Err(no) => sarthule::Answer::Refused {
             question: u32::from(no.question),
             workflow: no.workflow as u32,

@@ -4,7 +4,7 @@
 older.py STOCK FILE [SEED]: each older file is made from one of the host's own by moving rows, keys and values, within their partitions.
 The first move or retry on it must put exactly the same rows in order, say so once, and go on as with the file that was in order, byte for
 byte. `show` must print the same and write nothing. A file in order must not be written by opening it, and nothing said. A store that is
-wrong in another way must be refused by its question, and its file stay as it is.
+wrong in another way must be refused by its question, by each command, and its file stay as it is.
 """
 import os
 import random
@@ -93,7 +93,8 @@ def check_older(older, ordered, shown, moved):
 
 def check_wrong(name, data, number):
     stand(data)
-    for words in (("move", "1", "6", "2", "--id", "7"), ("retry", "8"), ("show",)):
+    request = ("1", "6", "2", "--id", "7")
+    for words in (("move", *request), ("accept", *request), ("work",), ("retry", "8"), ("reply", "8"), ("show",)):
         assert host(*words) == (1, "", refused(number)) and content() == data, f"{name}, {words[0]}"
 
 
@@ -130,7 +131,7 @@ wrong = 0
 for data in (ordered, reversed_rows):
     for name, bad, number in (
         ("no partition", b"\0" + data[1:], 9),
-        ("a byte too few", data[:-store.SLOTS - 1] + data[-store.SLOTS:], 10),
+        ("a byte too few", data[:-store.BEHIND - 1] + data[-store.BEHIND:], 10),
         ("a key twice, side by side", store.older(data, key_twice(3, 4)), 11),
         ("a key twice, apart", store.older(data, key_twice(0, 9)), 11),
         ("a used count above C", data[:3] + b"\x21\0" + data[5:], 11),

@@ -1,25 +1,40 @@
-"""A host's file taken apart and put together: the rows of each partition and of the book as they stand, and the slots behind them."""
+"""A host's file taken apart and put together: the rows of each partition and of the book as they stand, and behind them the slots and
+the worklist."""
 import struct
 
-SLOTS = 384
+SLOTS, LIST = 384, 132
+BEHIND = SLOTS + LIST
+MARKS = ("waiting", "taken")
 
 
 def take_apart(data):
-    """C, for each partition and then the book its rows (stored key, value), and the slots."""
+    """C, for each partition and then the book its rows (stored key, value), and what is behind the store: slots and list."""
     p, c = struct.unpack_from("<BH", data)
     used = struct.unpack_from(f"<{p + 1}H", data, 3)
     keys = struct.unpack_from(f"<{c * (p + 1)}Q", data, 3 + 2 * (p + 1))
     values = struct.unpack_from(f"<{c * (p + 1)}I", data, 3 + 2 * (p + 1) + 8 * c * (p + 1))
     rows = list(zip(keys, values))
-    return c, [rows[i * c:i * c + n] for i, n in enumerate(used)], data[-SLOTS:]
+    return c, [rows[i * c:i * c + n] for i, n in enumerate(used)], data[-BEHIND:]
 
 
-def put_together(c, parts, slots):
+def listed(data):
+    """The worklist's entries, (id, mark) in order of entry."""
+    number, *words = struct.unpack("<33I", data[-LIST:])
+    return list(zip(words[0:2 * number:2], words[1:2 * number:2]))
+
+
+def agents(data):
+    """The ids of the agents in the slots."""
+    records = struct.iter_unpack("<12I", data[-BEHIND:-LIST])
+    return [record[1] for record in records if record[0] == 1]
+
+
+def put_together(c, parts, behind):
     """The bytes of such a file, the rows in the order in which they are given."""
     head = struct.pack("<BH", len(parts) - 1, c) + b"".join(struct.pack("<H", len(rows)) for rows in parts)
     keys = b"".join(b"".join(struct.pack("<Q", key) for key, _ in rows).ljust(8 * c, b"\0") for rows in parts)
     values = b"".join(b"".join(struct.pack("<I", value) for _, value in rows).ljust(4 * c, b"\0") for rows in parts)
-    return head + keys + values + slots
+    return head + keys + values + behind
 
 
 def sums(data):
@@ -36,13 +51,13 @@ def sums(data):
 
 def in_order(data):
     """The only bytes that a file of this contents has now."""
-    c, parts, slots = take_apart(data)
-    return put_together(c, [sorted(rows) for rows in parts], slots)
+    c, parts, behind = take_apart(data)
+    return put_together(c, [sorted(rows) for rows in parts], behind)
 
 
 def older(data, change):
     """The same contents as an earlier library may have left them: `change` is given each partition's number and rows, and moves them."""
-    c, parts, slots = take_apart(data)
+    c, parts, behind = take_apart(data)
     for number, rows in enumerate(parts):
         change(number, rows)
-    return put_together(c, parts, slots)
+    return put_together(c, parts, behind)

@@ -31,7 +31,7 @@ def made(booked, under_way, through):
     for ident, amount in sorted({**booked, **under_way, **through}.items()):
         book += [(8 * ident + j, word) for j, word in enumerate((0, SHELF, SHELF, amount, 0))]
     parts = [moved({**under_way, **through}, 0, -1), moved(through, 1, 1), [], book]
-    return store.put_together(C, parts, bytes(store.SLOTS))
+    return store.put_together(C, parts, bytes(store.BEHIND))
 
 
 def one_higher(part):

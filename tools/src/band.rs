@@ -1,14 +1,16 @@
-//! One band of the picture: the lanes with bars and marks, and the row counts below them.
+//! One band of the picture: the lanes with bars and marks, the worklist, and the row counts below them.
 
 use crate::layout::{AXIS, BAR_MIDDLE, EMPTY_LANE, LANE, LEFT, RIGHT, STRIP};
 use crate::lives::{End, Life};
 use crate::marks::{self, Mark};
 use crate::picture::{Drawing, MARGIN, NORMAL, SMALL};
 use crate::questions::question;
-use crate::schedule::{partition_name, Kind};
-use crate::show::event_words;
+use crate::schedule::partition_name;
+use crate::stays::{mark_words, Stay};
 use crate::svg::{text_width, Anchor};
-use crate::trace::{Happened, Step};
+use crate::trace::{Happened, Source, Step};
+use reference::worklist::TAKEN;
+use reference::Call;
 
 /// How far a bar reaches from the middle of its first and last cell.
 const REACH: f64 = 11.5;
@@ -17,8 +19,10 @@ impl Drawing<'_> {
     /// The events of one band, drawn from the back to the front.
     pub fn band(&mut self, first: usize, last: usize) {
         self.lanes(last);
+        self.listed_lanes(last);
         self.axis(first, last);
         self.bars(first, last);
+        self.stays(first, last);
         self.restart_lines(first, last);
         for number in first..last {
             self.mark(number);
@@ -56,7 +60,8 @@ impl Drawing<'_> {
                 .text("soft", (middle, y), SMALL, Anchor::Middle, &words);
         }
         let at = (LEFT - 8.0, y);
-        self.svg.text("soft", at, SMALL, Anchor::End, "event");
+        self.svg
+            .text("soft", at, SMALL, Anchor::End, self.run.source.noun());
     }
 
     /// The right edge of an event's cell.
@@ -78,7 +83,7 @@ impl Drawing<'_> {
 
     /// The part of a life that is in a band, its name above, its reply below.
     fn bar(&mut self, life: &Life, first: usize, last: usize, next: Option<usize>) {
-        let starts_here = life.first >= first;
+        let starts_here = life.first >= first && !life.from_before;
         let ends_here = life.last < last && life.end != End::Open;
         let (begin, end) = (life.first.max(first), life.last.min(last - 1));
         let left = match starts_here {
@@ -91,7 +96,7 @@ impl Drawing<'_> {
             _ => self.layout.middle(end) + REACH,
         };
         let (ends, closed) = ((left, right), (starts_here, ends_here));
-        let top = self.y + self.layout.lane(life.slot).top;
+        let top = self.y + self.layout.lane(Some(life.slot)).top;
         self.svg.open(&self.life_words(life));
         marks::bar(&mut self.svg, life.request, ends, top + BAR_MIDDLE, closed);
         let edge = self.right_of(last - 1) + RIGHT;
@@ -124,11 +129,15 @@ impl Drawing<'_> {
             End::Reply { id, value } => format!("reply {id} {value}"),
             End::Crash => "crash".to_string(),
             End::Restart => "restart".to_string(),
-            End::Open => "end of the schedule".to_string(),
+            End::Open => match self.run.source {
+                Source::Schedule => "end of the schedule".to_string(),
+                Source::Calls => "end of the list".to_string(),
+            },
         };
         let (name, workflow, id) = (&named.name, &named.workflow, named.request.id);
+        let noun = self.run.source.noun();
         format!(
-            "{name}: {workflow}, id {id}, events {} to {}, {end}",
+            "{name}: {workflow}, id {id}, {noun}s {} to {}, {end}",
             life.first, life.last
         )
     }
@@ -149,16 +158,64 @@ impl Drawing<'_> {
         }
     }
 
+    /// The lanes of the worklist, one for each id.
+    fn listed_lanes(&mut self, last: usize) {
+        let right = self.right_of(last - 1);
+        for (place, id) in self.layout.listed.clone().into_iter().enumerate() {
+            let middle = self.y + self.layout.listed_middle(id);
+            if place == 0 {
+                let words = "worklist: each id from its entry until it is done";
+                let at = (LEFT, middle - 15.0);
+                self.svg.text("soft", at, SMALL, Anchor::Start, words);
+            }
+            self.svg
+                .rect("lane", (LEFT, middle - 9.0), (right - LEFT, 18.0));
+            let label = format!("id {id}");
+            let size = fit(&label, LEFT - 14.0, NORMAL);
+            let at = (LEFT - 8.0, middle + 4.0);
+            self.svg.text("plain", at, size, Anchor::End, &label);
+        }
+    }
+
+    fn stays(&mut self, first: usize, last: usize) {
+        for stay in self.stays.clone() {
+            if stay.first.is_none_or(|number| number < last)
+                && stay.last.is_none_or(|number| number >= first)
+            {
+                self.stay(&stay, first, last);
+            }
+        }
+    }
+
+    /// The part of a stay that is in a band, from the middle of a cell to that of another.
+    fn stay(&mut self, stay: &Stay, first: usize, last: usize) {
+        let starts_here = stay.first.filter(|&number| number >= first);
+        let ends_here = stay.last.filter(|&number| number < last);
+        let left = starts_here.map_or(LEFT, |number| self.layout.middle(number));
+        let right = match ends_here {
+            Some(number) => self.layout.middle(number),
+            None => self.right_of(last - 1),
+        };
+        let mut requests = self.run.requests.iter();
+        let request = requests.position(|named| named.request.id == stay.id);
+        let taken = (stay.mark == TAKEN).then_some(request.unwrap_or(0));
+        let middle = self.y + self.layout.listed_middle(stay.id);
+        self.svg.open(&stay_words(stay));
+        marks::listed_bar(&mut self.svg, taken, (left, right), middle);
+        self.svg.close();
+    }
+
     fn restarts(&self, first: usize, last: usize) -> Vec<usize> {
-        let restart = |&number: &usize| self.run.steps[number].event.kind == Kind::Restart;
+        let restart = |&number: &usize| self.run.steps[number].call == Call::Restart;
         (first..last).filter(restart).collect()
     }
 
-    /// A restart goes through all lanes.
+    /// A restart goes through all lanes, and the worklist.
     fn restart_lines(&mut self, first: usize, last: usize) {
-        let (top, bottom) = (self.y + AXIS, self.y + self.layout.lanes_end());
+        let (top, bottom) = (self.y + AXIS, self.y + self.layout.listed_end());
+        let noun = self.run.source.noun();
         for number in self.restarts(first, last) {
-            self.svg.open(&format!("event {number}: restart"));
+            self.svg.open(&format!("{noun} {number}: restart"));
             marks::restart(&mut self.svg, self.layout.middle(number), top, bottom);
             self.svg.close();
         }
@@ -169,24 +226,18 @@ impl Drawing<'_> {
         let Some(mark) = mark_of(step) else {
             return;
         };
-        let top = self.y + self.layout.lane(step.event.slot as usize).top;
+        let middle = match step.listed_id() {
+            Some(id) => self.layout.listed_middle(id),
+            None => self.layout.lane(step.slot()).top + BAR_MIDDLE,
+        };
+        let at = (self.layout.middle(number), self.y + middle);
         self.svg.open(&self.step_words(number));
-        marks::draw(
-            &mut self.svg,
-            mark,
-            (self.layout.middle(number), top + BAR_MIDDLE),
-        );
+        marks::draw(&mut self.svg, mark, at);
         self.svg.close();
     }
 
     fn step_words(&self, number: usize) -> String {
         let step = &self.run.steps[number];
-        let names: Vec<String> = self
-            .run
-            .requests
-            .iter()
-            .map(|named| named.name.clone())
-            .collect();
         let answer = match step.happened {
             Happened::Done => "done".to_string(),
             Happened::Moved => "moved".to_string(),
@@ -195,14 +246,13 @@ impl Drawing<'_> {
                 format!("moved, block taken from the log of partition {partition}")
             }
             Happened::Replied { id, value } => format!("reply {id} {value}"),
+            Happened::Taken(id) => format!("taken {id}"),
             Happened::Refused(question_number) => {
                 format!("refused {question_number}: {}", question(question_number))
             }
         };
-        format!(
-            "event {number}: {}: {answer}",
-            event_words(&step.event, &names)
-        )
+        let noun = self.run.source.noun();
+        format!("{noun} {number}: {}: {answer}", step.words)
     }
 
     /// The used rows of each partition and of the book.
@@ -258,18 +308,35 @@ impl Drawing<'_> {
 }
 
 fn mark_of(step: &Step) -> Option<Mark> {
-    match (step.happened, step.event.kind) {
+    match (step.happened, step.call) {
         (Happened::Refused(number), _) => Some(Mark::Refusal(number)),
         (Happened::Moved, _) => Some(Mark::Move),
         (Happened::Ran(partition), _) => Some(Mark::Ran(partition)),
         (Happened::Logged(partition), _) => Some(Mark::Logged(partition)),
         (Happened::Replied { .. }, _) => Some(Mark::Reply),
-        (Happened::Done, Kind::Arrival) => Some(Mark::Arrival),
-        (Happened::Done, Kind::Retry) => Some(Mark::Retry),
-        (Happened::Done, Kind::Crash) => Some(Mark::Crash),
+        (Happened::Taken(_), _) => Some(Mark::Take),
+        (Happened::Done, Call::Arrival { .. }) => Some(Mark::Arrival),
+        (Happened::Done, Call::Retry { .. }) => Some(Mark::Retry),
+        (Happened::Done, Call::Crash { .. }) => Some(Mark::Crash),
+        (Happened::Done, Call::Add { .. }) => Some(Mark::Add),
+        (Happened::Done, Call::Done { .. }) => Some(Mark::Done),
+        (Happened::Done, Call::PutInOrder) => Some(Mark::Order),
         // A restart has no lane of its own and is drawn through all of them.
         (Happened::Done, _) => None,
     }
+}
+
+fn stay_words(stay: &Stay) -> String {
+    let from = match stay.first {
+        Some(number) => format!("from call {number}"),
+        None => "from before the list".to_string(),
+    };
+    let until = match stay.last {
+        Some(number) => format!("until call {number}"),
+        None => "until the end of the list".to_string(),
+    };
+    let mark = mark_words(stay.mark);
+    format!("id {}: {mark} {from} {until}", stay.id)
 }
 
 /// The size at which a text has room.

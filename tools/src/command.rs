@@ -2,7 +2,7 @@
 
 use crate::fault::{whole, Fault, No};
 use crate::folder::{assemble_file, load, plan_file, read_bytes, write};
-use crate::{disassemble, figures, names, pack, picture, program, schedule, show, trace};
+use crate::{calls, disassemble, figures, names, pack, picture, program, schedule, show, trace};
 use std::io::Write;
 use std::path::{Path, PathBuf};
 
@@ -13,6 +13,7 @@ wf plan FILE -o schedule.bin [--pack FILE]    a schedule text to a schedule
 wf show schedule.bin [-o FILE] [--pack FILE]  a schedule to its text
 wf run FOLDER                                 the proved program's output, with names
 wf trace FOLDER -o run.svg                    a picture of a run
+wf calls FILE -o calls.svg [--case N]         a picture of a list of calls, with its worklist
 wf figures FOLDER                             the most turns and rows of each workflow, and the C that suffices
 ";
 
@@ -25,6 +26,7 @@ struct Options {
     subject: Option<PathBuf>,
     output: Option<PathBuf>,
     pack: Option<PathBuf>,
+    case: Option<PathBuf>,
 }
 
 /// Does what the arguments say and gives the exit status.
@@ -64,7 +66,7 @@ fn allowed(word: &str) -> Option<(bool, bool, bool)> {
         "plan" => Some((true, true, true)),
         "show" => Some((false, true, true)),
         "run" => Some((false, false, false)),
-        "trace" => Some((true, true, false)),
+        "trace" | "calls" => Some((true, true, false)),
         "figures" => Some((false, false, false)),
         _ => None,
     }
@@ -80,6 +82,7 @@ fn options(word: &str, rest: &[String]) -> Result<Options, String> {
         let place = match argument.as_str() {
             "-o" if may_output => &mut options.output,
             "--pack" if may_pack => &mut options.pack,
+            "--case" if word == "calls" => &mut options.case,
             text if text.starts_with('-') => {
                 return Err(format!("found {text}, which {word} does not take"))
             }
@@ -91,9 +94,10 @@ fn options(word: &str, rest: &[String]) -> Result<Options, String> {
                 continue;
             }
         };
-        let value = rest
-            .next()
-            .ok_or(format!("found nothing behind {argument}, expected a file"))?;
+        let value = rest.next().ok_or(format!(
+            "found nothing behind {argument}, expected {}",
+            of(argument)
+        ))?;
         *place = Some(PathBuf::from(value));
     }
     if options.subject.is_none() {
@@ -105,6 +109,14 @@ fn options(word: &str, rest: &[String]) -> Result<Options, String> {
         return Err(format!("found no -o, expected where {word} writes"));
     }
     Ok(options)
+}
+
+/// What stands behind an option.
+fn of(option: &str) -> &'static str {
+    match option {
+        "--case" => "the number of a case",
+        _ => "a file",
+    }
 }
 
 fn perform(word: &str, options: &Options) -> Result<(), Vec<Fault>> {
@@ -122,6 +134,7 @@ fn perform(word: &str, options: &Options) -> Result<(), Vec<Fault>> {
         "show" => shown(subject, &pack_names(options)?.unwrap_or_default())?.into_bytes(),
         "run" => run(subject, program::find())?.into_bytes(),
         "figures" => counted(subject)?.into_bytes(),
+        "calls" => called(subject, options.case.as_deref())?.into_bytes(),
         _ => traced(subject)?.into_bytes(),
     };
     deliver(options.output.as_deref(), &bytes)
@@ -169,6 +182,22 @@ fn traced(path: &Path) -> Result<String, Vec<Fault>> {
     let folder = load(path)?;
     let run = trace::trace(&folder).map_err(|noes| bytes_faults(path, noes))?;
     Ok(picture::picture(&title(path), &run))
+}
+
+/// The picture of a list of calls in a file of cases.
+fn called(path: &Path, case: Option<&Path>) -> Result<String, Vec<Fault>> {
+    let file = path.display().to_string();
+    let number = |case: &Path| {
+        let text = case.display().to_string();
+        let problem = format!("found --case {text}, expected the number of a case");
+        text.parse().map_err(|_| vec![whole(&file, &problem)])
+    };
+    let asked = case.map(number).transpose()?;
+    let found = calls::find(&read_bytes(path)?, asked);
+    let (number, list) = found.map_err(|problem| vec![whole(&file, &problem)])?;
+    let run = calls::run(&list).map_err(|noes| bytes_faults(path, noes))?;
+    let name = format!("{}, case {number}", title(path));
+    Ok(picture::picture(&name, &run))
 }
 
 /// The figures of a folder; what they warn of is said, and is no fault.

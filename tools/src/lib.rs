@@ -1,8 +1,9 @@
-//! Packs and schedules of the workflow runtime as text, runs with names, pictures of runs.
+//! Packs and schedules of the workflow runtime as text, runs with names, pictures of runs and of lists of calls.
 //! The words are those of document 01.
 
 pub mod assemble;
 pub mod band;
+pub mod calls;
 pub mod command;
 pub mod disassemble;
 pub mod fault;
@@ -21,6 +22,7 @@ pub mod questions;
 pub mod scan;
 pub mod schedule;
 pub mod show;
+pub mod stays;
 pub mod svg;
 pub mod trace;
 pub mod words;

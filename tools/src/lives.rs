@@ -1,7 +1,7 @@
 //! The agents' lives in a run: who is in which slot from when to when.
 
-use crate::schedule::Kind;
 use crate::trace::{Happened, Run, Step};
+use reference::Call;
 
 /// How a life ended.
 #[derive(Clone, Copy, Debug, PartialEq, Eq)]
@@ -12,15 +12,17 @@ pub enum End {
     },
     Crash,
     Restart,
-    /// The schedule ended first.
+    /// The run ended first.
     Open,
 }
 
-/// One agent's life: its slot, the request that it works for, its first and last event.
+/// One agent's life: its slot, the request that it works for, its first and last event or call.
 #[derive(Clone, Debug, PartialEq, Eq)]
 pub struct Life {
     pub slot: usize,
     pub request: usize,
+    /// Whether the agent was there before the run.
+    pub from_before: bool,
     pub first: usize,
     pub last: usize,
     pub end: End,
@@ -28,22 +30,18 @@ pub struct Life {
 
 /// All lives, in the order in which they ended.
 pub fn lives(run: &Run) -> Vec<Life> {
-    let mut running: [Option<Life>; 16] = Default::default();
+    let mut running: [Option<Life>; 8] = Default::default();
+    for &(slot, request) in &run.agents_before {
+        running[slot] = Some(begun(slot, request, true, 0));
+    }
     let mut ended = Vec::new();
     for (number, step) in run.steps.iter().enumerate() {
-        let slot = step.event.slot as usize;
-        if matches!(step.happened, Happened::Refused(_)) {
+        if step.is_refused() {
             continue;
         }
-        if step.event.kind.names_request() {
-            let request = booked(run, step.event.request as usize, number);
-            running[slot] = Some(Life {
-                slot,
-                request,
-                first: number,
-                last: number,
-                end: End::Open,
-            });
+        if let (Some(slot), Some(named)) = (step.slot(), step.request) {
+            let request = booked(run, named, number);
+            running[slot] = Some(begun(slot, request, false, number));
         }
         for life in running.iter_mut() {
             let end = life.as_ref().and_then(|life| end_of(life, step));
@@ -66,11 +64,22 @@ pub fn lives(run: &Run) -> Vec<Life> {
     ended
 }
 
+fn begun(slot: usize, request: usize, from_before: bool, first: usize) -> Life {
+    Life {
+        slot,
+        request,
+        from_before,
+        first,
+        last: first,
+        end: End::Open,
+    }
+}
+
 fn end_of(life: &Life, step: &Step) -> Option<End> {
-    let here = life.slot == step.event.slot as usize;
-    match (step.event.kind, step.happened) {
-        (Kind::Restart, _) => Some(End::Restart),
-        (Kind::Crash, _) if here => Some(End::Crash),
+    let here = step.slot() == Some(life.slot);
+    match (step.call, step.happened) {
+        (Call::Restart, _) => Some(End::Restart),
+        (Call::Crash { .. }, _) if here => Some(End::Crash),
         (_, Happened::Replied { id, value }) if here => Some(End::Reply { id, value }),
         _ => None,
     }
@@ -79,10 +88,8 @@ fn end_of(life: &Life, step: &Step) -> Option<End> {
 /// The request that booked an id: a retry may name another one with the same id.
 fn booked(run: &Run, named: usize, before: usize) -> usize {
     let id = run.requests[named].request.id;
-    let accepted = run.steps[..before]
-        .iter()
-        .filter(|step| step.happened == Happened::Done);
-    let mut arrivals = accepted.filter(|step| step.event.kind == Kind::Arrival);
-    let first = arrivals.find(|step| run.requests[step.event.request as usize].request.id == id);
-    first.map_or(named, |step| step.event.request as usize)
+    let mut accepted = run.steps[..before].iter().filter(|step| !step.is_refused());
+    let first = accepted
+        .find(|step| matches!(step.call, Call::Arrival { request, .. } if request.id == id));
+    first.and_then(|step| step.request).unwrap_or(named)
 }

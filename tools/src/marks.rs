@@ -14,6 +14,12 @@ pub enum Mark {
     Refusal(u32),
     Restart,
     Life,
+    Waiting,
+    Taken,
+    Add,
+    Take,
+    Done,
+    Order,
 }
 
 /// The marks and their words, as the legend has them.
@@ -29,6 +35,22 @@ pub const LEGEND: [(Mark, &str); 10] = [
     (Mark::Refusal(16), "refused, with its number"),
     (Mark::Restart, "restart"),
 ];
+
+/// What a list of calls has beside them.
+pub const CALLS_LEGEND: [(Mark, &str); 6] = [
+    (Mark::Waiting, "an id waiting on the worklist"),
+    (Mark::Taken, "an id taken by a worker"),
+    (Mark::Add, "add"),
+    (Mark::Take, "take"),
+    (Mark::Done, "done, the id is removed"),
+    (Mark::Order, "store put in order"),
+];
+
+pub const CALLS_STYLE: &str = "\
+.waiting{fill:#fff}
+.wait{stroke:#4a4a4a;stroke-width:1.2;stroke-dasharray:2.5 2.5}
+.stroke{stroke:#1a1a1a;stroke-width:2.4;stroke-linecap:round}
+";
 
 pub const STYLE: &str = "\
 text{fill:#1a1a1a}
@@ -93,7 +115,36 @@ pub fn draw(svg: &mut Svg, mark: Mark, at: (f64, f64)) {
         }
         Mark::Restart => restart(svg, at.0, at.1 - 8.0, at.1 + 8.0),
         Mark::Life => bar(svg, 0, (at.0 - 12.0, at.0 + 12.0), at.1, (true, false)),
+        Mark::Waiting => listed_bar(svg, None, (at.0 - 12.0, at.0 + 12.0), at.1),
+        Mark::Taken => listed_bar(svg, Some(0), (at.0 - 12.0, at.0 + 12.0), at.1),
+        Mark::Add => strokes(svg, at, &[(-6.0, 0.0, 6.0, 0.0), (0.0, -6.0, 0.0, 6.0)]),
+        Mark::Take => svg.path("dark", at, &[(-6.5, 5.5), (0.0, -6.5), (6.5, 5.5)], true),
+        Mark::Done => strokes(svg, at, &[(-6.0, 0.0, -1.5, 5.0), (-1.5, 5.0, 7.0, -6.0)]),
+        Mark::Order => {
+            let lines = [-5.0, 0.0, 5.0].map(|down| (-7.0, down, 1.0 + down, down));
+            strokes(svg, at, &lines);
+        }
     }
+}
+
+/// Thick lines, each from a point to another by their distance from an origin.
+fn strokes(svg: &mut Svg, origin: (f64, f64), lines: &[(f64, f64, f64, f64)]) {
+    for (left, top, right, bottom) in lines {
+        let from = (origin.0 + left, origin.1 + top);
+        svg.line("stroke", from, (origin.0 + right, origin.1 + bottom));
+    }
+}
+
+/// The time of an id on the worklist: filled while it is taken, empty with a broken edge while it waits.
+pub fn listed_bar(svg: &mut Svg, taken: Option<usize>, ends: (f64, f64), middle: f64) {
+    let ((left, right), (top, bottom)) = (ends, (middle - 6.0, middle + 6.0));
+    let (fill, edge) = match taken {
+        Some(colour) => (format!("c{}", colour % 6), "bar"),
+        None => ("waiting".to_string(), "wait"),
+    };
+    svg.rect(&fill, (left, top), (right - left, bottom - top));
+    svg.line(edge, (left, top), (right, top));
+    svg.line(edge, (left, bottom), (right, bottom));
 }
 
 fn square(svg: &mut Svg, class: &str, digit: &str, at: (f64, f64), partition: u32) {

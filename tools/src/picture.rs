@@ -1,12 +1,13 @@
-//! A picture of a run: its title, legend and lists around the bands of events.
+//! A picture of a run: its title, legend and lists around the bands of events or calls.
 
 use crate::layout::Layout;
 use crate::lives::{lives, Life};
-use crate::marks::{self, Mark, LEGEND, STYLE};
+use crate::marks::{self, Mark, CALLS_LEGEND, CALLS_STYLE, LEGEND, STYLE};
 use crate::questions::question;
 use crate::schedule::partition_name;
+use crate::stays::{stays, Stay};
 use crate::svg::{text_width, Anchor, Svg};
-use crate::trace::{Happened, Named, Run};
+use crate::trace::{Happened, Named, Run, Source};
 use std::collections::BTreeSet;
 
 /// Sizes of the letters.
@@ -23,9 +24,20 @@ pub fn picture(name: &str, run: &Run) -> String {
         run,
         layout,
         lives: lives(run),
+        stays: stays(run),
         y: 0.0,
     };
-    let title = format!("{name}: a run of {} events", run.steps.len());
+    let steps = run.steps.len();
+    let (title, style) = match run.source {
+        Source::Schedule => (
+            format!("{name}: a run of {steps} events"),
+            STYLE.to_string(),
+        ),
+        Source::Calls => (
+            format!("{name}: a list of {steps} calls"),
+            format!("{STYLE}{CALLS_STYLE}"),
+        ),
+    };
     drawing.header(&title);
     let mut first = 0;
     while first < run.steps.len() {
@@ -36,7 +48,7 @@ pub fn picture(name: &str, run: &Run) -> String {
     drawing.footer();
     let size = (drawing.layout.width(), drawing.y + MARGIN);
     let enlarged = if drawing.layout.is_wide() { 1.25 } else { 1.0 };
-    drawing.svg.finish(&title, STYLE, size, enlarged)
+    drawing.svg.finish(&title, &style, size, enlarged)
 }
 
 /// A picture while it is drawn.
@@ -45,6 +57,7 @@ pub struct Drawing<'a> {
     pub run: &'a Run,
     pub layout: Layout,
     pub lives: Vec<Life>,
+    pub stays: Vec<Stay>,
     /// How far down it is drawn.
     pub y: f64,
 }
@@ -72,7 +85,11 @@ impl Drawing<'_> {
     fn legend(&mut self) {
         let right = self.layout.width() - MARGIN;
         let mut x = MARGIN;
-        for (mark, words) in LEGEND {
+        let more = match self.run.source {
+            Source::Schedule => &[][..],
+            Source::Calls => &CALLS_LEGEND[..],
+        };
+        for &(mark, words) in LEGEND.iter().chain(more) {
             let width = 34.0 + text_width(words, NORMAL) + 10.0;
             if x + width > right {
                 x = MARGIN;
@@ -124,8 +141,11 @@ impl Drawing<'_> {
         }
     }
 
-    /// The rows used at the end, beside the most that all requests together take.
+    /// The rows used at the end, beside the most that all requests of a schedule together take.
     fn rows(&mut self) {
+        let Some(most) = &self.run.most else {
+            return;
+        };
         let words = format!(
             "rows at the end of the run, and the most that all requests together take by any route (C {})",
             self.run.rows
@@ -138,7 +158,7 @@ impl Drawing<'_> {
             let used = self.run.steps.last().map_or(0, |step| step.used[partition]);
             format!("{name}: {used}, at most {most}")
         };
-        let lines = self.run.most.iter().enumerate().map(line).collect();
+        let lines = most.iter().enumerate().map(line).collect();
         self.in_columns(lines);
         self.y += 8.0;
     }

@@ -1,12 +1,14 @@
-//! What happened at each event of a run, told by the independent runtime in `reference`.
+//! What happened at each event of a run, or at each call of a list, told by the independent runtime in `reference`.
 
 use crate::fault::No;
 use crate::figures;
 use crate::folder::Folder;
 use crate::schedule::{self, Event, Kind, Request, Schedule};
+use crate::show::event_words;
 use reference::agents::{Slots, ALL_EMPTY};
 use reference::pack::Pack;
 use reference::store::{self, Key, Store};
+use reference::worklist::{Entry, Worklist};
 use reference::{Answer, Call, Operation};
 
 #[derive(Clone, Copy, Debug, PartialEq, Eq)]
@@ -23,26 +25,79 @@ pub enum Happened {
         id: u32,
         value: u32,
     },
+    /// This id was the first one waiting on the worklist.
+    Taken(u32),
     Refused(u32),
 }
 
-/// An event, what happened, and the used rows of each partition and of the book behind it.
+/// An event or call, what happened, and what there is behind it.
 #[derive(Clone, Debug)]
 pub struct Step {
-    pub event: Event,
+    pub call: Call,
+    /// The request that an arrival or retry names.
+    pub request: Option<usize>,
+    /// The event or call in words.
+    pub words: String,
     pub happened: Happened,
+    /// The used rows of each partition and of the book.
     pub used: Vec<usize>,
+    pub listed: Vec<Entry>,
+}
+
+impl Step {
+    pub fn slot(&self) -> Option<usize> {
+        match self.call {
+            Call::Arrival { slot, .. }
+            | Call::Retry { slot, .. }
+            | Call::Turn { slot }
+            | Call::Crash { slot } => Some(slot as usize),
+            _ => None,
+        }
+    }
+
+    pub fn is_refused(&self) -> bool {
+        matches!(self.happened, Happened::Refused(_))
+    }
+
+    /// The listed id that an accepted add, take or done was about.
+    pub fn listed_id(&self) -> Option<u32> {
+        match (self.call, self.happened) {
+            (_, Happened::Taken(id)) => Some(id),
+            (Call::Add { id } | Call::Done { id }, Happened::Done) => Some(id),
+            _ => None,
+        }
+    }
+}
+
+/// What a run is made of.
+#[derive(Clone, Copy, Debug, PartialEq, Eq)]
+pub enum Source {
+    /// The events of a schedule, from a fresh store.
+    Schedule,
+    /// A list of calls, from any store, slots and worklist.
+    Calls,
+}
+
+impl Source {
+    /// What a step is called.
+    pub fn noun(self) -> &'static str {
+        ["event", "call"][self as usize]
+    }
 }
 
 /// A whole run with the names of its requests.
 #[derive(Clone, Debug)]
 pub struct Run {
+    pub source: Source,
     pub partitions: usize,
     pub rows: usize,
     pub requests: Vec<Named>,
+    /// Before the first step: the slots that have an agent, each with its request, and the worklist.
+    pub agents_before: Vec<(usize, usize)>,
+    pub listed_before: Vec<Entry>,
     pub steps: Vec<Step>,
-    /// The most rows that all requests together take, by partition, the book last.
-    pub most: Vec<usize>,
+    /// The most rows that all requests of a schedule together take, by partition, the book last.
+    pub most: Option<Vec<usize>>,
 }
 
 /// A request and what it is called.
@@ -64,15 +119,23 @@ pub fn trace(folder: &Folder) -> Result<Run, Vec<No>> {
         pack: &folder.pack,
         store,
         slots: ALL_EMPTY,
+        list: Worklist::default(),
     };
-    let events = schedule.events.iter();
-    let steps = events.map(|&event| machine.step(event, &schedule.requests));
+    let step = |event: &Event| {
+        let request = event.kind.names_request().then_some(event.request as usize);
+        let words = event_words(event, &folder.requests);
+        machine.step(call(*event, &schedule.requests), request, words)
+    };
+    let steps = schedule.events.iter().map(step).collect();
     let requests = 0..schedule.requests.len();
     Ok(Run {
+        source: Source::Schedule,
         partitions: partitions as usize,
         rows: rows as usize,
-        steps: steps.collect(),
-        most: figures::together(&workflows, &schedule).rows,
+        agents_before: Vec::new(),
+        listed_before: Vec::new(),
+        steps,
+        most: Some(figures::together(&workflows, &schedule).rows),
         requests: requests
             .map(|index| named(folder, &schedule, index))
             .collect(),
@@ -90,32 +153,40 @@ fn named(folder: &Folder, schedule: &Schedule, index: usize) -> Named {
     }
 }
 
-struct Machine<'a> {
-    pack: &'a [u8],
-    store: Vec<u8>,
-    slots: Slots,
+/// What the calls of a run are given, each what the one before left.
+pub struct Machine<'a> {
+    pub pack: &'a [u8],
+    pub store: Vec<u8>,
+    pub slots: Slots,
+    pub list: Worklist,
 }
 
 impl Machine<'_> {
-    fn step(&mut self, event: Event, requests: &[Request]) -> Step {
+    pub fn step(&mut self, call: Call, request: Option<usize>, words: String) -> Step {
         // The answer to a turn does not tell a block from an instruction, so it is looked up before.
-        let block = match event.kind {
-            Kind::Turn => self.block_at(event.slot as usize),
+        let block = match call {
+            Call::Turn { slot } => self.block_at(slot as usize),
             _ => None,
         };
-        let answer = call(event, requests).perform(self.pack, &mut self.store, &mut self.slots);
+        let (store, slots) = (&mut self.store, &mut self.slots);
+        let answer = call.perform_listed(self.pack, store, slots, &mut self.list);
         let happened = match (answer, block) {
             (Err(refusal), _) => Happened::Refused(refusal.question as u32),
             (Ok(Answer::Reply { id, value }), _) => Happened::Replied { id, value },
             (Ok(Answer::Moved), Some((partition, true))) => Happened::Logged(partition),
             (Ok(Answer::Moved), Some((partition, false))) => Happened::Ran(partition),
             (Ok(Answer::Moved), None) => Happened::Moved,
-            (Ok(Answer::Done), _) => Happened::Done,
+            (Ok(Answer::Taken { id }), _) => Happened::Taken(id),
+            // Not yet is what the reading call answers, which stands in no run.
+            (Ok(Answer::Done | Answer::NotYet), _) => Happened::Done,
         };
         Step {
-            event,
+            call,
+            request,
+            words,
             happened,
             used: self.used(),
+            listed: self.list.entries.clone(),
         }
     }
 
@@ -143,9 +214,9 @@ impl Machine<'_> {
         let Ok(store) = Store::lay_out(self.store.as_slice()) else {
             return Vec::new();
         };
-        (0..=store.shape().partitions)
-            .map(|partition| store.used(partition))
-            .collect()
+        // A wrong store may have a count above C.
+        let used = |partition| store.used(partition).min(store.shape().rows);
+        (0..=store.shape().partitions).map(used).collect()
     }
 }
 

@@ -208,8 +208,16 @@ fn files_that_cannot_be_used_are_said() {
 #[test]
 fn a_wrong_command_line_is_said_with_the_right_ones() {
     let folder = fresh("usage");
-    let cases: [(&[&str], &str); 9] = [
+    let cases: [(&[&str], &str); 11] = [
         (&[], "wf: found no command, expected one of\n"),
+        (
+            &["calls", "c.bin", "-o", "c.svg", "--case"],
+            "wf: found nothing behind --case, expected the number of a case\n",
+        ),
+        (
+            &["trace", ".", "--case", "1"],
+            "wf: found --case, which trace does not take\n",
+        ),
         (&["assemble"], "wf: found assemble, expected one of\n"),
         (
             &["asm"],
@@ -383,6 +391,57 @@ fn figures_of_a_refused_pack_or_schedule_are_a_fault() {
     assert!(said(&folder).starts_with(".: refused 9: "));
     fs::write(folder.join("schedule.plan"), "partitions 1\n").expect("a plan");
     assert!(said(&folder).starts_with("./schedule.plan:2:1: found end of file, "));
+}
+
+#[test]
+fn calls_writes_a_picture_or_says_what_is_wrong_with_the_file() {
+    let folder = fresh("calls");
+    copy(&example("worklist"), &folder, &["calls.bin"]);
+    let nothing = (0, String::new(), String::new());
+    for arguments in [
+        &["calls", "calls.bin", "-o", "calls.svg"][..],
+        &["calls", "calls.bin", "--case", "0", "-o", "calls.svg"],
+    ] {
+        assert_eq!(told(wf(&folder, arguments)), nothing);
+        let picture = fs::read(folder.join("calls.svg")).unwrap();
+        assert_eq!(
+            picture,
+            fs::read(example("worklist").join("calls.svg")).unwrap()
+        );
+        fs::remove_file(folder.join("calls.svg")).unwrap();
+    }
+    fs::write(folder.join("short.bin"), [3, 0]).unwrap();
+    fs::write(folder.join("no.bin"), no_pack()).unwrap();
+    let cases: [(&[&str], &str); 5] = [
+        (&["none.bin"], "none.bin: cannot be read: "),
+        (&["short.bin"], "short.bin: case 0 is malformed\n"),
+        (
+            &["calls.bin", "--case", "1"],
+            "calls.bin: case 1 is no list of calls (kind 3)\n",
+        ),
+        (
+            &["calls.bin", "--case", "x"],
+            "calls.bin: found --case x, expected the number of a case\n",
+        ),
+        (
+            &["no.bin"],
+            "no.bin: refused 1: Is there a count, 1 to 16? Found no bytes, expected a count\n",
+        ),
+    ];
+    for (arguments, start) in cases {
+        let arguments = [&["calls"], arguments, &["-o", "calls.svg"]].concat();
+        let (status, printed, said) = told(wf(&folder, &arguments));
+        assert_eq!((status, printed.as_str()), (1, ""), "{arguments:?}");
+        assert!(said.starts_with(start), "{said}");
+    }
+    assert!(!folder.join("calls.svg").exists());
+}
+
+/// A list of no calls, with an empty pack, store and worklist: its kind, two lengths, entries, records and number of calls.
+fn no_pack() -> Vec<u8> {
+    let mut file = vec![3];
+    file.resize(1 + 4 + 4 + 1 + 384 + 1, 0);
+    file
 }
 
 #[test]

@@ -131,12 +131,15 @@ fn what_certainly_suffices_does() {
         ran += 1;
         let run = with_rows(together.enough());
         assert_eq!(short_of_rows(&run), 0);
-        assert_eq!(run.most, together.rows);
+        assert_eq!(run.most.as_ref(), Some(&together.rows));
         let last = &run.steps.last().expect("an event").used;
-        assert!(last.iter().zip(&run.most).all(|(used, most)| used <= most));
+        assert!(last
+            .iter()
+            .zip(&together.rows)
+            .all(|(used, most)| used <= most));
         reached += usize::from(
             last.iter()
-                .zip(&run.most)
+                .zip(&together.rows)
                 .any(|(used, most)| used == most && *most > 1),
         );
     }

@@ -155,6 +155,7 @@ fn answer(happened: Happened) -> String {
         Happened::Done => "done".to_string(),
         Happened::Moved | Happened::Ran(_) | Happened::Logged(_) => "moved".to_string(),
         Happened::Replied { id, value } => format!("reply {id} {value}"),
+        Happened::Taken(id) => format!("taken {id}"),
         Happened::Refused(number) => format!("refused {number}"),
     }
 }
@@ -190,9 +191,9 @@ fn a_trace_tells_blocks_that_ran_from_those_taken_from_the_log() {
             let grown: Vec<usize> = (0..after.len())
                 .filter(|&at| after[at] > before[at])
                 .collect();
-            match (pair[1].happened, pair[1].event.kind) {
+            match (pair[1].happened, pair[1].call) {
                 (Happened::Ran(partition), _) => assert_eq!(grown, [partition as usize]),
-                (Happened::Done, schedule::Kind::Arrival) => {
+                (Happened::Done, reference::Call::Arrival { .. }) => {
                     assert!(grown.is_empty() || grown == [run.partitions])
                 }
                 _ => assert_eq!(before, after),

@@ -1,11 +1,24 @@
 //! The workflow runtime for Rust: safe functions over the C interface of `include/sarthule.h`, which says what each does, how the
-//! slots are laid out and what the numbers of refusals ask.
+//! slots and the worklist are laid out and what the numbers of refusals ask.
 
 /// Eight agent records.
 pub type Slots = [u8; 384];
 
 /// Eight empty slots.
 pub const EMPTY: Slots = [0; 384];
+
+/// The worklist: the number of entries, and for each an id and a mark.
+pub type List = [u8; 132];
+
+/// An empty worklist.
+pub const NONE_LISTED: List = [0; 132];
+
+/// The most ids that are listed.
+pub const LISTED: usize = 16;
+
+/// The marks of a listed id.
+pub const WAITING: u32 = 0;
+pub const TAKEN: u32 = 1;
 
 /// What a call answers.
 #[derive(Clone, Copy, Debug, PartialEq, Eq)]
@@ -14,6 +27,8 @@ pub enum Answer {
     Moved,
     Reply { id: u32, value: u32 },
     Refused { question: u32, workflow: u32, instruction: u32 },
+    Taken { id: u32 },
+    NotYet,
 }
 
 /// Where the parts of an opened workflow stand in the pack: offset and length.
@@ -103,7 +118,61 @@ mod c {
             answer: *mut u8,
             answer_len: usize,
         ) -> u32;
-        pub fn sarthule_restart(slots: *mut u8, slots_len: usize, answer: *mut u8, answer_len: usize) -> u32;
+        pub fn sarthule_restart(
+            slots: *mut u8,
+            slots_len: usize,
+            list: *mut u8,
+            list_len: usize,
+            answer: *mut u8,
+            answer_len: usize,
+        ) -> u32;
+        pub fn sarthule_add(
+            pack: *const u8,
+            pack_len: usize,
+            store: *const u8,
+            store_len: usize,
+            slots: *const u8,
+            slots_len: usize,
+            list: *mut u8,
+            list_len: usize,
+            id: u32,
+            answer: *mut u8,
+            answer_len: usize,
+        ) -> u32;
+        pub fn sarthule_take(
+            pack: *const u8,
+            pack_len: usize,
+            store: *const u8,
+            store_len: usize,
+            slots: *const u8,
+            slots_len: usize,
+            list: *mut u8,
+            list_len: usize,
+            answer: *mut u8,
+            answer_len: usize,
+        ) -> u32;
+        pub fn sarthule_done(
+            pack: *const u8,
+            pack_len: usize,
+            store: *const u8,
+            store_len: usize,
+            slots: *const u8,
+            slots_len: usize,
+            list: *mut u8,
+            list_len: usize,
+            id: u32,
+            answer: *mut u8,
+            answer_len: usize,
+        ) -> u32;
+        pub fn sarthule_reply(
+            pack: *const u8,
+            pack_len: usize,
+            store: *const u8,
+            store_len: usize,
+            id: u32,
+            answer: *mut u8,
+            answer_len: usize,
+        ) -> u32;
     }
 }
 
@@ -127,13 +196,16 @@ pub fn question(number: u32) -> &'static str {
         12 => "Has each booked id all five rows?",
         13 => "Is each booked workflow below m, each BEGIN's partition below P?",
         14 => "Is each slot empty or sound?",
+        25 => "Has the list at most 16 ids, none twice, each waiting or taken (add, take, done)?",
+        26 => "If the id isn't listed, are fewer than 16 listed (add)?",
+        27 => "Is an id waiting (take), or the id taken and logged through (done)?",
         15 => "Is the slot 0 to 7?",
         16 => "Is it empty (arrival, retry) or in use (turn, crash)?",
         24 => "Is the id other than 0 (arrival)?",
-        17 => "Is the workflow below m (arrival, opening)?",
+        17 => "Is the workflow below m (arrival, opening, figures)?",
         18 => "If the id is known, are workflow and arguments those booked (arrival)?",
         19 => "If it is new, are five book rows free (arrival)?",
-        20 => "Is the id booked (retry)?",
+        20 => "Is the id booked (retry, add, reply)?",
         21 => "Has a block that isn't logged enough free rows: one, plus one per different new key it PUTs (turn)?",
         _ => "",
     }
@@ -155,6 +227,8 @@ fn answer(number: u32, words: &[u8]) -> Answer {
         1 => Answer::Moved,
         2 => Answer::Reply { id: word(words, 0), value: word(words, 1) },
         3 => Answer::Refused { question: word(words, 0), workflow: word(words, 1), instruction: word(words, 2) },
+        4 => Answer::Taken { id: word(words, 0) },
+        5 => Answer::NotYet,
         // The buffers here have the sizes that the library asks for.
         _ => unreachable!("the library refused a buffer"),
     }
@@ -278,7 +352,95 @@ pub fn crash(pack: &[u8], store: &[u8], slots: &mut Slots, slot: usize) -> Answe
     answer(n, &a)
 }
 
-pub fn restart(slots: &mut Slots) -> Answer {
+/// Empties all slots, and has all ids of a right list waiting.
+pub fn restart(slots: &mut Slots, list: &mut List) -> Answer {
     let mut a = [0; 12];
-    answer(unsafe { c::sarthule_restart(slots.as_mut_ptr(), slots.len(), a.as_mut_ptr(), a.len()) }, &a)
+    let n = unsafe {
+        c::sarthule_restart(
+            slots.as_mut_ptr(),
+            slots.len(),
+            list.as_mut_ptr(),
+            list.len(),
+            a.as_mut_ptr(),
+            a.len(),
+        )
+    };
+    answer(n, &a)
+}
+
+/// Puts a booked id at the end of the list, waiting; one that is listed changes nothing.
+pub fn add(pack: &[u8], store: &[u8], slots: &Slots, list: &mut List, id: u32) -> Answer {
+    let mut a = [0; 12];
+    let n = unsafe {
+        c::sarthule_add(
+            pack.as_ptr(),
+            pack.len(),
+            store.as_ptr(),
+            store.len(),
+            slots.as_ptr(),
+            slots.len(),
+            list.as_mut_ptr(),
+            list.len(),
+            id,
+            a.as_mut_ptr(),
+            a.len(),
+        )
+    };
+    answer(n, &a)
+}
+
+/// Gives the first id that waits, and marks it as taken.
+pub fn take(pack: &[u8], store: &[u8], slots: &Slots, list: &mut List) -> Answer {
+    let mut a = [0; 12];
+    let n = unsafe {
+        c::sarthule_take(
+            pack.as_ptr(),
+            pack.len(),
+            store.as_ptr(),
+            store.len(),
+            slots.as_ptr(),
+            slots.len(),
+            list.as_mut_ptr(),
+            list.len(),
+            a.as_mut_ptr(),
+            a.len(),
+        )
+    };
+    answer(n, &a)
+}
+
+/// Removes a taken id whose log leads through to RETURN.
+pub fn done(pack: &[u8], store: &[u8], slots: &Slots, list: &mut List, id: u32) -> Answer {
+    let mut a = [0; 12];
+    let n = unsafe {
+        c::sarthule_done(
+            pack.as_ptr(),
+            pack.len(),
+            store.as_ptr(),
+            store.len(),
+            slots.as_ptr(),
+            slots.len(),
+            list.as_mut_ptr(),
+            list.len(),
+            id,
+            a.as_mut_ptr(),
+            a.len(),
+        )
+    };
+    answer(n, &a)
+}
+
+/// The reply of a booked id worked out from the log, or that it is not logged through yet.
+pub fn reply(pack: &[u8], store: &[u8], id: u32) -> Answer {
+    let mut a = [0; 12];
+    let n = unsafe {
+        c::sarthule_reply(pack.as_ptr(), pack.len(), store.as_ptr(), store.len(), id, a.as_mut_ptr(), a.len())
+    };
+    answer(n, &a)
+}
+
+/// The ids of a list and their marks, in order of entry; of one with more than 16 ids those that stand there.
+pub fn listed(list: &List) -> Vec<(u32, u32)> {
+    let number = (word(list, 0) as usize).min(LISTED);
+    (0..number).map(|place| (word(list, 1 + 2 * place), word(list, 2 + 2 * place))).collect()
 }

@@ -2,16 +2,24 @@
 //!
 //!     stock FILE init P C                        a fresh stock of P partitions of C rows
 //!     stock FILE move FROM TO AMOUNT --id N      takes AMOUNT from shelf FROM of partition 0 to shelf TO of partition 1
-//!     stock FILE retry ID                        has the reply of an earlier move again
-//!     stock FILE show                            the rows and log rows, the requests under way, and what they come to
+//!     stock FILE accept FROM TO AMOUNT --id N    books the same move, puts it on the worklist and prints the slip at once
+//!     stock FILE work                            does the moves on the worklist, one after the other, until none waits
+//!     stock FILE retry ID                        has the reply of an earlier move again, by an agent
+//!     stock FILE reply ID                        has the reply of an earlier move from the log, or `not yet`
+//!     stock FILE show                            the rows and log rows, the requests under way, what they come to, the worklist
 //!
-//! The file holds the store and behind it the eight slots. After each call it is written whole to a temporary file,
-//! brought to the disk, and renamed over the old one. A program that is killed at any place leaves a file from which
-//! the next one goes on: the slots are emptied by a restart and their agents started again from the book; what was
-//! logged is not done a second time.
+//! The file holds the store, behind it the eight slots, and behind them the worklist. After each call (of accept behind all
+//! three of its calls) it is written whole to a temporary file, brought to the disk, and renamed over the old one, so store,
+//! slots and list are always of one moment: a list in a file of its own could name an id that isn't booked yet. A program that
+//! is killed at any place leaves a file from which the next one goes on: the slots are emptied by a restart and their agents
+//! started again from the book; what was logged is not done a second time.
 //!
-//! An earlier library left rows in the order in which they came. The first move or retry on such a file puts them in order, writes the
-//! file back the same way, says so on the standard error, and only then goes on; show never writes.
+//! A killed worker leaves an id taken. The restart has it waiting again, and the next work takes it first, since it has
+//! kept its place. Agents of listed ids are left to the worker, so that no terminal waits for them.
+//!
+//! An earlier library left rows in the order in which they came. The first command but show and reply on such a file puts them
+//! in order, writes the file back the same way, says so on the standard error, and only then goes on; show and reply never
+//! write. An earlier host kept no list: its file ends behind the slots, and its list is empty.
 //!
 //! A request is under way while its step 0, which takes the amount, is logged in some partition and its step 1, which
 //! puts it, in none. Nothing is lost meanwhile (W-207): all data values and the amounts under way come to 0, remainder
@@ -19,7 +27,10 @@
 //! their own init made: where show finds another sum, it says so on the standard error and ends with 1. A file into
 //! which something else wrote data rows, or another pack, need not come to 0.
 
-use sarthule::{arrival, create, order, question, restart, retry, store_bytes, turn, word, Answer, Request, Slots, EMPTY};
+use sarthule::{
+    add, arrival, crash, create, done, listed, order, question, reply, restart, retry, store_bytes, take, turn, word, Answer,
+    List, Request, Slots, EMPTY, NONE_LISTED, TAKEN, WAITING,
+};
 use std::error::Error;
 use std::fs::{self, File};
 use std::io::Write;
@@ -27,6 +38,9 @@ use std::path::{Path, PathBuf};
 use std::process::ExitCode;
 
 type Try<T> = Result<T, Box<dyn Error>>;
+
+const USAGE: &str =
+    "FILE init P C | move FROM TO AMOUNT --id N | accept FROM TO AMOUNT --id N | work | retry ID | reply ID | show";
 
 /// MOVE, arguments FROM, TO, AMOUNT, 0: takes AMOUNT off FROM in partition 0 and adds it to TO in partition 1.
 const MOVE: [(u8, u32); 12] = [
@@ -60,22 +74,25 @@ struct Stock {
     pack: Vec<u8>,
     store: Vec<u8>,
     slots: Slots,
+    list: List,
 }
 
 impl Stock {
     fn init(path: &Path, partitions: usize, rows: usize) -> Try<Self> {
         let store = vec![0; store_bytes(partitions, rows)];
-        let mut stock = Self { path: path.into(), pack: pack(), store, slots: EMPTY };
+        let mut stock = Self { path: path.into(), pack: pack(), store, slots: EMPTY, list: NONE_LISTED };
         said(create(&mut stock.store, partitions, rows))?;
         stock.save()?;
         Ok(stock)
     }
 
+    /// The slots end a file that an earlier host wrote, which kept no list.
     fn load(path: &Path) -> Try<Self> {
         let mut store = fs::read(path)?;
-        let at = store.len().checked_sub(EMPTY.len()).ok_or("the file is too short")?;
-        let slots = store.split_off(at).try_into().expect("as many bytes as were split off");
-        Ok(Self { path: path.into(), pack: pack(), store, slots })
+        let has_no_list = store.len() == EMPTY.len() + store_bytes_said(&store);
+        let list = if has_no_list { NONE_LISTED } else { split_last(&mut store)? };
+        let slots = split_last(&mut store)?;
+        Ok(Self { path: path.into(), pack: pack(), store, slots, list })
     }
 
     /// Puts the rows in memory in order. Whether they were not: a store in order keeps its bytes.
@@ -95,6 +112,13 @@ impl Stock {
         Ok(stock)
     }
 
+    /// For a command that changes the file: what it goes on from. All slots are empty then.
+    fn go_on(path: &Path) -> Try<Self> {
+        let mut stock = Self::load_in_order(path)?;
+        stock.recover()?;
+        Ok(stock)
+    }
+
     /// For a command that only reads: the file stays as it is.
     fn load_to_show(path: &Path) -> Try<Self> {
         let mut stock = Self::load(path)?;
@@ -111,6 +135,7 @@ impl Stock {
         let mut file = File::create(&temporary)?;
         file.write_all(&self.store)?;
         file.write_all(&self.slots)?;
+        file.write_all(&self.list)?;
         file.sync_all()?;
         fs::rename(&temporary, &self.path)?;
         let folder = self.path.parent().filter(|p| !p.as_os_str().is_empty());
@@ -130,14 +155,19 @@ impl Stock {
         }
     }
 
-    /// Agents that a killed program left are started again from the book. The file keeps their ids until all are started.
+    /// What a killed program left is begun again: the restart empties the slots and has all listed ids waiting. Agents of other
+    /// ids are started again from the book; the file keeps their ids until all are started. Those of listed ids are left to the
+    /// worker.
     fn recover(&mut self) -> Try<()> {
         let in_use = (0..8).filter(|slot| word(&self.slots, 12 * slot) != 0);
-        let ids: Vec<u32> = in_use.map(|slot| word(&self.slots, 12 * slot + 1)).collect();
-        if ids.is_empty() {
+        let left: Vec<u32> = in_use.map(|slot| word(&self.slots, 12 * slot + 1)).collect();
+        let entries = listed(&self.list);
+        if left.is_empty() && !entries.iter().any(|(_, mark)| *mark == TAKEN) {
             return Ok(());
         }
-        said(restart(&mut self.slots))?;
+        let is_listed = |id: &u32| entries.iter().any(|(listed, _)| listed == id);
+        let ids: Vec<u32> = left.into_iter().filter(|id| !is_listed(id)).collect();
+        said(restart(&mut self.slots, &mut self.list))?;
         for (slot, id) in ids.iter().enumerate() {
             said(retry(&self.pack, &self.store, &mut self.slots, slot, *id))?;
         }
@@ -145,16 +175,63 @@ impl Stock {
         (0..ids.len()).try_for_each(|slot| self.run(slot))
     }
 
+    fn arrive(&mut self, request: Request) -> Try<Answer> {
+        said(arrival(&self.pack, &mut self.store, &mut self.slots, 0, request))
+    }
+
     fn move_goods(&mut self, request: Request) -> Try<()> {
-        said(arrival(&self.pack, &mut self.store, &mut self.slots, 0, request))?;
+        self.arrive(request)?;
         self.save()?;
         self.run(0)
     }
 
-    fn retry(&mut self, id: u32) -> Try<()> {
+    /// A booked id is started again and run until it replies.
+    fn finish(&mut self, id: u32) -> Try<()> {
         said(retry(&self.pack, &self.store, &mut self.slots, 0, id))?;
         self.save()?;
         self.run(0)
+    }
+
+    /// Books a move and puts it on the list. The agent that the arrival started is ended at once: the worker starts its own, and
+    /// needs a free slot. The three calls come into the file by one save, so that a kill leaves the request booked and listed or
+    /// neither, and one that the list has no room for (26) is not booked. The slip is printed behind the save: what somebody
+    /// holds a slip for is on the disk.
+    fn accept(&mut self, request: Request) -> Try<()> {
+        self.arrive(request)?;
+        said(crash(&self.pack, &self.store, &mut self.slots, 0))?;
+        said(add(&self.pack, &self.store, &self.slots, &mut self.list, request.id))?;
+        self.save()?;
+        println!("accepted {}", request.id);
+        Ok(())
+    }
+
+    /// Takes the first id that waits, if there is one, which question 27 asks.
+    fn take(&mut self) -> Try<Option<u32>> {
+        match take(&self.pack, &self.store, &self.slots, &mut self.list) {
+            Answer::Refused { question: 27, .. } => Ok(None),
+            Answer::Taken { id } => Ok(Some(id)),
+            other => said(other).map(|_| None),
+        }
+    }
+
+    /// A kill behind the reply and before done leaves the id listed: the next work takes it again, and its log has the same reply.
+    fn work(&mut self) -> Try<()> {
+        while let Some(id) = self.take()? {
+            self.save()?;
+            self.finish(id)?;
+            said(done(&self.pack, &self.store, &self.slots, &mut self.list, id))?;
+            self.save()?;
+            println!("done {id}");
+        }
+        Ok(())
+    }
+
+    fn show_reply(&self, id: u32) -> Try<()> {
+        match said(reply(&self.pack, &self.store, id))? {
+            Answer::Reply { id, value } => println!("reply {id} {value}"),
+            _ => println!("not yet"),
+        }
+        Ok(())
     }
 
     fn number_at(&self, at: usize, bytes: usize) -> u64 {
@@ -205,6 +282,17 @@ impl Stock {
         }
     }
 
+    /// The list in order of entry. The mark of a list that 25 refuses may be another number.
+    fn show_list(&self) {
+        for (id, mark) in listed(&self.list) {
+            match mark {
+                WAITING => println!("list {id} waiting"),
+                TAKEN => println!("list {id} taken"),
+                _ => println!("list {id} {mark}"),
+            }
+        }
+    }
+
     /// An error where data and amounts under way do not come to 0.
     fn show(&self) -> Try<()> {
         self.show_rows();
@@ -217,12 +305,27 @@ impl Stock {
         let total = data.fold(0u32, |sum, (_, value)| sum.wrapping_add(value));
         let together = total.wrapping_add(amounts);
         println!("total {total}\namounts under way {amounts}\ntogether {together}");
+        self.show_list();
         if together != 0 {
             let path = self.path.display();
             return Err(format!("{path}: data and amounts under way come to {together}, not to 0").into());
         }
         Ok(())
     }
+}
+
+/// How long the first three bytes of a file, P and C, say that its store is; 0 where they are not there.
+fn store_bytes_said(file: &[u8]) -> usize {
+    match *file {
+        [p, low, high, ..] => store_bytes(p.into(), u16::from_le_bytes([low, high]).into()),
+        _ => 0,
+    }
+}
+
+/// The last bytes of a file, which it then has no more.
+fn split_last<const N: usize>(file: &mut Vec<u8>) -> Try<[u8; N]> {
+    let at = file.len().checked_sub(N).ok_or("the file is too short")?;
+    Ok(file.split_off(at).try_into().expect("as many bytes as were split off"))
 }
 
 /// A row of a partition is a data row, whose key has its highest bit set, or a log row.
@@ -251,25 +354,38 @@ fn main() -> ExitCode {
     }
 }
 
+/// FROM TO AMOUNT and N, the words of move and accept.
+fn request([from, to, amount, id]: [&str; 4]) -> Try<Request> {
+    Ok(Request { id: id.parse()?, workflow: 0, arguments: [from.parse()?, to.parse()?, amount.parse()?, 0] })
+}
+
 fn command() -> Try<()> {
     let words: Vec<String> = std::env::args().skip(1).collect();
     let words: Vec<&str> = words.iter().map(String::as_str).collect();
-    match words[..] {
-        [path, "init", p, c] => Stock::init(Path::new(path), p.parse()?, c.parse()?).map(|_| ()),
-        [path, "show"] => Stock::load_to_show(Path::new(path))?.show(),
-        [path, "move", from, to, amount, "--id", id] => {
-            let arguments = [from.parse()?, to.parse()?, amount.parse()?, 0];
-            let request = Request { id: id.parse()?, workflow: 0, arguments };
-            let mut stock = Stock::load_in_order(Path::new(path))?;
-            stock.recover()?;
-            stock.move_goods(request)
+    let Some((path, words)) = words.split_first() else {
+        return Err(USAGE.into());
+    };
+    let path = Path::new(path);
+    match *words {
+        ["init", p, c] => Stock::init(path, p.parse()?, c.parse()?).map(|_| ()),
+        ["move", from, to, amount, "--id", id] => {
+            let request = request([from, to, amount, id])?;
+            Stock::go_on(path)?.move_goods(request)
         }
-        [path, "retry", id] => {
+        ["accept", from, to, amount, "--id", id] => {
+            let request = request([from, to, amount, id])?;
+            Stock::go_on(path)?.accept(request)
+        }
+        ["work"] => Stock::go_on(path)?.work(),
+        ["retry", id] => {
             let id = id.parse()?;
-            let mut stock = Stock::load_in_order(Path::new(path))?;
-            stock.recover()?;
-            stock.retry(id)
+            Stock::go_on(path)?.finish(id)
         }
-        _ => Err("FILE init P C | move FROM TO AMOUNT --id N | retry ID | show".into()),
+        ["reply", id] => {
+            let id = id.parse()?;
+            Stock::load_to_show(path)?.show_reply(id)
+        }
+        ["show"] => Stock::load_to_show(path)?.show(),
+        _ => Err(USAGE.into()),
     }
 }
