@@ -3,7 +3,8 @@
 use reference::agents::ALL_EMPTY;
 use reference::pack::encode;
 use reference::store::{book_key, fresh, Key, Request};
-use reference::{Agent, Call, Slots, Store};
+use reference::worklist::{TAKEN, WAITING};
+use reference::{Agent, Call, Outcome, Slots, Store, Worklist};
 
 /// What a call is given.
 #[derive(Clone)]
@@ -11,6 +12,14 @@ pub struct State {
     pub pack: Vec<u8>,
     pub store: Vec<u8>,
     pub slots: Slots,
+    pub list: Worklist,
+}
+
+impl State {
+    /// A call of the reference, on this state.
+    pub fn perform(&mut self, call: &Call) -> Outcome {
+        call.perform_listed(&self.pack, &mut self.store, &mut self.slots, &mut self.list)
+    }
 }
 
 /// A small generator of numbers, so that a run can be repeated.
@@ -117,7 +126,8 @@ pub fn nearly_full(partitions: u32, rows: u32, m: usize) -> State {
         slot.registers[7] = keys_from;
         slot.registers[6] = 1;
     }
-    State { pack: turning_pack(partitions, m), store: full_store(partitions, rows, 18, keys_from), slots }
+    let (pack, store) = (turning_pack(partitions, m), full_store(partitions, rows, 18, keys_from));
+    State { pack, store, slots, list: Worklist::default() }
 }
 
 /// The data key of row i, for an even i; the rows put at an odd i are log rows, so this key of an odd i is used by none.
@@ -181,7 +191,7 @@ fn standing_at(id: u32, operation: u8, keys: Keys, used: u32, book: impl Fn(&mut
     let mut slots = ALL_EMPTY;
     slots[0] = Agent::started(id, [id, 2, 3, 4]);
     (slots[0].registers[7], slots[0].registers[6]) = keys.first_and_step();
-    State { pack: encode(&[code]), store: filled(1, used, book), slots }
+    State { pack: encode(&[code]), store: filled(1, used, book), slots, list: Worklist::default() }
 }
 
 /// 239 rows, 17 free, and 50 requests in the book, ids 2 to 51. The log row of id 2, which stands at the block, goes ahead of all rows.
@@ -190,7 +200,7 @@ pub fn at_block(operation: u8, keys: Keys) -> State {
 }
 
 /// An id above those of all log rows, so that its own log row is sought among all of them.
-const LATEST: u32 = 20_000;
+pub const LATEST: u32 = 20_000;
 
 /// As full as a block may find it: 255 rows, 127 of them log rows, and the last row is for the log row of the block, which goes behind
 /// the others of the log; or it is `logged`, and that row is there. The book has 50 requests too.
@@ -205,12 +215,21 @@ pub fn at_full(operation: u8, keys: Keys, logged: bool) -> State {
     standing_at(LATEST, operation, keys, 255, book)
 }
 
+/// The same, logged, with a worklist of 15 other ids that wait, and at its end the id that is logged through, where it is `listed`: then it
+/// is taken.
+pub fn with_worklist(operation: u8, listed: bool) -> State {
+    let mut entries: Vec<_> = (2..=16).map(|id| (id, WAITING)).collect();
+    entries.extend(listed.then_some((LATEST, TAKEN)));
+    State { list: Worklist::of(&entries), ..at_full(operation, Keys::Present, true) }
+}
+
 /// P = 8 and C = 256, as full as it goes: all rows of the partitions are used, and 255 of the book, by 51 requests, ids 1 to 51. The
 /// only workflow is RETURN; id 2 stands at it in slot 0.
 pub fn full() -> State {
     let mut slots = ALL_EMPTY;
     slots[0] = Agent::started(2, [2, 2, 3, 4]);
-    State { pack: encode(&[vec![(0xB0, 0)]]), store: filled(8, 256, |store| book_all(store, 1..=51)), slots }
+    let store = filled(8, 256, |store| book_all(store, 1..=51));
+    State { pack: encode(&[vec![(0xB0, 0)]]), store, slots, list: Worklist::default() }
 }
 
 /// The same, but the book's first row is the only one of its id, so that 12 is answered with no as soon as it is put.
@@ -283,5 +302,6 @@ pub fn schedule(rows: u32, events: usize) -> (State, Vec<Call>) {
             _ => Call::Turn { slot },
         });
     }
-    (State { pack, store: fresh(2, rows).expect("numbers in range"), slots: ALL_EMPTY }, calls)
+    let store = fresh(2, rows).expect("numbers in range");
+    (State { pack, store, slots: ALL_EMPTY, list: Worklist::default() }, calls)
 }

@@ -14,10 +14,10 @@ mod inputs;
 mod sides;
 
 use inputs::{at_block, at_full, far_jumps, first_id_alone, full, nearly_empty, nearly_full, pack, schedule, standing};
-use inputs::{turning_pack, Keys, Standing, State};
+use inputs::{turning_pack, with_worklist, Keys, Standing, State, LATEST};
 use reference::store::Request;
 use reference::Call;
-use sides::{answer, bytes, Lent, OnPack};
+use sides::{answer, bytes, is_list, Lent, OnPack};
 use std::hint::black_box;
 use std::time::{Duration, Instant};
 
@@ -124,7 +124,22 @@ fn cases_of_figures() -> Vec<Case> {
     ]
 }
 
-/// The main cases, then how each grows, then those of rows by rising key, of where a search ends and of figures.
+/// The calls on a worklist as long as it goes, each beside a crash on the same state, which puts the same questions 1 to 14. Done walks
+/// the log of a request with one block, whose row stands behind all others of the log.
+fn cases_of_worklist() -> Vec<Case> {
+    let at = |what: &str, listed, call| {
+        one(&format!("{what} P=1 C=256"), move || with_worklist(PUT, listed), call)
+    };
+    vec![
+        at("crash beside a list", true, CRASH),
+        at("add", false, Call::Add { id: LATEST }),
+        at("take", true, Call::Take),
+        at("done", true, Call::Done { id: LATEST }),
+    ]
+}
+
+/// The main cases, then how each grows, then those of rows by rising key, of where a search ends, of figures and of the
+/// worklist.
 fn cases() -> Vec<Case> {
     let at = |what: &str, call, p, c, m| {
         let total = total(&turning_pack(p, m));
@@ -147,6 +162,7 @@ fn cases() -> Vec<Case> {
     all.extend(cases_of_order());
     all.extend(cases_of_search());
     all.extend(cases_of_figures());
+    all.extend(cases_of_worklist());
     all
 }
 
@@ -178,7 +194,7 @@ fn best<S>(state: &mut S, reset: impl Fn(&mut S), work: impl Fn(&mut S)) -> f64 
 }
 
 fn perform_all(state: &mut State, calls: &[Call]) -> Vec<sarthule::Answer> {
-    calls.iter().map(|call| answer(call.perform(&state.pack, &mut state.store, &mut state.slots))).collect()
+    calls.iter().map(|call| answer(state.perform(call))).collect()
 }
 
 /// The number of a refusal, 0 for any other answer.
@@ -205,6 +221,7 @@ fn compare(name: &str, work: &Work) {
     assert_eq!(ours, perform_all(&mut theirs, calls), "{name}");
     assert_eq!(lent.slots, bytes(&theirs.slots), "{name}");
     assert!(lent.store == theirs.store, "{name}: the stores differ");
+    assert!(is_list(&lent.list, &theirs.list), "{name}: the worklists differ");
     if calls.len() == 1 {
         assert_eq!(question(&ours[0]), if name == NO_TO_12 { 12 } else { 0 }, "{name}");
     }
@@ -258,10 +275,11 @@ fn time_reference(work: &Work) -> f64 {
             let reset = |state: &mut State| {
                 state.store.copy_from_slice(&from.store);
                 state.slots = from.slots;
+                state.list = from.list.clone();
             };
             best(&mut from.clone(), reset, |state| {
                 for call in calls {
-                    let _ = black_box(call.perform(&state.pack, &mut state.store, &mut state.slots));
+                    let _ = black_box(state.perform(call));
                 }
             })
         }
@@ -290,7 +308,7 @@ fn once(work: &Work, side: &str) {
             let mut state = state.clone();
             bench_measured(&mut || {
                 for call in calls {
-                    let _ = black_box(call.perform(&state.pack, &mut state.store, &mut state.slots));
+                    let _ = black_box(state.perform(call));
                 }
             })
         }

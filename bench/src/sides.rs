@@ -45,7 +45,7 @@ pub struct Lent {
 impl Lent {
     pub fn of(state: &State) -> Self {
         let (pack, store) = (state.pack.clone(), state.store.clone());
-        Self { pack, store, slots: bytes(&state.slots), list: sarthule::NONE_LISTED }
+        Self { pack, store, slots: bytes(&state.slots), list: list_bytes(&state.list) }
     }
 
     pub fn reset(&mut self, from: &Self) {
