@@ -30,11 +30,13 @@ import random
 import subprocess
 import sys
 import time
+from functools import partial
 
 sys.dont_write_bytecode = True
 import store
 
 stock, path = sys.argv[1], sys.argv[2]
+content, stand = (partial(act, path) for act in (store.content, store.stand))
 rounds = int(sys.argv[3]) if len(sys.argv) > 3 else 200
 random.seed(int(sys.argv[4]) if len(sys.argv) > 4 else 1)
 IDS, SHELVES, MOST_LISTED = 48, 40, 16
@@ -62,16 +64,6 @@ def rows():
         numbers = [int(n) for n in numbers]
         (data if kind == "row" else log)[tuple(numbers[:-1])] = numbers[-1]
     return data, log
-
-
-def content():
-    with open(path, "rb") as file:
-        return file.read()
-
-
-def stand(data):
-    with open(path, "wb") as file:
-        file.write(data)
 
 
 def amount_under_way():

@@ -6,15 +6,16 @@ The first move or retry on it must put exactly the same rows in order, say so on
 byte. `show` must print the same and write nothing. A file in order must not be written by opening it, and nothing said. A store that is
 wrong in another way must be refused by its question, by each command, and its file stay as it is.
 """
-import os
 import random
 import sys
+from functools import partial
 from subprocess import run
 
 sys.dont_write_bytecode = True
 import store
 
 stock, path = sys.argv[1], sys.argv[2]
+content, stand, written = (partial(act, path) for act in (store.content, store.stand, store.written))
 random.seed(int(sys.argv[3]) if len(sys.argv) > 3 else 1)
 
 # Shelves that no two moves share, so that what the rows come to does not depend on which move came first.
@@ -37,22 +38,6 @@ def host(*words):
 
 def refused(number):
     return f"refused {number}: {WORDS[number]}\n"
-
-
-def content():
-    with open(path, "rb") as file:
-        return file.read()
-
-
-def stand(data):
-    with open(path, "wb") as file:
-        file.write(data)
-
-
-def written():
-    """What changes whenever the file is written, even with the same bytes."""
-    status = os.stat(path)
-    return status.st_ino, status.st_mtime_ns
 
 
 def move(ident, source, target, amount):

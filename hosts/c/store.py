@@ -1,10 +1,27 @@
 """A host's file taken apart and put together: the rows of each partition and of the book as they stand, and behind them the slots and
 the worklist."""
+import os
 import struct
 
 SLOTS, LIST = 384, 132
 BEHIND = SLOTS + LIST
 MARKS = ("waiting", "taken")
+
+
+def content(path):
+    with open(path, "rb") as file:
+        return file.read()
+
+
+def stand(path, data):
+    with open(path, "wb") as file:
+        file.write(data)
+
+
+def written(path):
+    """What changes whenever the file is written, even with the same bytes."""
+    status = os.stat(path)
+    return status.st_ino, status.st_mtime_ns
 
 
 def take_apart(data):

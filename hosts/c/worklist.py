@@ -5,15 +5,16 @@ worklist.py STOCK FILE [OTHER]: slips, the order of entry, ids that are listed a
 what a killed worker leaves, and files of an earlier host, which have no list. With OTHER, a second host, each command is
 also given to that one with the same file: it must print and end the same and leave the same bytes.
 """
-import os
 import struct
 import sys
+from functools import partial
 from subprocess import run
 
 sys.dont_write_bytecode = True
 import store
 
 stock, path = sys.argv[1], sys.argv[2]
+content, stand, written = (partial(act, path) for act in (store.content, store.stand, store.written))
 other = sys.argv[3] if len(sys.argv) > 3 else None
 WORDS = {
     18: "If the id is known, are workflow and arguments those booked (arrival)?",
@@ -24,22 +25,6 @@ WORDS = {
 }
 MOST_LISTED, WAITING, TAKEN = 16, 0, 1
 commands = 0
-
-
-def content():
-    with open(path, "rb") as file:
-        return file.read()
-
-
-def stand(data):
-    with open(path, "wb") as file:
-        file.write(data)
-
-
-def written():
-    """What changes whenever the file is written, even with the same bytes."""
-    status = os.stat(path)
-    return status.st_ino, status.st_mtime_ns
 
 
 def run_of(program, words):
