@@ -13,13 +13,16 @@ import struct
 CHECK, OPEN, CREATE, ARRIVAL, RETRY, TURN, CRASH, RESTART = range(8)
 FIGURES, ORDER = 8, 9
 # W-208: FINISH is the call done, which DONE, an answer, is not
-ADD, TAKE, FINISH, REPLY = 10, 11, 12, 13
+ADD, TAKE, FINISH = 10, 11, 12
+# W-209; 14 is no call
+RETIRE, REPLY = 13, 15
 RETURN = (0xB0, 0)
 SET = (0x00, 0)
 COPY = (0x10, 0)
 BEGIN = (0x60, 0)
 END = (0x70, 0)
 PUT = (0x91, 2)  # the value at register 1's key becomes register 2
+FLOOR_KEY = 2**40  # W-209: the floor row's, in the book
 
 
 def pack(*workflows, sizes=None, more=b""):
@@ -29,14 +32,16 @@ def pack(*workflows, sizes=None, more=b""):
     return head + bytes(b for b, _ in code) + b"".join(struct.pack("<I", w) for _, w in code) + more
 
 
-def store(P=1, C=5, rows=(), book=(), used=None, more=b"", as_written=False):
-    """The bytes of a store: rows are (partition, stored key, value), book has (id, workflow, arguments). The rows of a partition stand by
-    rising key, or as they are written."""
+def store(P=1, C=5, rows=(), book=(), used=None, more=b"", as_written=False, floor=None):
+    """The bytes of a store: rows are (partition, stored key, value), book has (id, workflow, arguments); a floor has its row in the book.
+    The rows of a partition stand by rising key, or as they are written."""
     parts = [[] for _ in range(P + 1)]
     for p, k, v in rows:
         parts[p].append((k, v))
     for id, workflow, arguments in book:
         parts[P] += [(8 * id + j, v) for j, v in enumerate([workflow, *arguments])]
+    if floor is not None:
+        parts[P].append((FLOOR_KEY, floor))
     if not as_written:
         for p in parts:
             p.sort(key=lambda row: row[0])
@@ -49,9 +54,9 @@ def store(P=1, C=5, rows=(), book=(), used=None, more=b"", as_written=False):
     return struct.pack("<BH", P, C) + b"".join(struct.pack("<H", n) for n in counts) + keys + values + more
 
 
-def written(P=1, C=5, rows=(), book=(), used=None, more=b""):
+def written(P=1, C=5, rows=(), book=(), used=None, more=b"", floor=None):
     """The same with the rows as they are written here."""
-    return store(P, C, rows, book, used, more, True)
+    return store(P, C, rows, book, used, more, True, floor)
 
 
 def agent(id, position=0, step=0, registers=(), in_use=1):
@@ -444,15 +449,81 @@ def eight_logged(blocks):
 
 def bad_list(words, listed):
     """Each call that puts 25 says no, before a restart and after it; the restart doesn't touch the list."""
-    made = [(ADD, [7]), (TAKE, []), (FINISH, [7]), (RESTART, []), (ADD, [7]), (TAKE, []), (FINISH, [7])]
-    return ("25, and a restart leaves the list as it was: %s" % words, calls(ONE, SEVEN_BOOKED, made, listed=listed),
-            refused(25) * 3 + DONE + refused(25) * 3)
+    made = [(ADD, [7]), (TAKE, []), (FINISH, [7]), (RETIRE, [8])]
+    return ("25, and a restart leaves the list as it was: %s" % words,
+            calls(ONE, SEVEN_BOOKED, [*made, (RESTART, []), *made], listed=listed), refused(25) * 4 + DONE + refused(25) * 4)
 
 
 def before_25(no, p, s, slots):
-    """Add, take and done say no to something else before 25."""
-    return ("%d is asked before 25: add, take and done" % no[0],
-            calls(p, s, [(ADD, [8]), (TAKE, []), (FINISH, [8])], slots, MARK_2), refused(*no) * 3)
+    """Add, take, done and retire say no to something else before 25."""
+    return ("%d is asked before 25: add, take, done and retire" % no[0],
+            calls(p, s, [(ADD, [8]), (TAKE, []), (FINISH, [8]), (RETIRE, [8])], slots, MARK_2), refused(*no) * 4)
+
+
+# W-209: retiring
+TWO = [like(7), like(8)]
+# the floor row alone, and with a booked id at the floor and below it
+FLOOR_8 = store(floor=8)
+AT_FLOOR = store(1, 6, book=BOOKED, floor=7)
+BELOW_FLOOR = store(1, 6, book=BOOKED, floor=8)
+# a workflow without blocks and one with a block
+SOME_BLOCK = pack([RETURN], [BEGIN, END, RETURN])
+# log rows of ids around 8, booked or not, and data rows, in three partitions; retired below 8, partition 1 stays as it is
+KEPT_ROWS = [(0, log(8, 0), 4), (0, data(0), 5), (0, data(7 * 65536), 6), (1, log(8, 0), 7), (1, data(1), 8), (2, data(2**32 - 1), 11)]
+GOING_ROWS = [(0, log(3, 9), 1), (0, log(7, 0), 2), (0, log(7, 65535), 3), (2, log(0, 0), 9), (2, log(6, 65535), 10)]
+# ids 255 to 2^24, each greater than the one before in a higher byte
+BYTEWISE = [255, 256, 65535, 65536]
+# a full partition of which request 8 finds two rows free once 7 is retired
+EIGHT_DATA = [(0, data(k), k) for k in range(8)]
+
+
+def retire(floor=8, listed=(), p=ONE, s=SEVEN_BOOKED, slots=None):
+    """The requests below a floor are retired."""
+    return call(RETIRE, [floor], p, s, slots, listed)
+
+
+def arrives_at(id, floor, workflow=0, C=6, slots=None):
+    """An id arrives where the book has the floor row alone."""
+    return call(ARRIVAL, [0, id, workflow], ONE, store(1, C, floor=floor), slots)
+
+
+def empty_request(id):
+    """A request of workflow 0 whose arguments are 0."""
+    return (id, 0, [0] * 4)
+
+
+def three_workflows(*workflows):
+    """Requests 3, 5 and 7 of SOME_BLOCK, none of whose blocks is logged."""
+    return store(1, 15, book=[(3 + 2 * i, workflow, [1, 2, 3, 4]) for i, workflow in enumerate(workflows)])
+
+
+def retire_three(floor, left):
+    """Requests 3, 5 and 7, all logged through, below a floor; those that are left."""
+    return ("retire: floor %d where 3, 5 and 7 are booked" % floor, retire(floor, p=TALL, s=store(1, 15, book=THREE)), DONE,
+            store(1, 15, book=left, floor=floor))
+
+
+def retire_not_through(words, rows):
+    """Request 7 of MOVE with such log rows."""
+    s = store(2, 5, [(p, log(id, step), 30) for p, id, step in rows], BOOKED)
+    return ("28: MOVE with log rows of %s" % words, retire(p=MOVE, s=s), refused(28))
+
+
+def one_after_the_other(*ids):
+    """In a book of six rows each request arrives, runs up to its reply and is retired."""
+    made = [c for id in ids for c in [(ARRIVAL, [0, id, 0, 100, id, 0, 0]), (TURN, [0]), (TURN, [0]), (RETIRE, [id + 1])]]
+    return ("%d requests one after the other in a book of six rows, each retired behind its reply" % len(ids),
+            calls(KEPT, store(1, 6), made), "".join(DONE + MOVED + value_of(id, 100) + DONE for id in ids),
+            store(1, 6, [(0, data(100), ids[-1])], floor=ids[-1] + 1))
+
+
+def filled_again():
+    """A book of 51 requests and 256 rows is retired whole and filled with 51 others; the next finds no rows."""
+    made = [(RETIRE, [52])] + [c for id in range(52, 103) for c in [(ARRIVAL, [0, id, 0]), (TURN, [0])]] + [(ARRIVAL, [0, 103, 0])]
+    return ("51 requests in a book of 256 rows, retired whole, then 51 others and no more",
+            calls(ONE, store(1, 256, book=map(empty_request, range(1, 52))), made),
+            DONE + "".join(DONE + value_of(id, 0) for id in range(52, 103)) + refused(19),
+            store(1, 256, book=map(empty_request, range(52, 103)), floor=52))
 
 
 EDGES = [
@@ -1067,6 +1138,218 @@ log 1 9 0 3
     ("reply: an agent at RETURN whose block is not logged", reply(KEPT, slots={0: agent(7, 3, 1, [100])}), NOT_YET),
     ("reply: a list that 25 would say no to", call(REPLY, [7], ONE, SEVEN_BOOKED, listed=MARK_2), value_of(7, 100)),
     *(("reply: %d is asked before 20" % no[0], reply(p, s, 8), refused(*no)) for no, p, s, slots in BEFORE_25 if slots is None),
+    # W-209: retiring, and which ids are smaller
+    ("retire: the one booked id is just below the floor", retire(8), DONE, FLOOR_8),
+    ("29: the floor is at the booked id", retire(7), refused(29)),
+    ("29: the floor is below the booked id", retire(6), refused(29)),
+    ("29: floor 0, where id 0 of an older book is", retire(0, s=store(book=ZERO)), refused(29)),
+    ("29: an empty book, floors 0, 1 and 2^32 - 1", calls(ONE, store(), [(RETIRE, [floor]) for floor in [0, 1, 2**32 - 1]]),
+     refused(29) * 3),
+    ("29: an id is booked at the floor, an agent of it in a slot, and it is listed, and so is a smaller one that is not booked",
+     retire(7, waits(6) + taken(7), slots={0: agent(7)}), refused(29)),
+    retire_three(4, THREE[1:]), retire_three(5, THREE[1:]), retire_three(6, THREE[2:]), retire_three(7, THREE[2:]), retire_three(8, []),
+    ("retire: floors 3 to 8 in turn where 3, 5 and 7 are booked, then smaller ones", calls(
+        TALL, store(1, 15, book=THREE), [(RETIRE, [floor]) for floor in [3, 4, 4, 5, 6, 7, 8, 8, 5, 0]]),
+     refused(29) + DONE + refused(29) * 2 + DONE + refused(29) + DONE + refused(29) * 3, store(1, 15, floor=8)),
+    ("retire: ids and floors that differ in another byte each", calls(
+        ONE, store(1, 20, book=map(like, BYTEWISE)), [(RETIRE, [floor]) for floor in [255, 256, 257, 65535, 65536, 2**24, 2**24]]),
+     refused(29) + DONE * 2 + refused(29) + DONE * 2 + refused(29), store(1, 20, floor=2**24)),
+    ("retire: floor 2^32 - 1, where 2^32 - 2 goes and 2^32 - 1 stays", retire(2**32 - 1, p=KEPT, s=store(1, 10, [
+        (0, log(2**32 - 2, 0), 100), (0, log(2**32 - 2, 65535), 1), (0, log(2**32 - 1, 0), 50), (0, data(0), 5)],
+        [like(2**32 - 2), like(2**32 - 1)])), DONE,
+     store(1, 10, [(0, log(2**32 - 1, 0), 50), (0, data(0), 5)], [like(2**32 - 1)], floor=2**32 - 1)),
+    ("the greatest id is never retired, and is booked and retried as ever", calls(ONE, store(1, 6, floor=2**32 - 1), [
+        (ARRIVAL, [0, 2**32 - 2, 0]), (ARRIVAL, [0, 2**32 - 1, 0]), (CRASH, [0]), (RETIRE, [2**32 - 1]), (RETRY, [0, 2**32 - 1])]),
+     refused(30) + DONE * 2 + refused(29) + DONE, store(1, 6, book=[empty_request(2**32 - 1)], floor=2**32 - 1)),
+    # id 0 of an older book, which is in no empty slot and on no empty list
+    ("retire: id 0 of an older book, all slots empty and none listed", retire(1, s=store(book=ZERO)), DONE, store(floor=1)),
+    ("retire: id 0 of an older book beside an agent and an entry of id 7", retire(
+        1, taken(7), s=store(1, 10, book=[*ZERO, like(7)]), slots={3: agent(7)}), DONE, store(1, 10, book=[like(7)], floor=1)),
+    ("28: id 0 of an older book, an agent of it in a slot", retire(1, s=store(book=ZERO), slots={0: agent(0)}), refused(28)),
+    ("28: id 0 of an older book, listed", retire(1, waits(0), s=store(book=ZERO)), refused(28)),
+    # 28, logged through
+    ("28: a block that is not logged", retire(p=KEPT), refused(28)),
+    ("retire: a block that is logged; its data row stays", retire(p=KEPT, s=KEPT_SEVEN), DONE, store(1, 5, [(0, data(100), 200)], floor=8)),
+    ("retire: a block that is logged with result 0", retire(p=KEPT, s=kept(0)), DONE, FLOOR_8),
+    ("28: MOVE with one block logged", retire(p=MOVE, s=HALF_MOVED), refused(28)),
+    ("retire: MOVE with both blocks logged", retire(p=MOVE, s=MOVED_SEVEN), DONE,
+     store(2, 5, [(0, data(100), 2**32 - 30), (1, data(200), 30)], floor=8)),
+    *(retire_not_through(*NOT_THROUGH[i]) for i in [1, 4, 7, 8]),
+    ("retire: a jump goes by the logged result, over a block that is not logged", retire(p=UNLESS_EQUAL, s=kept(200)), DONE, FLOOR_8),
+    ("28: a jump does not go by the logged result, to a block that is not logged", retire(p=UNLESS_EQUAL, s=kept(199)), refused(28)),
+    ("28: a block in each of eight partitions, the last not logged", retire(p=EIGHT_BLOCKS, s=eight_logged(7)), refused(28)),
+    ("retire: a block in each of eight partitions", retire(p=EIGHT_BLOCKS, s=eight_logged(8)), DONE, store(8, 5, floor=8)),
+    ("28: of three smaller ids the first is not logged through", retire(p=SOME_BLOCK, s=three_workflows(1, 0, 0)), refused(28)),
+    ("28: of three smaller ids the second is not logged through", retire(p=SOME_BLOCK, s=three_workflows(0, 1, 0)), refused(28)),
+    ("28: of three smaller ids the last is not logged through", retire(p=SOME_BLOCK, s=three_workflows(0, 0, 1)), refused(28)),
+    ("retire: an id at the floor needn't be logged through", retire(7, p=SOME_BLOCK, s=three_workflows(0, 0, 1)), DONE,
+     store(1, 15, book=[(7, 1, [1, 2, 3, 4])], floor=7)),
+    # 28, the slots
+    ("28: an agent of the id in slot 0", retire(slots={0: agent(7)}), refused(28)),
+    ("28: an agent of the id in slot 7", retire(slots={7: agent(7)}), refused(28)),
+    ("28: an agent at RETURN, logged through", retire(p=KEPT, s=KEPT_SEVEN, slots={2: agent(7, 3, 1, [100])}), refused(28)),
+    ("28: an agent of the second of two smaller ids", retire(9, s=store(1, 10, book=TWO), slots={5: agent(8)}), refused(28)),
+    ("retire: agents of the id at the floor in all slots, which go on", calls(
+        ONE, store(1, 10, book=TWO), [(RETIRE, [8]), (TURN, [0]), (TURN, [7])], {i: agent(8, registers=[i]) for i in range(8)}),
+     DONE + value_of(8, 0) + value_of(8, 7), store(1, 10, book=[like(8)], floor=8)),
+    ("28 until a crash empties the slot", calls(ONE, SEVEN_BOOKED, [(RETIRE, [8]), (CRASH, [4]), (RETIRE, [8])], {4: agent(7)}),
+     refused(28) + DONE * 2, FLOOR_8),
+    ("28 until the reply empties the slot", calls(
+        ONE, SEVEN_BOOKED, [(RETIRE, [8]), (TURN, [0]), (RETIRE, [8])], {0: agent(7, registers=[42])}),
+     refused(28) + value_of(7, 42) + DONE, FLOOR_8),
+    # 28, the worklist
+    ("28: the id waits on the worklist", retire(8, waits(7)), refused(28)),
+    ("28: the id is taken", retire(8, taken(7)), refused(28)),
+    ("28: the id is the last of 16", retire(8, taken(*FIFTEEN_IDS) + waits(7)), refused(28)),
+    ("28: the second of two smaller ids waits", retire(9, waits(8), s=store(1, 10, book=TWO)), refused(28)),
+    ("retire: smaller ids on the worklist that are not booked stay there", retire(8, waits(3) + taken(6)), DONE, FLOOR_8),
+    ("retire: the id at the floor is on the worklist and stays there", retire(8, taken(8), s=store(1, 10, book=TWO)), DONE,
+     store(1, 10, book=[like(8)], floor=8)),
+    ("retire: 16 listed, three of which differ from 7 in one byte", retire(
+        8, taken(7 + 2**8, 7 + 2**16, 7 + 2**24) + waits(*FIFTEEN_IDS[2:])), DONE, FLOOR_8),
+    ("28 until a done takes the id off the worklist", calls(
+        ONE, SEVEN_BOOKED, [(RETIRE, [8]), (TAKE, []), (RETIRE, [8]), (FINISH, [7]), (RETIRE, [8])], listed=waits(7)),
+     refused(28) + gives(7) + refused(28) + DONE * 2, FLOOR_8, []),
+    ("28: a restart empties the slot, and the id is still listed", calls(
+        ONE, SEVEN_BOOKED, [(RETIRE, [8]), (RESTART, []), (RETIRE, [8])], {0: agent(7)}, taken(7)),
+     refused(28) + DONE + refused(28), None, waits(7)),
+    # which rows go
+    ("retire: log rows of smaller ids, booked or not, in every partition that has some; data rows stay", retire(
+        s=store(3, 6, KEPT_ROWS + GOING_ROWS, BOOKED)), DONE, store(3, 6, KEPT_ROWS, floor=8)),
+    ("29 and 28: log rows of smaller ids that are not booked stay with a retire that is refused", calls(
+        ONE, store(3, 6, KEPT_ROWS + GOING_ROWS, BOOKED), [(RETIRE, [7]), (RETIRE, [8])], listed=waits(7)), refused(29) + refused(28)),
+    ("retire: a full partition of log rows becomes empty", retire(s=store(1, 5, [(0, log(7, t), t + 1) for t in range(5)], BOOKED)), DONE,
+     FLOOR_8),
+    ("retire: a full partition of data rows stays", retire(s=store(1, 5, [(0, data(k), k + 1) for k in range(5)], BOOKED)), DONE,
+     store(1, 5, [(0, data(k), k + 1) for k in range(5)], floor=8)),
+    ("retire: the log row of id 2^24, step 0 has the floor row's number and stays", retire(
+        s=store(1, 5, [(0, log(7, 0), 1), (0, 2**40, 9)], BOOKED)), DONE, store(1, 5, [(0, 2**40, 9)], floor=8)),
+    ("retire: the log row of id 2^24, step 0 goes with its id", retire(2**24 + 1, s=store(1, 5, [(0, 2**40, 9)], [like(2**24)])), DONE,
+     store(floor=2**24 + 1)),
+    ("log rows below the floor of a store stay until a retire is accepted", calls(
+        ONE, store(1, 6, [(0, log(3, 0), 1), (0, log(8, 0), 2)], [like(8)], floor=7), [(RETIRE, [8]), (RETRY, [0, 8]), (CRASH, [0])]),
+     refused(29) + DONE * 2),
+    ("retire: log rows below the floor that a store had before", retire(
+        9, s=store(1, 6, [(0, log(3, 0), 1), (0, log(8, 0), 2), (0, log(9, 0), 3)], [like(8)], floor=7)), DONE,
+     store(1, 6, [(0, log(9, 0), 3)], floor=9)),
+    # the floor row
+    ("retire: a floor row is overwritten, in a full book", retire(8, s=store(1, 11, book=TWO, floor=7)), DONE,
+     store(1, 11, book=[like(8)], floor=8)),
+    ("retire: two floors, each of them twice", calls(ONE, store(1, 10, book=TWO), [(RETIRE, [floor]) for floor in [8, 8, 9, 9]]),
+     (DONE + refused(29)) * 2, store(1, 10, floor=9)),
+    ("29: floors below the one that is kept, at it and at the booked id", calls(
+        ONE, store(1, 6, book=[like(25)], floor=20), [(RETIRE, [floor]) for floor in [0, 10, 20, 25]]), refused(29) * 4),
+    ("retire: a floor row of value 0 is overwritten", retire(s=store(1, 6, book=BOOKED, floor=0)), DONE, store(1, 6, floor=8)),
+    ("a floor row of value 0: id 1 arrives", arrives_at(1, 0), DONE, store(1, 6, book=[empty_request(1)], floor=0)),
+    ("a floor row of value 0: id 0 of an older book is retried, then retired", calls(
+        ONE, store(1, 6, book=ZERO, floor=0), [(RETRY, [0, 0]), (RETIRE, [1]), (CRASH, [0]), (RETIRE, [1])]),
+     DONE + refused(28) + DONE * 2, store(1, 6, floor=1)),
+    # 11, 12 and 13 of a floor row
+    ("a floor row alone: no five rows, and a value that is no workflow", turn(s=FLOOR_8), refused(16)),
+    ("a floor row with the booked id at the floor", turn(s=AT_FLOOR), refused(16)),
+    ("a floor row with the booked id above the floor", turn(s=store(1, 6, book=BOOKED, floor=6)), refused(16)),
+    ("a floor row with the booked id below the floor: every call that puts 12", calls(ONE, BELOW_FLOOR, [
+        (ARRIVAL, [1, 9, 0]), (RETRY, [1, 7]), (TURN, [0]), (CRASH, [0]), (ORDER, []), (ADD, [7]), (TAKE, []), (FINISH, [7]), (RETIRE, [8]),
+        (RETIRE, [7])], {0: agent(7)}), refused(12) * 10),
+    ("reply: the booked id is below the floor", reply(s=BELOW_FLOOR), refused(12)),
+    ("of two booked ids the first is below the floor", turn(s=store(1, 11, book=TWO, floor=8)), refused(12)),
+    ("id 0 of an older book and floor 1", turn(s=store(1, 6, book=ZERO, floor=1)), refused(12)),
+    ("id 0 of an older book and floor 0", turn(s=store(1, 6, book=ZERO, floor=0)), refused(16)),
+    ("floor 2^32 - 1 and id 2^32 - 1", turn(s=store(1, 6, book=[like(2**32 - 1)], floor=2**32 - 1)), refused(16)),
+    ("floor 2^32 - 1 and id 2^32 - 2", turn(s=store(1, 6, book=[like(2**32 - 2)], floor=2**32 - 1)), refused(12)),
+    ("four rows of an id and the floor row", turn(s=store(1, 5, [(1, 8 * 7 + j, 0) for j in range(4)], floor=7)), refused(12)),
+    ("a floor row behind a booked workflow that the pack has not", turn(s=store(1, 6, book=[(7, 1, [0] * 4)], floor=7)), refused(13)),
+    ("12 of the floor is asked before 13", turn(s=store(1, 6, book=[(7, 1, [0] * 4)], floor=8)), refused(12)),
+    ("a floor row ahead of the other rows of the book: arrival, retry, turn and crash", asked(written(1, 6, [(1, FLOOR_KEY, 7)], BOOKED)),
+     refused(11) * 4),
+    ("11 of a floor row that isn't last is asked before 12", turn(s=written(1, 6, [(1, FLOOR_KEY, 8)], BOOKED)), refused(11)),
+    ("the floor row twice", turn(s=store(1, 5, [(1, FLOOR_KEY, 8)], floor=8)), refused(11)),
+    ("the floor row behind the used count", turn(s=store(floor=8, used={1: 0})), refused(11)),
+    *(("a key of the book that is the floor row's %s" % words, turn(s=store(1, 5, [(1, key, 8)])), refused(11))
+      for words, key in [("less 1", 2**40 - 1), ("and 1", 2**40 + 1), ("and 8", 2**40 + 8), ("halved", 2**39), ("twice", 2**41),
+                         ("with the highest bit set", data(2**40))]),
+    ("the floor row's number in a partition is a log row's: id 1 arrives", call(
+        ARRIVAL, [0, 1, 0], ONE, store(1, 5, [(0, 2**40, 9)])), DONE, store(1, 5, [(0, 2**40, 9)], [empty_request(1)])),
+    ("an agent of an id below the floor", turn(s=FLOOR_8, slots={0: agent(7)}), refused(14)),
+    # the floor row and order
+    ("order: a floor row ahead of the other rows of the book", order(written(1, 6, [(1, FLOOR_KEY, 7)], BOOKED)), DONE, AT_FLOOR),
+    ("order: a floor row between them, and log rows below the floor, which stay", order(written(1, 6, [
+        (0, data(1), 1), (0, log(3, 0), 2), (1, 60, 0), (1, 58, 200), (1, FLOOR_KEY, 7), (1, 59, 30), (1, 56, 0), (1, 57, 100)])), DONE,
+     store(1, 6, [(0, log(3, 0), 2), (0, data(1), 1)], BOOKED, floor=7)),
+    ("order: a floor row alone", order(FLOOR_8), DONE),
+    ("order: a booked id below the floor", order(BELOW_FLOOR), refused(12)),
+    ("order: a booked id below the floor, in another order", order(written(1, 6, [(1, FLOOR_KEY, 8)], BOOKED)), refused(12)),
+    ("order: the floor row twice, apart", order(written(1, 7, [(1, FLOOR_KEY, 7), *FALLING, (1, FLOOR_KEY, 7)])), refused(11)),
+    ("order: four rows of an id and the floor row", order(written(1, 5, [(1, FLOOR_KEY, 7)] + [(1, 8 * 7 + j, 0) for j in range(4)])),
+     refused(12)),
+    # 30, between 24 and 17
+    ("an arrival just below the floor", arrives_at(6, 7), refused(30)),
+    ("an arrival with id 1, below floor 2", arrives_at(1, 2), refused(30)),
+    ("an arrival at the floor", arrives_at(7, 7), DONE, store(1, 6, book=[empty_request(7)], floor=7)),
+    ("an arrival above the floor", arrives_at(8, 7), DONE, store(1, 6, book=[empty_request(8)], floor=7)),
+    ("an arrival of the booked id at the floor", call(ARRIVAL, [0, *SEVEN], ONE, AT_FLOOR), DONE),
+    ("24 is asked before 30: id 0 and floor 1", arrives_at(0, 1), refused(24)),
+    ("30 is asked before 17", arrives_at(6, 7, 9), refused(30)),
+    ("17 at the floor", arrives_at(7, 7, 9), refused(17)),
+    ("30 is asked before 19", arrives_at(6, 7, C=5), refused(30)),
+    ("19 at the floor: the floor row and four rows free", arrives_at(7, 7, C=5), refused(19)),
+    ("14 is asked before 30", arrives_at(6, 7, slots={3: agent(6)}), refused(14)),
+    ("15 and 16 are asked before 30, which is asked whatever workflow and arguments are; 18 and 19 from the floor on", calls(
+        ONE, AT_FLOOR, [(ARRIVAL, [8, 6, 0]), (ARRIVAL, [0, 6, 0]), (ARRIVAL, [1, 6, 0]), (ARRIVAL, [1, 6, 9]),
+                        (ARRIVAL, [1, 6, *SEVEN[1:]]), (ARRIVAL, [1, 7, 0]), (ARRIVAL, [1, 8, 0])], {0: agent(7)}),
+     refused(15) + refused(16) + refused(30) * 3 + refused(18) + refused(19)),
+    ("ids below floor 2^24 that differ in another byte each, then 2^24", calls(
+        ONE, store(1, 6, floor=2**24), [(ARRIVAL, [0, id, 0]) for id in [*BYTEWISE, 2**24 - 1, 2**24]]), refused(30) * 5 + DONE,
+     store(1, 6, book=[empty_request(2**24)], floor=2**24)),
+    ("a new id below the booked one goes ahead of it and of the floor row", call(
+        ARRIVAL, [0, 8, 0], ONE, store(1, 11, book=[like(9)], floor=7)), DONE,
+     written(1, 11, book=[empty_request(8), like(9)], floor=7)),
+    ("the greatest id goes behind the booked one and ahead of the floor row", call(
+        ARRIVAL, [0, 2**32 - 1, 0], ONE, store(1, 11, book=[like(9)], floor=7)), DONE,
+     written(1, 11, book=[like(9), empty_request(2**32 - 1)], floor=7)),
+    ("a new id where the floor row leaves four rows free", call(ARRIVAL, [0, 8, 0], ONE, store(1, 10, book=[like(9)], floor=7)),
+     refused(19)),
+    # a retired id
+    ("a request is retired: its late repeat, retry, add, done, turn, and the same retire again", calls(KEPT, KEPT_SEVEN, [
+        (RETIRE, [8]), (ARRIVAL, [0, *SEVEN]), (ARRIVAL, [0, 7, 0]), (RETRY, [0, 7]), (ADD, [7]), (TAKE, []), (FINISH, [7]), (TURN, [0]),
+        (RETIRE, [8]), (RESTART, []), (ARRIVAL, [0, *SEVEN])]),
+     DONE + refused(30) * 2 + refused(20) * 2 + refused(27) * 2 + refused(16) + refused(29) + DONE + refused(30),
+     store(1, 5, [(0, data(100), 200)], floor=8)),
+    ("a retired id that is still listed: add and done", calls(ONE, FLOOR_8, [(ADD, [7]), (FINISH, [7])], listed=taken(7)),
+     refused(20) + refused(27)),
+    ("add: a retired id, 16 listed", add(waits(*SIXTEEN_IDS), s=FLOOR_8), refused(26)),
+    ("reply: a retired id", reply(KEPT, store(1, 5, [(0, data(100), 200)], floor=8)), refused(20)),
+    ("reply: an id below the floor, not booked, with a log row of it", reply(KEPT, store(1, 5, [(0, log(7, 0), 9)], floor=8)), refused(20)),
+    ("reply: the booked id at the floor", reply(KEPT, store(1, 6, [(0, log(7, 0), 55)], BOOKED, floor=7)), value_of(7, 55)),
+    # freed rows
+    ("a book of five rows stays shut once its request is retired", calls(
+        ONE, SEVEN_BOOKED, [(RETIRE, [8]), (ARRIVAL, [0, 8, 0]), (ARRIVAL, [0, 2**32 - 1, 0])]), DONE + refused(19) * 2, FLOOR_8),
+    ("a book of ten rows: with the floor row one request more finds room where two are retired, and none where one is", calls(
+        ONE, store(1, 10, book=TWO), [(RETIRE, [8]), (ARRIVAL, [0, 9, 0]), (RETIRE, [9]), (ARRIVAL, [0, 9, 0]), (ARRIVAL, [1, 10, 0])]),
+     DONE + refused(19) + DONE * 2 + refused(19), store(1, 10, book=[empty_request(9)], floor=9)),
+    one_after_the_other(7, 8, 20, 21),
+    filled_again(),
+    ("21 in a full partition; the rows that a retire frees there are used", calls(
+        KEPT, store(1, 10, [(0, log(3, 0), 1), (0, log(7, 0), 100), *EIGHT_DATA], TWO), [(TURN, [0]), (RETIRE, [8]), (TURN, [0])],
+        {0: agent(8, registers=[100, 1])}),
+     refused(21) + DONE + MOVED, store(1, 10, [(0, log(8, 0), 100), *EIGHT_DATA, (0, data(100), 1)], [like(8)], floor=8)),
+    # through several calls
+    ("MOVE: 7 is retired while 8 is under way, which is then crashed and retried up to its reply", calls(MOVE, store(2, 10), [
+        (ARRIVAL, [0, *SEVEN]), (ARRIVAL, [1, 8, 0, 100, 200, 5, 0]), *[(TURN, [0])] * 4, (TURN, [1]), (TURN, [1]), (RETIRE, [9]),
+        (RETIRE, [8]), (CRASH, [1]), (RETIRE, [9]), (RETRY, [1, 8]), *[(TURN, [1])] * 4]),
+     DONE * 2 + MOVED * 3 + value_of(7, 30) + MOVED * 2 + refused(28) + DONE * 2 + refused(28) + DONE + MOVED * 3 + value_of(8, 35),
+     store(2, 10, [(0, log(8, 0), 2**32 - 35), (0, data(100), 2**32 - 35), (1, log(8, 1), 35), (1, data(200), 35)],
+           [(8, 0, [100, 200, 5, 0])], floor=8)),
+    ("a request is accepted, worked off, done and retired, and a late repeat of it doesn't act", calls(KEPT, store(), [
+        (ARRIVAL, [0, *SEVEN]), (ADD, [7]), (TAKE, []), (RETIRE, [8]), (TURN, [0]), (RETIRE, [8]), (TURN, [0]), (RETIRE, [8]),
+        (FINISH, [7]), (RETIRE, [8]), (ARRIVAL, [0, *SEVEN]), (RETRY, [0, 7])]),
+     DONE * 2 + gives(7) + refused(28) + MOVED + refused(28) + value_of(7, 100) + refused(28) + DONE * 2 + refused(30) + refused(20),
+     store(1, 5, [(0, data(100), 200)], floor=8)),
+    # the order of the questions of retire
+    ("25 is asked before 28 and 29", calls(ONE, SEVEN_BOOKED, [(RETIRE, [8]), (RETIRE, [7])], {0: agent(7)}, MARK_2), refused(25) * 2),
+    ("14 is asked before 28 and 29", calls(ONE, SEVEN_BOOKED, [(RETIRE, [8]), (RETIRE, [7])], {3: agent(8)}, taken(7)), refused(14) * 2),
+    ("11 is asked before 28, and once the store is in order the request is retired", calls(
+        ONE, written(1, 5, FALLING), [(RETIRE, [8]), (ORDER, []), (RETIRE, [8])]), refused(11) + DONE * 2, FLOOR_8),
     # 22, 23 and 9 of a schedule
     ("a schedule with no bytes", Case(struct.pack("<BII", 0, len(ONE), 0) + ONE), "refused 22\n"),
     ("no pack and no schedule", Case(struct.pack("<BII", 0, 0, 0)), "refused 1\n"),
@@ -1094,7 +1377,10 @@ def left(case, answer, after=None, listed=None):
 here = os.path.dirname(os.path.abspath(__file__))
 titles = [(words + "\n").encode() for words, *_ in EDGES]
 stdin = b"".join(bytes([len(title)]) + title + edge[1].bytes for title, edge in zip(titles, EDGES))
-assert len(stdin) <= 393216, len(stdin)  # what the program reads
+# Behind the last edge: call byte 14 is no call, so that the program ends there and prints nothing of it.
+none = b"no call\n"
+stdin += bytes([len(none)]) + none + call(14, [8], ONE, SEVEN_BOOKED, listed=[]).bytes
+assert len(stdin) <= 524288, len(stdin)  # what the program reads
 with open(os.path.join(here, "stdin"), "wb") as f:
     f.write(stdin)
 with open(os.path.join(here, "stdout"), "w") as f:

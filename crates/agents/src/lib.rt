@@ -3,7 +3,8 @@ ghost use mathlib.Core.Path.{_≡_};
 ghost use Prim.Native.Nat.{_<_};
 ghost use lib.ListN.{set, replicate};
 ghost use Rattle.agents.specs.Requests.{asked};
-ghost use Rattle.agents.specs.Slots.{noAgent, startedWith, placed, isBlank};
+ghost use Rattle.rules.specs.Calls.{isOf, inNoSlot};
+ghost use Rattle.agents.specs.Slots.{noAgent, startedWith, placed, isBlank, agentOf, slotsOf};
 ghost use Rattle.agents.specs.Answers.{outcome};
 
 // A request: the number of its workflow and its four arguments.
@@ -116,6 +117,31 @@ pub fn is_blank(a: Agent) -> bool
             return false;
         }
         i += 1;
+    }
+    true
+}
+
+// Is it the record of an agent of this id? An empty record's id is 0, and no agent's.
+fn is_of(a: Agent, id: u32) -> bool
+    ensures { λ r. ⌜ r ≡ isOf id (agentOf a) ⌝ }
+{
+    if a.id == id {
+        return a.in_use;
+    }
+    false
+}
+
+// Is no agent of this id in a slot?
+pub fn in_no_slot(agents: [Agent; 8], id: u32) -> bool
+    ensures { λ r. ⌜ r ≡ inNoSlot (slotsOf agents) id ⌝ }
+{
+    let mut slot = 0;
+    while slot < 8 {
+        let a = agents[slot];
+        if is_of(a, id) {
+            return false;
+        }
+        slot += 1;
     }
     true
 }

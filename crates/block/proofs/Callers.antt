@@ -11,7 +11,7 @@ use borrow.Author.Tests.{lt-ltb}
 use lib.Dec.{ltb, leb}
 use lib.ListN.{length}
 use Rattle.contents.specs.Contents.{valueIn, contentsOf, bookOf}
-use Rattle.keys.specs.Keys.{tableOf, logOf}
+use Rattle.keys.specs.Keys.{floorKey, tableOf, logOf}
 use Rattle.questions.specs.Basics.{if_then_else_, update}
 use Rattle.rules.specs.Instructions.{Code, Place}
 use Rattle.rules.specs.Blocks.{Block, yields, runBlock, rowsNeeded}
@@ -108,6 +108,7 @@ module _ (xs ys : List ℕ) (p id t : ℕ) (b : Block) (h : p < partsOf xs) (c :
         log = (log-usual ∙ row-as (b .result)) i;
         bookUsed = length (same-book i);
         book = bookOf (valueIn (same-book i));
+        floor = valueIn (same-book i) floorKey;
       }
 
 -- ---- what a block comes to

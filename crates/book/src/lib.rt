@@ -2,7 +2,7 @@
 ghost use mathlib.Core.Path.{_≡_};
 ghost use Prim.Native.Nat.{_^_, _≤_, _<_};
 ghost use Rattle.agents.specs.Requests.{asked};
-ghost use Rattle.keys.specs.Keys.{bookKey};
+ghost use Rattle.keys.specs.Keys.{bookKey, floorAt};
 ghost use Rattle.store.specs.Rows.{lookup, keysIn};
 ghost use Rattle.store.specs.Answers.{foundIn, gotOf};
 ghost use Rattle.store.specs.Sound.{Sound};
@@ -62,4 +62,22 @@ pub fn booked_request(store: &[u8], id: u32, workflow: u32) -> Request
         a2,
         a3,
     }
+}
+
+// The floor: the value of the floor's row, or 0 where there is none. The keys rise, and no key of the book is greater: it is the last row.
+pub fn floor(store: &[u8]) -> u32
+    requires { ⌜ Sound (now store) ⌝ }
+    ensures { λ r. ⌜ r ≡ floorAt (valueIn (bookRows (now (store .entry)))) ⌝ }
+{
+    let book = store::head::partition_count(store);
+    let rows = store::head::used_count(store, book);
+    if rows == 0 {
+        return 0;
+    }
+    let last = rows - 1;
+    let place = store::head::key_place(store, book, last);
+    if keys::is_floor(words::read64(store, place)) {
+        return store::rows::value_at(store, book, last);
+    }
+    0
 }

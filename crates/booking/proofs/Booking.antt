@@ -13,7 +13,8 @@ use lib.ListN.{length, getD}
 use Rattle.contents.specs.Wrote.{Wrote}
 use Rattle.contents.specs.Contents.{contentsOf, valueIn, argumentsOf, requestOf, bookOf, bookRows}
 use Rattle.questions.specs.Basics.{if_then_else_, update, isSome}
-use Rattle.keys.specs.Keys.{bookKey, isForm, bookKeys}
+use Rattle.keys.specs.Keys.{bookKey, isForm, bookKeys, floorKey, isFloorKey, floorAt}
+use Rattle.keys.proofs.Keys.{key-no-floor}
 use Rattle.questions.specs.Questions.{No, number}
 use Rattle.questions.specs.Questions as Questions
 use Rattle.questions.specs.Verdicts.{verdictOf}
@@ -24,14 +25,15 @@ use Rattle.questions.proofs.Updates.{update-same, update-other, none-some, fals
 use Rattle.questions.proofs.Tests.{and-left, and-right}
 use Rattle.store.specs.Rows.{Row, lookup, pairs, putAll, newRows, countNew, rowsOf, storeOf, keysIn}
 use Rattle.store.specs.Layout.{partsOf, capOf}
-use Rattle.store.specs.Questions.{member, unlike, ahead, rising, five, allIn, bookOk, storeRefusal, keysOk}
+use Rattle.store.specs.Questions.{member, unlike, ahead, rising, five, allIn, bookOk, fromFloor, bookRight, storeRefusal, keysOk}
 use Rattle.store.specs.Sound as Sounds
 use Rattle.store.specs.Sound.{Sound, Stored, StoredIfRoom}
 use Rattle.store.specs.Answers.{foundIn}
 use Rattle.store.specs.declared.rows.Found.the-variants.{At, Belongs}
 use Rattle.store.specs.Questions as StoreQuestions
 use Rattle.store.proofs.Lists.{lookup-put-same, lookup-put-other}
-use Rattle.store.proofs.Sound.{book-five, length-put-all, book-form, store-ok, store-passes, all-members, five-all}
+use Rattle.store.proofs.Sound.{key-five, key-above, all-five, all-above, book-parts, book-whole, twelve-parts}
+use Rattle.store.proofs.Sound.{length-put-all, book-form, store-ok, store-passes, five-all}
 use Rattle.store.proofs.Search.{at-lookup, no-lookup, changed-parts, changed-cap, changed-here}
 use Rattle.agents.specs.declared.Answer.the-variants as Answers
 use Rattle.contents.proofs.Book.{book-row}
@@ -154,30 +156,44 @@ module _ (id w a0 a1 a2 a3 : ℕ) (rows : List Row) where
   there (suc (suc (suc (suc zero)))) h = ap isSome row-4
   there (suc (suc (suc (suc (suc j))))) h = absurd (omega arith)
 
+  -- a row of another id was there before
+  was-there : (k : ℕ) → (k / 8 ≡ id → ⊥) → member k (keysIn after) ≡ true → member k (keysIn rows) ≡ true
+  was-there k n m = member-is k rows ∙ ap isSome (sym (row-other k n)) ∙ sym (member-is k after) ∙ m
+
+  -- no id comes to stand below the floor
+  above-after : (floor : ℕ) → floor ≤ id → fromFloor floor (keysIn rows) ≡ true → fromFloor floor (keysIn after) ≡ true
+  above-after floor l f = all-above floor (keysIn after) (λ k z m. go k z m (ℕ-discrete (k / 8) id))
+    where
+      go : (k : ℕ) → isFloorKey k ≡ false → member k (keysIn after) ≡ true → Dec (k / 8 ≡ id) → floor ≤ k / 8
+      go k z m (yes e) = omega (arith, e, l)
+      go k z m (no n) = key-above floor (keysIn rows) k f z (was-there k n m)
+
+  -- the floor row stays
+  pub floor-after : id < 2 ^ 32 → lookup floorKey after ≡ lookup floorKey rows
+  floor-after h = row-other floorKey (λ e. omega arith)
+
   -- the book is whole
   module _ (whole : bookOk (keysIn rows) ≡ true) where
-    pub whole-after : bookOk (keysIn after) ≡ true
-    unfolding bookOk
-    whole-after = all-members (λ (k : ℕ). five (keysIn after) (k / 8)) (keysIn after) (λ k m. go k m (ℕ-discrete (k / 8) id))
+    whole-after : bookOk (keysIn after) ≡ true
+    whole-after = all-five (keysIn after) (λ k z m. go k z m (ℕ-discrete (k / 8) id))
       where
-        go : (k : ℕ) → member k (keysIn after) ≡ true → Dec (k / 8 ≡ id) → five (keysIn after) (k / 8) ≡ true
-        go k m (yes e) = ap (five (keysIn after)) e ∙ five-all (keysIn after) id (λ j h. member-is (bookKey id j) after ∙ there j h)
-        go k m (no n) =
-            let mr : member k (keysIn rows) ≡ true = member-is k rows ∙ ap isSome (sym (row-other k n)) ∙ sym (member-is k after) ∙ m in
+        go : (k : ℕ) → isFloorKey k ≡ false → member k (keysIn after) ≡ true → Dec (k / 8 ≡ id) → five (keysIn after) (k / 8) ≡ true
+        go k z m (yes e) = ap (five (keysIn after)) e ∙ five-all (keysIn after) id (λ j h. member-is (bookKey id j) after ∙ there j h)
+        go k z m (no n) =
             five-all (keysIn after) (k / 8)
             (λ j h.
             member-is (bookKey (k / 8) j) after ∙ ap isSome (row-other (bookKey (k / 8) j) (λ e. n (omega arith)))
             ∙ sym (member-is (bookKey (k / 8) j) rows)
-            ∙ book-five (keysIn rows) k j whole mr h)
+            ∙ key-five (keysIn rows) k j whole z (was-there k n m) h)
 
-    pub absent : lookup (bookKey id 0) rows ≡ none → (j : ℕ) → j < 5 → lookup (bookKey id j) rows ≡ none
-    absent e j h = go (lookup (bookKey id j) rows) refl
+    absent : id < 2 ^ 32 → lookup (bookKey id 0) rows ≡ none → (j : ℕ) → j < 5 → lookup (bookKey id j) rows ≡ none
+    absent low e j h = go (lookup (bookKey id j) rows) refl
       where
         go : (o : Option ℕ) → lookup (bookKey id j) rows ≡ o → lookup (bookKey id j) rows ≡ none
         go none p = p
         go (some v) p =
             let m : member (bookKey id j) (keysIn rows) ≡ true = member-is (bookKey id j) rows ∙ ap isSome p in
-            let f = book-five (keysIn rows) (bookKey id j) 0 whole m (omega arith) in
+            let f = key-five (keysIn rows) (bookKey id j) 0 whole (key-no-floor id j low (omega arith)) m (omega arith) in
             let d : bookKey id j / 8 ≡ id = omega arith in
             false-true (ap isSome e) (sym (member-is (bookKey id 0) rows) ∙ ap (λ (i : ℕ). member (bookKey i 0) (keysIn rows)) (sym d) ∙ f)
 
@@ -188,9 +204,17 @@ module _ (id w a0 a1 a2 a3 : ℕ) (rows : List Row) where
         length-put-all true (bookKeys id) (w ∷ a0 ∷ a1 ∷ a2 ∷ a3 ∷ []) rows refl (keys-unlike id) (keys-formed id h) formed
         ∙ ap (λ (n : ℕ). length rows + n)
         (λ i.
-        newRows (absent e 0 (omega arith) i)
-        + (newRows (absent e 1 (omega arith) i) + (newRows
-        (absent e 2 (omega arith) i) + (newRows (absent e 3 (omega arith) i) + (newRows (absent e 4 (omega arith) i) + 0)))))
+        newRows (absent h e 0 (omega arith) i)
+        + (newRows (absent h e 1 (omega arith) i) + (newRows
+        (absent h e 2 (omega arith) i) + (newRows (absent h e 3 (omega arith) i) + (newRows (absent h e 4 (omega arith) i) + 0)))))
+
+  -- 12 still says yes
+  pub right-after : id < 2 ^ 32 → floorAt (valueIn rows) ≤ id → bookRight rows ≡ true → bookRight after ≡ true
+  right-after h l b =
+      let parts = book-parts rows b in
+      book-whole after (whole-after (parts .0))
+      (subst (λ (o : Option ℕ). fromFloor (Option·getD o 0) (keysIn after) ≡ true) (sym (floor-after h))
+      (above-after (floorAt (valueIn rows)) l (parts .1)))
 
 -- ── the five rows, written ──
 
@@ -237,11 +261,10 @@ module _ (store store′ : List ℕ) (id w a0 a1 a2 a3 : ℕ) where
   abbrev g : List Row → List Row
   g = withRequest id (request w a0 a1 a2 a3)
 
-  module _ (e : storeRefusal store ≡ none) (h : id < 2 ^ 32) (none-there : lookup (bookKey id 0) (bookRows store) ≡ none)
-      (st : Stored store store′ (partsOf store) g) where
+  module _ (e : storeRefusal store ≡ none) (h : id < 2 ^ 32) (above : floorAt (valueIn (bookRows store)) ≤ id)
+      (none-there : lookup (bookKey id 0) (bookRows store) ≡ none) (st : Stored store store′ (partsOf store) g) where
     whole : bookOk (keysIn (bookRows store)) ≡ true
-    unfolding StoreQuestions.question12
-    whole = store-ok store e .1
+    whole = twelve-parts store (store-ok store e .1) .0
 
     rows-after : bookRows store′ ≡ g (bookRows store)
     rows-after = ap (rowsOf store′) (changed-parts store store′ (partsOf store) g (st .is))
@@ -250,7 +273,8 @@ module _ (store store′ : List ℕ) (id w a0 a1 a2 a3 : ℕ) where
     passes : storeRefusal store′ ≡ none
     unfolding StoreQuestions.question12
     passes = store-passes store′ (st .sound)
-        (subst (λ (r : List Row). bookOk (keysIn r) ≡ true) (sym rows-after) (whole-after id w a0 a1 a2 a3 (bookRows store) whole))
+        (subst (λ (r : List Row). bookRight r ≡ true) (sym rows-after)
+        (right-after id w a0 a1 a2 a3 (bookRows store) h above (store-ok store e .1)))
 
     more : length (g (bookRows store)) ≡ length (bookRows store) + 5
     more = length-after id w a0 a1 a2 a3 (bookRows store) whole h (book-keys store (store-ok store e .0)) none-there
@@ -258,7 +282,7 @@ module _ (store store′ : List ℕ) (id w a0 a1 a2 a3 : ℕ) where
     contents : contentsOf (storeOf store′) ≡ booked s id asks
     unfolding contentsOf
     contents =
-        ap contentsOf (st .is) ∙ contents-book (storeOf store) g
+        ap contentsOf (st .is) ∙ contents-book (storeOf store) g (floor-after id w a0 a1 a2 a3 (bookRows store) h)
         ∙ ap₂ (withBook s) more (book-after id w a0 a1 a2 a3 (bookRows store) h)
 
     pub wrote-request : Wrote store store′ (booked s id asks)

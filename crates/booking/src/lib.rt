@@ -4,8 +4,8 @@ ghost use mathlib.Core.Option.{none};
 ghost use lib.ListN.{length};
 ghost use Prim.Native.Nat.{_≤_};
 ghost use Rattle.agents.specs.Requests.{asked};
-ghost use Rattle.contents.specs.Contents.{bookRows};
-ghost use Rattle.keys.specs.Keys.{bookKey};
+ghost use Rattle.contents.specs.Contents.{bookRows, valueIn};
+ghost use Rattle.keys.specs.Keys.{bookKey, floorAt};
 ghost use Rattle.rules.specs.Store.{sameRequest};
 ghost use Rattle.store.specs.Layout.{partsOf, capOf};
 ghost use Rattle.store.specs.Rows.{keysIn};
@@ -50,9 +50,9 @@ fn write_request(store: &mut [u8], place: usize, id: u32, q: Request)
     store_write::put_all(store, book, place, &keys, &values);
 }
 
-// Questions 18 and 19; then a new id is booked, and a known one stays as it is.
+// Questions 18 and 19 of an id that isn't below the floor; then a new id is booked, and a known one stays as it is.
 pub fn book_request(store: &mut [u8], id: u32, q: Request) -> Verdict
-    requires { ⌜ storeRefusal (now store) ≡ none ⌝ }
+    requires { ⌜ (storeRefusal (now store) ≡ none) × (floorAt (valueIn (bookRows (now store))) ≤ id) ⌝ }
     ensures { λ r. ⌜ Booked (now (store .entry)) (now (store .exit)) id (asked q) r ⌝ }
 {
     let found = book::booked_row(store, id);

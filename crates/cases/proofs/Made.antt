@@ -14,7 +14,7 @@ use Rattle.words.specs.Words as Words
 use Rattle.questions.specs.Basics.{if_then_else_}
 use Rattle.questions.specs.Questions.{No, Placed}
 use Rattle.questions.proofs.Every.{Every}
-use Rattle.rules.specs.Calls.{Call, arrival, retry, turn, crash, restart, order, listAdd, listTake, listDone}
+use Rattle.rules.specs.Calls.{Call, arrival, retry, turn, crash, restart, order, listAdd, listTake, listDone, retire}
 use Rattle.rules.specs.Calls as Rules
 use Rattle.pack.specs.Refusal.{packRefusal, openRefusal}
 use Rattle.pack.proofs.Placed.{pack-placed, open-placed}
@@ -32,7 +32,7 @@ use Rattle.answers.specs.Answers.{numberOf, valuesOf, heard, PlaceFits, judged,
 use Rattle.answers.specs.Answers as Answers
 use Rattle.host.specs.Told.{openedParts, openedWords, answerShort, Told, Made}
 use Rattle.host.specs.Told as ToldBy
-use Rattle.host.specs.Exports.{lentIn, buffersWrong, listWrong, Exported, ListExported, Restarted, PutInOrder}
+use Rattle.host.specs.Exports.{lentIn, buffersWrong, listWrong, Exported, ListExported, StoreExported, Restarted, PutInOrder}
 use Rattle.host.proofs.Exports.{answer-placed, right-buffers}
 use Rattle.cases.specs.Made.{callBy, BytesLeft, OnStore, CaseMade}
 
@@ -64,7 +64,10 @@ module _ (byte : ℕ) (ws : List ℕ) where
   pub by-12 : byte ≡ 12 → listDone (getD ws 0 0) ≡ callBy byte ws
   by-12 e = rw e (unfold callBy in refl)
 
-  pub by-others : 6 < byte → (byte ≡ 9 → ⊥) → (byte < 10) ⊎ (12 < byte) → restart ≡ callBy byte ws
+  pub by-13 : byte ≡ 13 → retire (getD ws 0 0) ≡ callBy byte ws
+  by-13 e = rw e (unfold callBy in refl)
+
+  pub by-others : 6 < byte → (byte ≡ 9 → ⊥) → (byte < 10) ⊎ (13 < byte) → restart ≡ callBy byte ws
   by-others a e h =
       unfold callBy in
       rw (
@@ -76,12 +79,13 @@ module _ (byte : ℕ) (ws : List ℕ) where
         ne-eqb byte 10 (beyond 10 (λ z. omega (arith, z)) (λ z. omega (arith, z))),
         ne-eqb byte 11 (beyond 11 (λ z. omega (arith, z)) (λ z. omega (arith, z))),
         ne-eqb byte 12 (beyond 12 (λ z. omega (arith, z)) (λ z. omega (arith, z))),
+        ne-eqb byte 13 (beyond 13 (λ z. omega (arith, z)) (λ z. omega (arith, z))),
       ) refl
     where
-      beyond : (n : ℕ) → (n < 10 → ⊥) → (12 < n → ⊥) → byte ≡ n → ⊥
+      beyond : (n : ℕ) → (n < 10 → ⊥) → (13 < n → ⊥) → byte ≡ n → ⊥
       beyond n p q z = go h
         where
-          go : (byte < 10) ⊎ (12 < byte) → ⊥
+          go : (byte < 10) ⊎ (13 < byte) → ⊥
           go (inl l) = p (omega arith)
           go (inr l) = q (omega arith)
 
@@ -89,23 +93,24 @@ module _ (byte : ℕ) (ws : List ℕ) where
   from-host : FromHost (callBy byte ws)
   from-host =
       unfold callBy in
-      go (eqb byte 3) (eqb byte 4) (eqb byte 5) (eqb byte 6) (eqb byte 9) (eqb byte 10) (eqb byte 11) (eqb byte 12)
+      go (eqb byte 3) (eqb byte 4) (eqb byte 5) (eqb byte 6) (eqb byte 9) (eqb byte 10) (eqb byte 11) (eqb byte 12) (eqb byte 13)
     where
-      go : (a b c d e f g h : Bool) →
+      go : (a b c d e f g h k : Bool) →
           FromHost (if_then_else_ a
           (arrival (getD ws 0 0) (getD ws 1 0) (getD ws 2 0) (getD ws 3 0 ∷ getD ws 4 0 ∷ getD ws 5 0 ∷ getD ws 6 0 ∷ []))
           (if_then_else_ b (retry (getD ws 0 0) (getD ws 1 0)) (if_then_else_ c (turn (getD ws 0 0)) (if_then_else_ d (crash (getD ws 0 0))
           (if_then_else_ e order (if_then_else_ f (listAdd (getD ws 0 0)) (if_then_else_ g listTake
-          (if_then_else_ h (listDone (getD ws 0 0)) restart))))))))
-      go true b c d e f g h = tt
-      go false true c d e f g h = tt
-      go false false true d e f g h = tt
-      go false false false true e f g h = tt
-      go false false false false true f g h = tt
-      go false false false false false true g h = tt
-      go false false false false false false true h = tt
-      go false false false false false false false true = tt
-      go false false false false false false false false = tt
+          (if_then_else_ h (listDone (getD ws 0 0)) (if_then_else_ k (retire (getD ws 0 0)) restart)))))))))
+      go true b c d e f g h k = tt
+      go false true c d e f g h k = tt
+      go false false true d e f g h k = tt
+      go false false false true e f g h k = tt
+      go false false false false true f g h k = tt
+      go false false false false false true g h k = tt
+      go false false false false false false true h k = tt
+      go false false false false false false false true k = tt
+      go false false false false false false false false true = tt
+      go false false false false false false false false false = tt
 
 -- ---- what was told is heard
 
@@ -226,7 +231,7 @@ module _ (byte : ℕ) (ws pack store records list : List ℕ) (r : Answer) (numb
             record {
               written = λ h. b .written h ∙ ap (λ (a : Rules.Answer). slotsAfter a records (slotsIn records′)) (sym same);
               alone = b .alone;
-              listed = λ h n. b .listed h n ∙ ap (λ (a : Rules.Answer). listAfter a list (listIn list′)) (sym same);
+              listed = λ h n m. b .listed h n m ∙ ap (λ (a : Rules.Answer). listAfter a list (listIn list′)) (sym same);
               unlisted = b .unlisted;
             };
       }
@@ -252,7 +257,7 @@ module _ (byte : ℕ) (ws pack store records list answer : List ℕ) (h : 12 ≤
             record {
               written = λ z. s .bytes;
               alone = λ z y. absurd (omega arith);
-              listed = λ z y. absurd (omega arith);
+              listed = λ z y m. absurd (omega arith);
               unlisted = λ z. refl;
             };
         read = s .read;
@@ -272,13 +277,13 @@ module _ (byte : ℕ) (ws pack store records list answer : List ℕ) (h : 12 ≤
             record {
               written = λ z. absurd (neither z);
               alone = λ z y. refl;
-              listed = λ z n. absurd (n e);
+              listed = λ z n m. absurd (n e);
               unlisted = λ z. refl;
             };
         read = s .5;
       }
     where
-      neither : (byte < 9) ⊎ (12 < byte) → ⊥
+      neither : (byte < 9) ⊎ (13 < byte) → ⊥
       neither (inl z) = omega (arith, z, e)
       neither (inr z) = omega (arith, z, e)
 
@@ -294,21 +299,46 @@ module _ (byte : ℕ) (ws pack store records list answer : List ℕ) (h : 12 ≤
             record {
               written = λ z. absurd (neither z);
               alone = λ z y. refl;
-              listed = λ z n. s .bytes;
+              listed = λ z n m. s .bytes;
               unlisted = λ z. absurd (listed z);
             };
         read = s .read;
       }
     where
-      neither : (byte < 9) ⊎ (12 < byte) → ⊥
+      neither : (byte < 9) ⊎ (13 < byte) → ⊥
       neither (inl z) = omega arith
       neither (inr z) = omega arith
 
-      listed : (byte ≤ 6) ⊎ (byte ≡ 9) → ⊥
+      listed : (byte ≤ 6) ⊎ ((byte ≡ 9) ⊎ (byte ≡ 13)) → ⊥
       listed (inl z) = omega arith
-      listed (inr z) = omega (arith, z)
+      listed (inr (inl z)) = omega (arith, z)
+      listed (inr (inr z)) = omega (arith, z)
 
-  pub on-restart : (records′ list′ answer′ : List ℕ) → 6 < byte → (byte ≡ 9 → ⊥) → (byte < 10) ⊎ (12 < byte) →
+  pub on-retire : (store′ answer′ : List ℕ) → byte ≡ 13 →
+      StoreExported pack store records list answer (retire (getD ws 0 0)) number store′ answer′ →
+      OnStore byte ws pack store records list number store′ records list answer′
+  on-retire store′ answer′ e x =
+      let s = x .served right in
+      record {
+        said = s .said;
+        carried =
+            subst (λ (c : Call). Carried pack (lentIn store records list) c (s .said) (lentIn store′ records list)) (by-13 byte ws e)
+            (s .carried);
+        bytes =
+            record {
+              written = λ z. absurd (neither z);
+              alone = λ z y. refl;
+              listed = λ z n m. absurd (m e);
+              unlisted = λ z. refl;
+            };
+        read = s .read;
+      }
+    where
+      neither : (byte < 9) ⊎ (13 < byte) → ⊥
+      neither (inl z) = omega (arith, z, e)
+      neither (inr z) = omega (arith, z, e)
+
+  pub on-restart : (records′ list′ answer′ : List ℕ) → 6 < byte → (byte ≡ 9 → ⊥) → (byte < 10) ⊎ (13 < byte) →
       Restarted records list answer number records′ list′ answer′ →
       OnStore byte ws pack store records list number store records′ list′ answer′
   unfolding AgentAnswers.answerOf Answers.slotsAfter Answers.listAfter Answers.heard
@@ -323,16 +353,21 @@ module _ (byte : ℕ) (ws pack store records list answer : List ℕ) (h : 12 ≤
             record {
               written = λ z. s .1;
               alone = λ z y. absurd (beyond o z y);
-              listed = λ z m. s .2;
+              listed = λ z m k. s .2;
               unlisted = λ z. absurd (listed z);
             };
         read = rw (s .3) refl;
       }
     where
-      beyond : (byte < 10) ⊎ (12 < byte) → 9 ≤ byte → byte ≤ 12 → ⊥
+      beyond : (byte < 10) ⊎ (13 < byte) → 9 ≤ byte → byte ≤ 13 → ⊥
       beyond (inl z) a b = n (omega arith)
       beyond (inr z) a b = omega arith
 
-      listed : (byte ≤ 6) ⊎ (byte ≡ 9) → ⊥
+      thirteen : (byte < 10) ⊎ (13 < byte) → byte ≡ 13 → ⊥
+      thirteen (inl z) e = omega (arith, e)
+      thirteen (inr z) e = omega (arith, e)
+
+      listed : (byte ≤ 6) ⊎ ((byte ≡ 9) ⊎ (byte ≡ 13)) → ⊥
       listed (inl z) = omega arith
-      listed (inr z) = n z
+      listed (inr (inl z)) = n z
+      listed (inr (inr z)) = thirteen o z

@@ -8,7 +8,7 @@ use lib.Dec.{eqb}
 use lib.ListN.{length, getD}
 use Rattle.questions.specs.Basics.{if_then_else_}
 use Rattle.questions.specs.Verdicts.{verdictOf}
-use Rattle.rules.specs.Calls.{Call, arrival, retry, turn, crash, restart, order, listAdd, listTake, listDone}
+use Rattle.rules.specs.Calls.{Call, arrival, retry, turn, crash, restart, order, listAdd, listTake, listDone, retire}
 use Rattle.pack.specs.Refusal.{packRefusal, openRefusal}
 use Rattle.store.specs.Questions.{createRefusal}
 use Rattle.store.specs.Created.{Created}
@@ -20,7 +20,7 @@ use Rattle.worklist.specs.Bytes.{listIn}
 use Rattle.answers.specs.Answers.{judged, heard, slotsAfter, listAfter}
 use Rattle.host.specs.Exports.{lentIn}
 
--- a call byte with its seven words: 3 arrival, 4 retry, 5 turn, 6 crash, 9 order, 10 add, 11 take, 12 done, otherwise restart
+-- a call byte with its seven words: 3 arrival, 4 retry, 5 turn, 6 crash, 9 order, 10 add, 11 take, 12 done, 13 retire, otherwise restart
 unfoldable pub callBy : (byte : ℕ) (words : List ℕ) → Call
 callBy byte ws =
     if eqb byte 3
@@ -32,15 +32,17 @@ callBy byte ws =
     else if eqb byte 10 then listAdd (getD ws 0 0)
     else if eqb byte 11 then listTake
     else if eqb byte 12 then listDone (getD ws 0 0)
+    else if eqb byte 13 then retire (getD ws 0 0)
     else restart
 
--- The bytes of records and worklist behind a call on a store. Order, add, take and done leave the records; of any other call their bytes
--- are those of the records that it left, or unchanged if it is refused. Arrival, retry, turn, crash and order leave the worklist.
+-- The bytes of records and worklist behind a call on a store. Order, add, take, done and retire leave the records; of any other call their
+-- bytes are those of the records that it left, or unchanged if it is refused. Arrival, retry, turn, crash, order and retire leave the
+-- worklist.
 pub record BytesLeft (byte : ℕ) (records list : List ℕ) (answer : Answer) (records′ list′ : List ℕ) : Type 0 where
-  pub written : (byte < 9) ⊎ (12 < byte) → records′ ≡ slotsAfter (answerOf answer) records (slotsIn records′)
-  pub alone : 9 ≤ byte → byte ≤ 12 → records′ ≡ records
-  pub listed : 6 < byte → (byte ≡ 9 → ⊥) → list′ ≡ listAfter (answerOf answer) list (listIn list′)
-  pub unlisted : (byte ≤ 6) ⊎ (byte ≡ 9) → list′ ≡ list
+  pub written : (byte < 9) ⊎ (13 < byte) → records′ ≡ slotsAfter (answerOf answer) records (slotsIn records′)
+  pub alone : 9 ≤ byte → byte ≤ 13 → records′ ≡ records
+  pub listed : 6 < byte → (byte ≡ 9 → ⊥) → (byte ≡ 13 → ⊥) → list′ ≡ listAfter (answerOf answer) list (listIn list′)
+  pub unlisted : (byte ≤ 6) ⊎ ((byte ≡ 9) ⊎ (byte ≡ 13)) → list′ ≡ list
 
 -- A call on a store was put to the library, with right buffers: it is promised as every call is, and its answer is what the host reads.
 pub record OnStore (byte : ℕ) (words pack store records list : List ℕ) (number : ℕ) (store′ records′ list′ answer′ : List ℕ) : Type 0 where

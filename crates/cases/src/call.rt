@@ -67,7 +67,7 @@ fn list_call(
     host::sarthule_done(pack, store, records, list, words[0], answer)
 }
 
-// A call on a store: 9 order, those that get records, those on the worklist, and otherwise restart.
+// A call on a store: 9 order, 13 retire, those that get records, those on the worklist, and otherwise restart.
 fn store_call(
     pack: &[u8],
     store: &mut [u8],
@@ -90,7 +90,10 @@ fn store_call(
     if call < 10 {
         return host::sarthule_restart(records, list, answer);
     }
-    if 12 < call {
+    if call == 13 {
+        return host::sarthule_retire(pack, store, records, list, words[0], answer);
+    }
+    if 13 < call {
         return host::sarthule_restart(records, list, answer);
     }
     list_call(pack, store, records, list, call, words, answer)

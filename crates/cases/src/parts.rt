@@ -37,16 +37,16 @@ pub fn has_parts(c: &[u8]) -> bool
     true
 }
 
-// Is a byte that of a call without a worklist, 0 to 9 or 13?
+// Is a byte that of a call without a worklist, 0 to 9 or 15?
 fn is_call(byte: u8) -> bool {
-    if byte == 13 {
+    if byte == 15 {
         return true;
     }
     byte <= 9
 }
 
-// Is it that of one of the nine calls on a store, 3 to 7 and 9 to 12? Check, open, create, figures and reply, which are 0 to 2, 8 and 13,
-// are no such calls.
+// Is it that of one of the ten calls on a store, 3 to 7 and 9 to 13? Check, open, create, figures and reply, which are 0 to 2, 8 and 15,
+// are no such calls; 14 is none at all.
 fn is_on_store(byte: u8) -> bool {
     if byte < 3 {
         return false;
@@ -54,7 +54,7 @@ fn is_on_store(byte: u8) -> bool {
     if byte == 8 {
         return false;
     }
-    byte <= 12
+    byte <= 13
 }
 
 // Is the rest of a call there, and its call byte in range? The records' words may be any: some make no record, which 14 is asked about.
@@ -133,6 +133,9 @@ pub fn call_bytes(rest: &[u8]) -> usize
         return 0;
     }
     if rest[384] <= 13 {
+        return 413;
+    }
+    if rest[384] == 15 {
         return 413;
     }
     0

@@ -64,7 +64,7 @@ fn print_reply(pack: &[u8], store: &[u8], id: u32) {
     print::print_answer(answers::read_answer(number, &answer));
 }
 
-// The answer of a call, and what goes with it. Figures (8) and a reply (13) are all that is printed of theirs.
+// The answer of a call, and what goes with it. Figures (8) and a reply (15) are all that is printed of theirs.
 fn print_outcome(
     pack: &[u8],
     store: &mut [u8],
@@ -80,7 +80,7 @@ fn print_outcome(
         print_figures(pack, words[0]);
         return;
     }
-    if call == 13 {
+    if call == 15 {
         print_reply(pack, store, words[0]);
         return;
     }

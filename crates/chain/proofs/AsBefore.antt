@@ -17,7 +17,7 @@ use Rattle.questions.proofs.Updates.{false-true, update-same}
 use Rattle.questions.proofs.Questions.{ask-none, orElse-none}
 use Rattle.rules.proofs.Calls.{rule-accepted, feed-accepted}
 use Rattle.rules.proofs.Stands.{turn-is, turn-counted, turns-at-most, last-replies}
-use Rattle.rules.proofs.ByLog.{ByLog, rule-by-log, at-first, given-before, given-equal}
+use Rattle.rules.proofs.ByLog.{ByLog, rule-by-log, at-first}
 use Rattle.pack.proofs.Laws.{length-pack, length-workflow, accepted-checked}
 use Rattle.pack.specs.Meaning.{packOf}
 use Rattle.store.specs.Rows.{storeOf}
@@ -36,6 +36,7 @@ use Rattle.chain.specs.Chain.{ChainFrom, from-here, on-from}
 use Rattle.chain.specs.Demands.{InTime}
 use Rattle.chain.specs.RequestZero.{lentAtFirst, ChainOn, AsBefore}
 use Rattle.chain.proofs.Each.{met-none, left-state}
+use Rattle.chain.proofs.Floor.{above-for}
 
 module _ (pack older : List ℕ) where
   abbrev pub first : Rules.Store
@@ -65,7 +66,8 @@ module _ (pack older : List ℕ) where
             (subst (λ (f : Feed). ByLog (packOf pack) first (ruled pack lent c .state) (tallied (talliesOf events) f)
             (withAnswer (ruled pack lent c .answer) (repliesOf events)))
             (sym (feed-accepted c (ruled pack lent c .answer) (rule-accepted (packOf pack) (stateOf lent) c)))
-            (rule-by-log (packOf pack) first (stateOf lent) (talliesOf events) (repliesOf events) inv c (orElse-none _ _ e .1))))
+            (rule-by-log (packOf pack) first (stateOf lent) (talliesOf events) (repliesOf events) inv c (orElse-none _ _ e .1)
+            (above-for pack lent c e))))
         go (some n) e =
             subst (Goes (stateOf lent′)) (sym (h .refused n e .0))
             (subst (λ (s : State). Goes s (Calls.refused n)) (sym (ap stateOf (h .refused n e .1))) inv)
@@ -137,8 +139,8 @@ module _ (pack older : List ℕ) where
   as-before-on events lent chain =
       let inv = by-log-on events lent chain in
       record {
-        as-before = given-before (packOf pack) first (stateOf lent) (talliesOf events) (repliesOf events) inv;
-        equal = given-equal (packOf pack) first (stateOf lent) (talliesOf events) (repliesOf events) inv;
+        as-before = inv .before;
+        equal = inv .equal;
         in-time =
             λ slot answer lent′ h allow.
             in-time-of events lent inv slot answer lent′ h allow (slotsOf (lent .records) slot) refl

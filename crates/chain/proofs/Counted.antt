@@ -11,18 +11,17 @@ use lib.ListN.{getD}
 use Rattle.questions.specs.Basics.{if_then_else_, isSome}
 use Rattle.questions.proofs.Tests.{and-left}
 use Rattle.questions.proofs.Updates.{none-some}
-use Rattle.keys.specs.Keys.{isDataKey, dataOf, logKey, bookKey, isBookKey, bookedId, bookRow, tableOf}
+use Rattle.keys.specs.Keys.{isDataKey, dataOf, logKey, bookKey, isBookKey, isFloorKey, bookedId, bookRow, tableOf}
 use Rattle.keys.specs.Keys as Keys
-use Rattle.keys.proofs.Keys.{data-said, book-again}
+use Rattle.keys.proofs.Keys.{data-said, book-again, floor-bounds}
 use Rattle.rules.specs.Blocks.{Table}
 use Rattle.rules.specs.Store.{Request}
 use Rattle.contents.specs.Contents.{contentsOf, valueIn, argumentsOf, requestOf, bookOf, bookRows}
 use Rattle.store.specs.Layout.{partsOf}
 use Rattle.store.specs.Rows.{Row, keysIn, lookup, rowsOf, storeOf}
-use Rattle.store.specs.Questions.{rising, keysOk, bookOk, question12, storeRefusal}
-use Rattle.store.specs.Questions as Questions
+use Rattle.store.specs.Questions.{rising, keysOk, bookOk, storeRefusal}
 use Rattle.store.specs.Sound as Sounds
-use Rattle.store.proofs.Sound.{store-ok, apart-forms, no-form, keys-apart, keys-rising}
+use Rattle.store.proofs.Sound.{store-ok, apart-forms, no-form, keys-apart, keys-rising, twelve-parts}
 use Rattle.contents.proofs.Equal.{none-booked}
 use Rattle.chain.specs.NothingLost.{anyBelow, dataValue, isLogged, amountRow, amountIf}
 use Rattle.chain.proofs.Sums.{countAt, any-same, any-none, any-some}
@@ -103,7 +102,7 @@ module _ (store : List ℕ) (passes : storeRefusal store ≡ none) where
   amount-counted u k = go (isBookKey k) refl (eqb (bookRow k) amountRow && u (bookedId k)) refl
     where
       whole : bookOk (keysIn rows) ≡ true
-      whole = unfold Questions.question12 in store-ok store passes .1
+      whole = twelve-parts store (store-ok store passes .1) .0
 
       -- a row that isn't counted, and one that is
       passed-over : (o : Option ℕ) → (eqb (bookRow k) amountRow && u (bookedId k)) ≡ false → countAt (amountIf u) k o ≡ 0
@@ -114,22 +113,29 @@ module _ (store : List ℕ) (passes : storeRefusal store ≡ none) where
       counted none c = refl
       counted (some v) c = rw c refl
 
-      booked : (o : Option ℕ) → lookup (bookKey (bookedId k) 0) rows ≡ o → k ≡ bookKey (bookedId k) amountRow →
+      -- the floor's row isn't row 3 of an id, and no other key that isn't a book key has a row
+      no-book-key : isBookKey k ≡ false → (f : Bool) → isFloorKey k ≡ f → countAt (amountIf u) k (lookup k rows) ≡ 0
+      no-book-key b true f =
+          let other = ne-eqb (bookRow k) amountRow (λ r. omega (arith, floor-bounds k f, r)) in
+          passed-over (lookup k rows) (ap (λ x. x && u (bookedId k)) other)
+      no-book-key b false f =
+          ap (countAt (amountIf u) k) (no-form true k rows (apart-forms true _ (keys-apart true _ book-keys)) (rw (b, f) refl))
+
+      booked : (o : Option ℕ) → lookup (bookKey (bookedId k) 0) rows ≡ o → isBookKey k ≡ true → k ≡ bookKey (bookedId k) amountRow →
           Option·getD (lookup k rows) 0 ≡ amountOf (requestOf o (argumentsOf (valueIn rows) (bookedId k)))
-      booked none e is = ap (λ x. Option·getD x 0) (none-booked rows whole (bookedId k) k refl e)
-      booked (some w) e is = ap (λ n. Option·getD (lookup n rows) 0) is
+      booked none e b is = ap (λ x. Option·getD x 0) (none-booked rows whole (bookedId k) k b refl e)
+      booked (some w) e b is = ap (λ n. Option·getD (lookup n rows) 0) is
 
       go : (b : Bool) → isBookKey k ≡ b → (c : Bool) → (eqb (bookRow k) amountRow && u (bookedId k)) ≡ c →
           countAt (amountIf u) k (lookup k rows) ≡ amountAt u (bookOf (valueIn rows)) k
-      go false b c d =
-          ap (countAt (amountIf u) k) (no-form true k rows (apart-forms true _ (keys-apart true _ book-keys)) b) ∙ rw b refl
+      go false b c d = no-book-key b (isFloorKey k) refl ∙ rw b refl
       go true b false d = passed-over (lookup k rows) d ∙ rw (b, d) refl
       go true b true d =
           let l = book-again k b in
           let row = eqb-true (bookRow k) amountRow (and-left (eqb (bookRow k) amountRow) _ d) in
           counted (lookup k rows) d
           ∙ rw (b, d, lt-ltb (bookedId k) (2 ^ 32) (l .0))
-          (booked (lookup (bookKey (bookedId k) 0) rows) refl (sym (l .2) ∙ ap (bookKey (bookedId k)) row))
+          (booked (lookup (bookKey (bookedId k) 0) rows) refl b (sym (l .2) ∙ ap (bookKey (bookedId k)) row))
 
   -- log rows
   module _ (id t : ℕ) (h : id < 2 ^ 32) (g : t < 65536) where

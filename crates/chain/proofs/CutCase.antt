@@ -1,4 +1,5 @@
--- W-207 on document 01's whole case, cut behind its first block, and at its end: what its bytes add up to, by computation.
+-- W-207 on document 01's whole case, cut behind its first block, at its end, and with its request retired: what its bytes add up to, by
+-- computation.
 use mathlib.Core.List.{List, [], _∷_}
 use mathlib.Core.Path.{_≡_, refl}
 use Prim.Native.Nat.{ℕ, _+_, _^_}
@@ -10,7 +11,8 @@ use Rattle.pack.specs.Layout.{firstOf, operationsOf, operandsOf}
 use Rattle.pack.specs.Meaning.{packOf}
 use Rattle.store.specs.Layout.{usedOf}
 use Rattle.store.specs.Rows.{pairs, lookup, rowsOf}
-use Rattle.chain.specs.NothingLost.{sumBelow, anyBelow, sumOver, allData, amountsUnderWay}
+use Rattle.questions.specs.Basics.{sumBelow}
+use Rattle.chain.specs.NothingLost.{anyBelow, sumOver, allData, amountsUnderWay}
 
 -- the pack: its only workflow is MOVE
 abbrev movePack : List ℕ
@@ -40,6 +42,16 @@ endStore =
     0 ∷ 0 ∷ 0 ∷ 0 ∷ 0 ∷ 0 ∷ 0 ∷ 0 ∷ 0 ∷ 0 ∷ 0 ∷ 0 ∷ 0 ∷ 0 ∷ 0 ∷ 0 ∷ 0 ∷ 100 ∷ 0 ∷ 0 ∷ 0 ∷ 200 ∷ 0 ∷ 0 ∷ 0 ∷ 30 ∷ 0 ∷ 0 ∷ 0 ∷ 0 ∷ 0 ∷
     0 ∷ 0 ∷ []
 
+-- and after request 7 has been retired, by a floor of 8: the book has the floor's row only, the partitions their data rows
+abbrev retiredStore : List ℕ
+retiredStore =
+    2 ∷ 5 ∷ 0 ∷ 1 ∷ 0 ∷ 1 ∷ 0 ∷ 1 ∷ 0 ∷ 100 ∷ 0 ∷ 0 ∷ 0 ∷ 0 ∷ 0 ∷ 0 ∷ 128 ∷ 0 ∷ 0 ∷ 0 ∷ 0 ∷ 0 ∷ 0 ∷ 0 ∷ 0 ∷ 0 ∷ 0 ∷ 0 ∷ 0 ∷ 0 ∷ 0 ∷ 0 ∷
+    0 ∷ 0 ∷ 0 ∷ 0 ∷ 0 ∷ 0 ∷ 0 ∷ 0 ∷ 0 ∷ 0 ∷ 0 ∷ 0 ∷ 0 ∷ 0 ∷ 0 ∷ 0 ∷ 0 ∷ 200 ∷ 0 ∷ 0 ∷ 0 ∷ 0 ∷ 0 ∷ 0 ∷ 128 ∷ 0 ∷ 0 ∷ 0 ∷ 0 ∷ 0 ∷ 0 ∷ 0 ∷
+    0 ∷ 0 ∷ 0 ∷ 0 ∷ 0 ∷ 0 ∷ 0 ∷ 0 ∷ 0 ∷ 0 ∷ 0 ∷ 0 ∷ 0 ∷ 0 ∷ 0 ∷ 0 ∷ 0 ∷ 0 ∷ 0 ∷ 0 ∷ 0 ∷ 0 ∷ 0 ∷ 0 ∷ 0 ∷ 0 ∷ 0 ∷ 0 ∷ 0 ∷ 0 ∷ 1 ∷ 0 ∷ 0 ∷
+    0 ∷ 0 ∷ 0 ∷ 0 ∷ 0 ∷ 0 ∷ 0 ∷ 0 ∷ 0 ∷ 0 ∷ 0 ∷ 0 ∷ 0 ∷ 0 ∷ 0 ∷ 0 ∷ 0 ∷ 0 ∷ 0 ∷ 0 ∷ 0 ∷ 0 ∷ 0 ∷ 0 ∷ 0 ∷ 0 ∷ 0 ∷ 0 ∷ 0 ∷ 0 ∷ 0 ∷ 0 ∷ 226 ∷
+    255 ∷ 255 ∷ 255 ∷ 0 ∷ 0 ∷ 0 ∷ 0 ∷ 0 ∷ 0 ∷ 0 ∷ 0 ∷ 0 ∷ 0 ∷ 0 ∷ 0 ∷ 0 ∷ 0 ∷ 0 ∷ 0 ∷ 30 ∷ 0 ∷ 0 ∷ 0 ∷ 0 ∷ 0 ∷ 0 ∷ 0 ∷ 0 ∷ 0 ∷ 0 ∷ 0 ∷
+    0 ∷ 0 ∷ 0 ∷ 0 ∷ 0 ∷ 0 ∷ 0 ∷ 0 ∷ 8 ∷ 0 ∷ 0 ∷ 0 ∷ 0 ∷ 0 ∷ 0 ∷ 0 ∷ 0 ∷ 0 ∷ 0 ∷ 0 ∷ 0 ∷ 0 ∷ 0 ∷ 0 ∷ 0 ∷ 0 ∷ 0 ∷ 0 ∷ []
+
 pub record CutCase : Type 0 where
   pub its-pack : packOf movePack ≡ MOVE ∷ []
   -- cut: 30 pieces are taken from shelf 100 and not put yet
@@ -50,6 +62,10 @@ pub record CutCase : Type 0 where
   pub end-data : allData endStore ≡ 4294967266 + 30
   pub end-amounts : amountsUnderWay endStore ≡ 0
   pub end-sum : allData endStore + amountsUnderWay endStore ≡ 2 ^ 32
+  -- and lie there still when the request is retired
+  pub retired-data : allData retiredStore ≡ allData endStore
+  pub retired-amounts : amountsUnderWay retiredStore ≡ 0
+  pub retired-sum : allData retiredStore + amountsUnderWay retiredStore ≡ 2 ^ 32
 
 pub cut-case : CutCase
 unfolding packOf operationsOf operandsOf firstOf codeOf listOf decode fields le usedOf rowsOf pairs lookup sumBelow anyBelow sumOver
@@ -63,4 +79,7 @@ cut-case =
       end-data = refl;
       end-amounts = refl;
       end-sum = refl;
+      retired-data = refl;
+      retired-amounts = refl;
+      retired-sum = refl;
     }

@@ -3,6 +3,7 @@ pub mod Counted
 pub mod SumsAfter
 pub mod Mirror
 pub mod Each
+pub mod Floor
 pub mod Theorem
 pub mod RequestZero
 pub mod AsBefore
@@ -12,3 +13,4 @@ pub mod NothingLost
 pub mod CutCase
 pub mod InOrder
 pub mod Listed
+pub mod Retired

@@ -4,26 +4,26 @@ use mathlib.Core.Path.{_≡_, refl, sym, _∙_, ap, subst}
 use mathlib.Core.Logic.{_⊎_, inl, inr}
 use mathlib.Core.List.{List, [], _∷_, _++_, List·Memᴰ}
 use mathlib.Core.Option.{Option, none, some}
-use Prim.Native.Nat.{ℕ}
+use Prim.Native.Nat.{ℕ, _<_}
+use native.Mathlib.Omega.{arith}
 use Rattle.contents.specs.Contents.{contentsOf}
 use Rattle.questions.specs.Basics.{each}
 use Rattle.questions.specs.Questions.{No, ask, orElse}
 use Rattle.rules.specs.Blocks.{Result}
-use Rattle.rules.specs.Store.{Request, Store}
-use Rattle.rules.specs.Logged.{replyLogged}
+use Rattle.rules.specs.Store.{Request, Store, floorOf}
 use Rattle.rules.specs.Worklist.{Worklist, listed, listRight, restarted}
 use Rattle.rules.specs.Calls.{State, Outcome, Call, restart, refusal, rule, stateAfter}
-use Rattle.rules.specs.Calls.{arrival, retry, turn, crash, order, listAdd, listTake, listDone, stopped}
-use Rattle.rules.specs.Plain.{Reply, Event, repliesOf, repliesAfter}
+use Rattle.rules.specs.Calls as Calls
+use Rattle.rules.specs.Calls.{arrival, retry, turn, crash, order, listAdd, listTake, listDone, retire, stopped}
+use Rattle.rules.specs.Plain.{Reply, Event, withAnswer, talliesOf, machineOf, repliesOf, repliesAfter}
 use Rattle.rules.specs.Listed as Rules
 use Rattle.questions.proofs.Questions.{orElse-none}
 use Rattle.questions.proofs.Updates.{none-some}
-use Rattle.rules.proofs.ByLog.{Stays}
-use Rattle.rules.proofs.Changes.{change}
-use Rattle.rules.proofs.Theorem.{invariant, replied-logged}
+use Rattle.rules.proofs.Changes.{change, change-stays, Stays, stays-here}
+use Rattle.rules.proofs.Theorem.{replied-logged}
 use Rattle.rules.proofs.Worklists.{right-is, restarted-is, waits-all, listed-restarted}
-use Rattle.rules.proofs.Listing.{Relisted, as-it-was, relisted, StaysListed, stays-listed, change-stays, worked-booked, worked-stays}
-use Rattle.rules.proofs.Listing.{listing, reading}
+use Rattle.rules.proofs.Listing.{Relisted, as-it-was, relisted, StaysListed, stays-listed, worked-booked, worked-stays}
+use Rattle.rules.proofs.Listing.{rule-adds, listing, reading}
 use Rattle.pack.specs.Layout.{total}
 use Rattle.pack.specs.Meaning.{packOf}
 use Rattle.pack.specs.Refusal.{packRefusal}
@@ -40,8 +40,10 @@ use Rattle.meaning.proofs.Asked.{all-thirteen, lent-pack, lent-13}
 use Rattle.meaning.proofs.Tests.{opens-of-13}
 use Rattle.chain.specs.Chain.{Chain, begins, goes-on, ChainFrom, from-here, on-from}
 use Rattle.chain.specs.Listed.{IsBooked, IsListed, doneOf, TakenOff, Restarted, Listing, Reading, NoneVanishes}
+use Rattle.chain.specs.Retired.{floorIn}
 use Rattle.chain.proofs.Each.{left-state}
-use Rattle.chain.proofs.Mirror.{fresh-contents, Mirror, mirror, replies-as}
+use Rattle.chain.proofs.Floor.{above-for}
+use Rattle.chain.proofs.Mirror.{fresh-contents, Mirror, mirror, replies-as, invariant-as}
 use Rattle.chain.proofs.Theorem.{sized}
 use Rattle.chain.proofs.Never.{book-passes}
 
@@ -49,6 +51,10 @@ use Rattle.chain.proofs.Never.{book-passes}
 worked-bytes : (pack : List ℕ) (lent : Lent) (id : ℕ) → Rules.workedOut (packOf pack) (stateOf lent) id ≡ workedOut pack (lent .store) id
 unfolding stateOf
 worked-bytes pack lent id = refl
+
+-- the reply to an id can be worked out, or the request has been retired
+abbrev Still : (pack store : List ℕ) (id : ℕ) → Result → Type 0
+Still pack store id v = (workedOut pack store id ≡ some v) ⊎ (id < floorIn store)
 
 -- ── Of one call ──
 
@@ -74,22 +80,23 @@ module _ (pack : List ℕ) (lent : Lent) (c : Call) (answer : Answer) (lent′ :
           subst (Relisted (packOf pack) (stateOf lent) c) (rule-outcome e) (relisted (packOf pack) (stateOf lent) c (behind-14 e))
       go (some n) e = as-it-was (ap (λ (l : Lent). stateOf l .work) (h .refused n e .1))
 
-  -- what is booked and logged stays
-  stays : Stays (stateOf lent .store) (stateOf lent′ .store)
+  -- what is booked and logged stays, or is retired
+  pub stays : Stays (stateOf lent .store) (stateOf lent′ .store)
   stays = go (refusalFor pack lent c) refl
     where
       go : (o : Option No) → refusalFor pack lent c ≡ o → Stays (stateOf lent .store) (stateOf lent′ .store)
       go none e =
           subst (λ (s : State). Stays (stateOf lent .store) (s .store)) (sym (left-state pack lent c answer lent′ h e))
-          (change-stays (packOf pack) (stateOf lent) (ruled pack lent c .state .store) (change (packOf pack) (stateOf lent) c))
+          (change-stays (packOf pack) (stateOf lent) c (ruled pack lent c .state .store) (above-for pack lent c e)
+          (change (packOf pack) (stateOf lent) c (behind-14 e)))
       go (some n) e =
-          subst (λ (l : Lent). Stays (stateOf lent .store) (stateOf l .store)) (sym (h .refused n e .1)) (λ id q f. (f, λ p t r g. g))
+          subst (λ (l : Lent). Stays (stateOf lent .store) (stateOf l .store)) (sym (h .refused n e .1)) (stays-here (stateOf lent .store))
 
   -- and so does what can be worked out from it
-  worked-next : (id : ℕ) (v : Result) → workedOut pack (lent .store) id ≡ some v → workedOut pack (lent′ .store) id ≡ some v
-  worked-next id v e =
-      sym (worked-bytes pack lent′ id)
-      ∙ worked-stays (packOf pack) (stateOf lent) (stateOf lent′) stays id v (worked-bytes pack lent id ∙ e)
+  worked-next : (id : ℕ) (v : Result) → Still pack (lent .store) id v → Still pack (lent′ .store) id v
+  unfolding stateOf
+  worked-next id v (inl e) = worked-stays (packOf pack) (stateOf lent) (stateOf lent′) stays id v e
+  worked-next id v (inr l) = let up = stays .rises in inr (omega arith)
 
   -- to an accepted call none of 1 to 14 said no, or it left store and book as they were
   asks-or-leaves : refusalFor pack lent c ≡ none → (lentRefusal pack lent ≡ none) ⊎ (stateOf lent′ .store ≡ stateOf lent .store)
@@ -107,6 +114,7 @@ module _ (pack : List ℕ) (lent : Lent) (c : Call) (answer : Answer) (lent′ :
       go (listAdd id) l s = inl l
       go listTake l s = inl l
       go (listDone id) l s = inl l
+      go (retire floor) l s = inl l
       go (stopped n) l s = inl l
 
 -- ── After lists of calls ──
@@ -118,10 +126,10 @@ joined pack P C before lent chain later lent′ from-here = chain
 joined pack P C before lent chain later lent′ (on-from events lent₁ c answer lent₂ g h) =
     goes-on (events ++ before) lent₁ c answer lent₂ (joined pack P C before lent chain events lent₁ g) h
 
--- what can be worked out still can
+-- what can be worked out still can, or its request has been retired
 worked-later : (pack : List ℕ) (lent : Lent) (later : List Event) (lent′ : Lent) → ChainFrom pack lent later lent′ →
-    (id : ℕ) (v : Result) → workedOut pack (lent .store) id ≡ some v → workedOut pack (lent′ .store) id ≡ some v
-worked-later pack lent later lent′ from-here id v e = e
+    (id : ℕ) (v : Result) → workedOut pack (lent .store) id ≡ some v → Still pack (lent′ .store) id v
+worked-later pack lent later lent′ from-here id v e = inl e
 worked-later pack lent later lent′ (on-from events lent₁ c answer lent₂ g h) id v e =
     worked-next pack lent₁ c answer lent₂ h id v (worked-later pack lent events lent₁ g id v e)
 
@@ -200,25 +208,33 @@ module _ (pack : List ℕ) (P C : ℕ) (events : List Event) (lent : Lent) (chai
     reading-yes =
         rw (all-thirteen pack (lent .store) pack-yes (sized pack P C events lent chain .passes) thirteen-yes, known .1) refl
 
-  -- of a reply that was given
-  module _ (r : Reply) (k : List·Memᴰ r (repliesOf events)) where
-    -- its request is booked
-    its-request : (q : Request) × (same .store .book (r .id) ≡ some q)
-    its-request = go (same .store .book (r .id)) refl
-      where
-        go : (o : Option Request) → same .store .book (r .id) ≡ o → (q : Request) × (same .store .book (r .id) ≡ some q)
-        go none e =
-            let core = invariant (packOf pack) C (m .calls) .core in
-            none-some (r .value) (core .unreplied (r .id) (core .unbooked (r .id) e)) (core .settled r (there r k))
-        go (some q) e = (q, e)
+  -- a reply that was given can be worked out, unless its request is retired
+  replied-worked : (r : Reply) → List·Memᴰ r (repliesOf events) → Still pack (lent .store) (r .id) (r .value)
+  unfolding stateOf
+  replied-worked r k =
+      subst (λ (s : State). (Rules.workedOut (packOf pack) s (r .id) ≡ some (r .value)) ⊎ (r .id < floorOf (s .store))) (sym (m .state))
+      (replied-logged (packOf pack) C (m .calls) r (there r k)
+      (λ q e. accepted-checked pack (pack-yes (r .id) (q, book-as (r .id) ∙ e))))
 
-    -- and it can be worked out
-    replied-worked : workedOut pack (lent .store) (r .id) ≡ some (r .value)
-    replied-worked =
-        let known : IsBooked (r .id) lent = (its-request .0, book-as (r .id) ∙ its-request .1) in
-        sym (worked-as (r .id)) ∙ ap (replyLogged (packOf pack) (same .store .log) (r .id)) (its-request .1)
-        ∙ replied-logged (packOf pack) (accepted-checked pack (pack-yes (r .id) known)) C (m .calls) r (there r k)
-        (its-request .0) (its-request .1)
+  -- one call more adds no reply to an id that is below the floor after it
+  pub adds-none : (c : Call) (answer : Answer) (lent′ : Lent) → Carried pack lent c answer lent′ →
+      (r : Reply) → List·Memᴰ r (withAnswer (answerOf answer) (repliesOf events)) → r .id < floorIn (lent′ .store) →
+      List·Memᴰ r (repliesOf events)
+  unfolding stateOf
+  adds-none c answer lent′ h r k l = go (refusalFor pack lent c) refl
+    where
+      -- the answer and the state left, of which this is so
+      Adds : Calls.Answer → State → Type 0
+      Adds x s = List·Memᴰ r (withAnswer x (repliesOf events)) → r .id < floorOf (s .store) → List·Memᴰ r (repliesOf events)
+
+      by-rule : Adds (ruled pack lent c .answer) (ruled pack lent c .state)
+      by-rule =
+          rule-adds (packOf pack) (stateOf lent) (machineOf (packOf pack) events) (talliesOf events) (repliesOf events) (invariant-as m)
+          c r
+
+      go : (o : Option No) → refusalFor pack lent c ≡ o → List·Memᴰ r (repliesOf events)
+      go none e = subst (λ (o : Outcome). Adds (o .answer) (o .state)) (rule-outcome pack lent c answer lent′ h e) by-rule k l
+      go (some n) e = subst (λ (x : Calls.Answer). List·Memᴰ r (withAnswer x (repliesOf events))) (h .refused n e .0) k
 
   reading-on : Reading pack events lent
   unfolding stateOf
@@ -267,18 +283,27 @@ module _ (pack : List ℕ) (P C : ℕ) (before : List Event) (lent : Lent) (chai
   abbrev Fate : (later : List Event) (lent′ : Lent) → Type 0
   Fate later lent′ = IsListed id lent′ ⊎ TakenOff pack before lent later lent′ id
 
+  -- each reply that was given to the id is this
+  abbrev EachIs : Result → List Event → Type 0
+  EachIs v calls = (r : Reply) → List·Memᴰ r (repliesOf calls) → r .id ≡ id → r .value ≡ v
+
   -- one call more
   module _ (events : List Event) (lent₁ : Lent) (c : Call) (answer : Answer) (lent₂ : Lent) (g : ChainFrom pack lent events lent₁)
       (h : Carried pack lent₁ c answer lent₂) where
     abbrev event : Event
     event = record { made = c; answer = answerOf answer }
 
-    -- what can be worked out is each reply up to then
-    replies : (v : Result) → workedOut pack (lent₂ .store) id ≡ some v →
-        (r : Reply) → List·Memᴰ r (repliesOf (event ∷ events ++ before)) → r .id ≡ id → r .value ≡ v
-    replies v e =
+    -- what is each reply up to the call, and can be worked out behind it or is retired, is each reply behind it
+    each-on : (v : Result) → EachIs v (events ++ before) → Still pack (lent₂ .store) id v → EachIs v (event ∷ events ++ before)
+    unfolding repliesOf
+    each-on v known (inl e) =
         worked-is pack P C (event ∷ events ++ before) lent₂
         (joined pack P C before lent chain (event ∷ events) lent₂ (on-from events lent₁ c answer lent₂ g h)) id v e
+    each-on v known (inr l) =
+        λ r k i.
+        known r
+        (adds-none pack P C (events ++ before) lent₁ (joined pack P C before lent chain events lent₁ g) c answer lent₂ h r k
+        (omega (arith, l, i))) i
 
     -- the call takes it off, or does not
     off-now : StaysListed (packOf pack) (stateOf lent₁) id c (outcome pack lent₁ c answer lent₂ h) → Fate (event ∷ events) lent₂
@@ -286,7 +311,8 @@ module _ (pack : List ℕ) (P C : ℕ) (before : List Event) (lent : Lent) (chai
     off-now (inl k) = inl k
     off-now (inr k) =
         let e = sym (worked-bytes pack lent₁ id) ∙ k .3 in
-        let still = worked-next pack lent₁ c answer lent₂ h id (k .2) e in
+        let still = worked-next pack lent₁ c answer lent₂ h id (k .2) (inl e) in
+        let known = worked-is pack P C (events ++ before) lent₁ (joined pack P C before lent chain events lent₁ g) id (k .2) e in
         let is : event ≡ doneOf id = λ i. record { made = k .0 i; answer = k .1 i } in
         inr
         (record {
@@ -299,7 +325,7 @@ module _ (pack : List ℕ) (P C : ℕ) (before : List Event) (lent : Lent) (chai
           value = k .2;
           worked-out = e;
           still = still;
-          is-reply = replies (k .2) still;
+          is-reply = each-on (k .2) known still;
         })
 
     -- it was taken off before the call, or is listed up to it
@@ -321,7 +347,7 @@ module _ (pack : List ℕ) (P C : ℕ) (before : List Event) (lent : Lent) (chai
           value = o .value;
           worked-out = o .worked-out;
           still = still;
-          is-reply = replies (o .value) still;
+          is-reply = each-on (o .value) (o .is-reply) still;
         })
 
   fate : (later : List Event) (lent′ : Lent) → ChainFrom pack lent later lent′ → Fate later lent′

@@ -2,7 +2,7 @@
 use mathlib.Core.Bool.{Bool, true, false}
 use mathlib.Core.List.{List, [], _∷_}
 use mathlib.Core.Option.{Option, none, some}
-use mathlib.Core.Path.{_≡_, refl, sym, _∙_, ap}
+use mathlib.Core.Path.{_≡_, refl, sym, _∙_, ap, subst}
 use Prim.Native.Nat.{ℕ, _^_}
 use lib.Dec.{ltb}
 use lib.ListN.{replicate}
@@ -12,8 +12,11 @@ use Rattle.questions.specs.Basics.{if_then_else_}
 use Rattle.questions.specs.Questions.{No}
 use Rattle.rules.specs.Calls.{Call, stopped, Outcome, State, History, fresh, refusal, call, unless, stateAfter, answerTo}
 use Rattle.rules.specs.Calls as Calls
-use Rattle.rules.specs.Plain.{Event, feedOf, talliesOf, machineOf, repliesOf, eventsAfter, talliesAfter, machineAfter, repliesAfter}
+use Rattle.rules.specs.Plain.{Machine, Tallies, Event, feedOf, talliesOf, machineOf, repliesOf}
+use Rattle.rules.specs.Plain.{eventsAfter, talliesAfter, machineAfter, repliesAfter}
 use Rattle.rules.proofs.Alike.{Alike, none-yet, one-more, same-tallies, same-machine, same-replies}
+use Rattle.rules.proofs.Invariant.{Inv}
+use Rattle.rules.proofs.Theorem.{invariant}
 use Rattle.questions.proofs.Questions.{orElse-none}
 use Rattle.pack.specs.Meaning.{packOf}
 use Rattle.store.specs.Rows.{emptyStore, lookup}
@@ -54,6 +57,7 @@ fresh-contents P C =
           };
       bookUsed = 0;
       book = λ id. if-same (ltb id (2 ^ 32)) none i;
+      floor = none;
     }
 
 -- ── the mirror ──
@@ -75,12 +79,30 @@ module _ {pack : List ℕ} {C : ℕ} {events : List Event} {lent : Lent} (m : Mi
   pub replies-as : repliesOf events ≡ repliesAfter (packOf pack) C (m .calls)
   replies-as = same-replies _ _ (m .told)
 
+  -- what holds after each list of the rules' calls holds here
+  pub invariant-as : Inv (packOf pack) (stateOf lent) (machineOf (packOf pack) events) (talliesOf events) (repliesOf events)
+  invariant-as =
+      subst (λ (s : State). Inv (packOf pack) s (machineOf (packOf pack) events) (talliesOf events) (repliesOf events)) (sym (m .state))
+      (subst (λ (x : Machine). Inv (packOf pack) after x (talliesOf events) (repliesOf events)) (sym machine-as)
+      (subst (λ (t : Tallies). Inv (packOf pack) after (machineAfter (packOf pack) C (m .calls)) t (repliesOf events)) (sym tallies-as)
+      (subst (Inv (packOf pack) after (machineAfter (packOf pack) C (m .calls)) (talliesAfter (packOf pack) C (m .calls)))
+      (sym replies-as) (invariant (packOf pack) C (m .calls)))))
+    where
+      after : State
+      after = stateAfter (packOf pack) C (m .calls)
+
 pub mirror-start : (pack buffer store : List ℕ) (P C : ℕ) → Created buffer store P C Accepted →
     Mirror pack C [] (record { store = store; records = replicate 8 noAgent; list = noWorklist })
 unfolding stateOf stateAfter eventsAfter entriesOf
 mirror-start pack buffer store P C h =
     let e = ap contentsOf (h .made refl .1) ∙ fresh-contents P C in
     record { calls = []; state = same-state e slots-none refl; told = none-yet }
+
+-- where no question says no, the rule on the bytes is the call
+pub rule-is-call : (pack : List ℕ) (lent : Lent) (c : Call) → refusalFor pack lent c ≡ none →
+    ruled pack lent c ≡ call (packOf pack) (stateOf lent) c
+unfolding refusalFor Calls.call Calls.unless
+rule-is-call pack lent c e = ap (λ (o : Option No). unless o (stateOf lent) (ruled pack lent c)) (sym (orElse-none _ _ e .1))
 
 module _ (pack : List ℕ) (C : ℕ) (events : List Event) (lent : Lent) (m : Mirror pack C events lent)
     (c : Call) (answer : Answer) (lent′ : Lent) where
@@ -114,10 +136,7 @@ module _ (pack : List ℕ) (C : ℕ) (events : List Event) (lent : Lent) (m : Mi
 
   -- where no question says no, the rule on the bytes is the call after those of the mirror
   pub same-outcome : refusalFor pack lent c ≡ none → ruled pack lent c ≡ call (packOf pack) (stateAfter (packOf pack) C (m .calls)) c
-  unfolding refusalFor Calls.call Calls.unless
-  same-outcome e =
-      ap (λ (o : Option No). unless o (stateOf lent) (ruled pack lent c)) (sym (orElse-none _ _ e .1))
-      ∙ ap (λ (s : State). call (packOf pack) s c) (m .state)
+  same-outcome e = rule-is-call pack lent c e ∙ ap (λ (s : State). call (packOf pack) s c) (m .state)
 
   module _ (h : Carried pack lent c answer lent′) where
     pub answered-as : refusalFor pack lent c ≡ none → answerOf answer ≡ answerTo (packOf pack) C (m .calls) c

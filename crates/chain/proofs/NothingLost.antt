@@ -1,51 +1,54 @@
 -- W-207 of lists of calls on bytes: nothing is lost on the way.
 use mathlib.Core.Bool.{Bool, true, false}
-use mathlib.Core.List.{List, [], _∷_}
-use mathlib.Core.Option.{Option, none, some, Option·getD, Option·some-injective}
+use mathlib.Core.List.{List, [], _∷_, List·Memᴰ·head, List·Memᴰ·tail}
+use mathlib.Core.Option.{Option, none, some, Option·some-injective}
 use mathlib.Core.Path.{_≡_, refl, sym, _∙_, ap, ap₂, subst}
 use Prim.Native.Nat.{ℕ, _^_, _≤_, _<_}
 use native.Mathlib.Omega.{arith}
 use native.Mathlib.Decide.{ℕ-discrete}
 use lib.Dec.{ltb}
 use lib.ListN.{length, getD}
-use Rattle.questions.specs.Basics.{if_then_else_}
+use Rattle.questions.specs.Basics.{if_then_else_, isSome, update, each}
 use Rattle.questions.specs.Questions.{No}
 use Rattle.questions.specs.declared.Verdict.the-variants.{Accepted}
-use Rattle.questions.proofs.Updates.{none-some, update-other}
+use Rattle.questions.proofs.Tests.{no-yes}
+use Rattle.questions.proofs.Updates.{none-some, update-same, update-other}
+use Rattle.questions.proofs.Questions.{orElse-none}
 use Rattle.keys.specs.Keys.{bookKey}
 use Rattle.rules.specs.Instructions.{Code, Pack, Place}
 use Rattle.rules.specs.Move.{MOVE}
 use Rattle.rules.specs.Blocks.{Result, Block, runBlock}
 use Rattle.rules.specs.Courses.{Course, does, nextOf}
-use Rattle.rules.specs.Store.{Request, found, booked, written}
+use Rattle.rules.specs.Store.{Request, floorOf, found, booked, written, retired}
 use Rattle.rules.specs.Store as Rules
-use Rattle.rules.specs.Logged.{requestCode, follow}
-use Rattle.rules.specs.Calls.{codeBy, Agent, State, Call}
-use Rattle.rules.specs.Plain.{Event, machineAfter, talliesAfter, repliesAfter}
+use Rattle.rules.specs.Logged.{requestCode, follow, replyLogged}
+use Rattle.rules.specs.Calls.{codeBy, Agent, Call, arrival, canRetire}
+use Rattle.rules.specs.Plain.{Event, talliesOf, machineOf, repliesOf}
 use Rattle.rules.proofs.Follow.{Free}
 use Rattle.rules.proofs.Invariant.{Inv}
-use Rattle.rules.proofs.Changes.{Change, same, books, writes, change, live, asked, none-ahead}
-use Rattle.rules.proofs.Move.{InMove, takes, adds, in-move}
-use Rattle.rules.proofs.Theorem.{invariant}
+use Rattle.rules.proofs.Changes.{Change, same, books, writes, retires, change, live, asked, none-ahead}
+use Rattle.rules.proofs.Logged.{logged-ends}
+use Rattle.rules.proofs.Retire.{retired-logged}
+use Rattle.rules.proofs.Move.{InMove, takes, adds, in-move, replied-both}
 use Rattle.contents.specs.Contents.{contentsOf, valueIn, argumentsOf, requestOf, bookOf, bookRows}
 use Rattle.contents.specs.Wrote.{Wrote}
 use Rattle.pack.specs.Meaning.{packOf}
-use Rattle.store.specs.Layout.{AllBytes, partsOf}
+use Rattle.store.specs.Layout.{partsOf}
 use Rattle.store.specs.Rows.{Store, lookup, rowsOf, storeOf}
 use Rattle.store.specs.Created.{Created}
 use Rattle.store.specs.Questions.{storeRefusal}
-use Rattle.store.proofs.Bytes.{value-below}
 use Rattle.agents.specs.declared.Answer.{Answer}
+use Rattle.agents.specs.Answers.{answerOf}
 use Rattle.meaning.specs.State.{stateOf, Lent}
 use Rattle.meaning.specs.Questions.{refusalFor}
 use Rattle.meaning.specs.Carried.{Carried}
 use Rattle.chain.specs.Chain.{Chain, begins, goes-on}
-use Rattle.chain.specs.NothingLost.{sumOver, dataValue, allData, isUnderWay}
-use Rattle.chain.specs.NothingLost.{amountRow, amountIf, amountsUnderWay, AddsUp, NothingLost}
+use Rattle.chain.specs.NothingLost.{sumOver, dataValue, allData, betweenSteps, isUnderWay}
+use Rattle.chain.specs.NothingLost.{amountIf, amountsUnderWay, AddsUp, AllWords, NothingLost}
 use Rattle.chain.proofs.Sums.{none-below}
 use Rattle.chain.proofs.Counted.{amountOf}
-use Rattle.chain.proofs.SumsAfter.{by-booking, by-first, by-second}
-use Rattle.chain.proofs.Mirror.{Mirror, mirror}
+use Rattle.chain.proofs.SumsAfter.{was-logged, by-booking, by-retiring, by-first, by-second}
+use Rattle.chain.proofs.Mirror.{fresh-contents, mirror, invariant-as}
 use Rattle.chain.proofs.Theorem.{sized}
 
 -- the store of the rules that bytes hold
@@ -67,6 +70,12 @@ fresh-adds-up buffer store P C h =
     let no-amounts : amountsUnderWay store ≡ 0 = ap (sumOver (amountIf (isUnderWay store))) (no-row (partsOf store)) in
     omega (arith, no-data, no-amounts)
 
+-- and books nothing
+fresh-small : (buffer store : List ℕ) (P C : ℕ) → Created buffer store P C Accepted → Small (holds store)
+fresh-small buffer store P C h id =
+    let nothing = ap (λ (x : Rules.Store). x .book id) (ap contentsOf (h .made refl .1) ∙ fresh-contents P C) in
+    subst (λ (o : Option Request). amountOf o < 2 ^ 32) (sym nothing) (omega arith)
+
 -- ── A call ──
 
 -- what the book has is a request of four arguments
@@ -81,20 +90,6 @@ four store id q e = go (ltb id (2 ^ 32)) (lookup (bookKey id 0) (bookRows store)
     go true none f = none-some q refl f
     go true (some w) f = (w, Option·some-injective _ q f)
 
--- and its amount, where the store is of bytes
-small-amounts : (store : List ℕ) → AllBytes store → Small (holds store)
-small-amounts store bytes id = go (holds store .book id) refl
-  where
-    value : (o : Option ℕ) → lookup (bookKey id amountRow) (bookRows store) ≡ o → Option·getD o 0 < 2 ^ 32
-    value none e = omega arith
-    value (some v) e = value-below store bytes (partsOf store) (bookKey id amountRow) v e
-
-    go : (o : Option Request) → holds store .book id ≡ o → amountOf o < 2 ^ 32
-    go none e = omega arith
-    go (some q) e =
-        let f = four store id q e in
-        subst (λ (x : Request). amountOf (some x) < 2 ^ 32) (f .1) (value (lookup (bookKey id amountRow) (bookRows store)) refl)
-
 module _ (pack : List ℕ) (P C : ℕ) (only : packOf pack ≡ MOVE ∷ []) where
   -- each booked workflow is MOVE
   is-move : (q : Request) → q .workflow < length (packOf pack) → requestCode (packOf pack) q ≡ MOVE
@@ -107,26 +102,48 @@ module _ (pack : List ℕ) (P C : ℕ) (only : packOf pack ≡ MOVE ∷ []) wher
     abbrev s : Rules.Store
     s = holds (lent .store)
 
-    abbrev m : Mirror pack C events lent
-    m = mirror pack P C events lent chain
-
-    inv : Inv (packOf pack) (stateOf lent) (machineAfter (packOf pack) C (m .calls)) (talliesAfter (packOf pack) C (m .calls))
-        (repliesAfter (packOf pack) C (m .calls))
-    inv =
-        subst (λ (x : State). Inv (packOf pack) x (machineAfter (packOf pack) C (m .calls)) (talliesAfter (packOf pack) C (m .calls))
-        (repliesAfter (packOf pack) C (m .calls))) (sym (m .state)) (invariant (packOf pack) C (m .calls))
+    inv : Inv (packOf pack) (stateOf lent) (machineOf (packOf pack) events) (talliesOf events) (repliesOf events)
+    inv = invariant-as (mirror pack P C events lent chain)
 
     module _ (store′ : List ℕ) (parts : partsOf store′ ≡ partsOf (lent .store)) (passes′ : storeRefusal store′ ≡ none) where
       passes : storeRefusal (lent .store) ≡ none
       passes = sized pack P C events lent chain .passes
 
-      booked-adds : (id : ℕ) (q : Request) → s .book id ≡ none → holds store′ ≡ booked s id q →
+      booked-adds : (id : ℕ) (q : Request) → s .book id ≡ none → floorOf s ≤ id → holds store′ ≡ booked s id q →
           AddsUp (lent .store) → AddsUp store′
       unfolding stateOf
-      booked-adds id q new e adds-up =
+      booked-adds id q new from e adds-up =
           omega (
             arith,
-            by-booking (lent .store) store′ passes passes′ parts id q e (inv .core .unlogged id (inv .core .unbooked id new)),
+            by-booking (lent .store) store′ passes passes′ parts id q e (inv .core .unlogged id (inv .core .unbooked id from new)),
+            adds-up,
+          )
+
+      -- a request that is logged through, by the reply to which its log leads, has both blocks logged
+      not-under-way : (id : ℕ) (q : Request) → id < 2 ^ 32 → s .book id ≡ some q → (o : Option Result) →
+          replyLogged (packOf pack) (s .log) id (some q) ≡ o → isSome o ≡ true → isUnderWay (lent .store) id ≡ false
+      unfolding stateOf
+      not-under-way id q l book none e there = no-yes there
+      not-under-way id q l book (some r) e there =
+          let f = four (lent .store) id q book in
+          let ends = logged-ends (packOf pack) (s .log) id q r e in
+          let both = replied-both (s .log) id (f .0) _ _ _ _ (ends .0) r
+          (ap₂ (λ (c : Code) (x : Request). follow (s .log) id c x (ends .0)) (sym (is-move q (inv .core .valid id q book))) (f .1)
+          ∙ ends .1) in
+          ap₂ betweenSteps
+          (was-logged (lent .store) store′ passes passes′ parts id 0 0 _ l (omega arith) (both .2))
+          (was-logged (lent .store) store′ passes passes′ parts id 1 1 _ l (omega arith) (both .3))
+
+      -- and what a retire removes is logged through
+      retired-adds : (floor : ℕ) → each floor (λ id. canRetire (packOf pack) (stateOf lent) id (s .book id)) ≡ true →
+          holds store′ ≡ retired s floor → AddsUp (lent .store) → AddsUp store′
+      unfolding stateOf
+      retired-adds floor all e adds-up =
+          omega (
+            arith,
+            by-retiring (lent .store) store′ passes passes′ parts floor e
+                (λ id q l below book. not-under-way id q l book _ refl
+                (retired-logged (packOf pack) (stateOf lent) floor all id q below book)),
             adds-up,
           )
 
@@ -197,55 +214,72 @@ module _ (pack : List ℕ) (P C : ℕ) (only : packOf pack ≡ MOVE ∷ []) wher
                 by-first (lent .store) store′ passes passes′ parts p (a .id) (a .step) block wrote (argument 0) _ (puts (s .rows p)) request
                 booked-so small-so step (λ u l. free u (omega (arith, step))) refl adds-up
             go (adds part step r logged puts) =
-                by-second (lent .store) store′ passes passes′ parts p (a .id) (a .step) block wrote (argument 1) _ (puts (s .rows p)) request
+                by-second (lent .store) store′ passes passes′ parts p (a .id) (a .step) block wrote (argument 1) _ (puts (s .rows p))
+                request
                 booked-so small-so step r logged (λ u l. free u (omega (arith, step))) refl adds-up
 
     -- ── and a call ──
 
     module _ (c : Call) (answer : Answer) (lent′ : Lent) (h : Carried pack lent c answer lent′)
-        (passes′ : storeRefusal (lent′ .store) ≡ none) (small : Small (holds (lent′ .store))) (before : Small s → AddsUp (lent .store)) where
-      -- what was booked before is booked now
-      small-before : (st : Rules.Store) → Change (packOf pack) (stateOf lent) st → Small st → Small s
+        (passes′ : storeRefusal (lent′ .store) ≡ none)
+        (words : (slot id w : ℕ) (args : List ℕ) → c ≡ arrival slot id w args → (at : ℕ) → getD args at 0 < 2 ^ 32)
+        (small : Small s) (adds-up : AddsUp (lent .store)) where
+      -- what is booked is an arrival's, or was booked before
+      small-after : (st : Rules.Store) → Change (packOf pack) (stateOf lent) c st → Small st
       unfolding stateOf
-      small-before st (same e) f id = subst (λ (x : Rules.Store). amountOf (x .book id) < 2 ^ 32) e (f id)
-      small-before st (books id q new e) f j = go (ℕ-discrete j id)
+      small-after st (same e) j = subst (λ (x : Rules.Store). amountOf (x .book j) < 2 ^ 32) (sym e) (small j)
+      small-after st (books slot id q is new from e) j = go (ℕ-discrete j id)
         where
-          go : Dec (j ≡ id) → amountOf (s .book j) < 2 ^ 32
-          go (yes w) = subst (λ (o : Option Request). amountOf o < 2 ^ 32) (sym (ap (s .book) w ∙ new)) (omega arith)
+          go : Dec (j ≡ id) → amountOf (st .book j) < 2 ^ 32
+          go (yes w) =
+              subst (λ (o : Option Request). amountOf o < 2 ^ 32)
+              (sym (ap (λ (x : Rules.Store). x .book j) e ∙ ap (update (s .book) id (some q)) w ∙ update-same (s .book) id (some q)))
+              (words slot id (q .workflow) (q .arguments) is 2)
           go (no n) = subst (λ (o : Option Request). amountOf o < 2 ^ 32)
-              (ap (λ (x : Rules.Store). x .book j) e ∙ update-other (s .book) id (some q) j n) (f j)
-      small-before st (writes slot a from p onto held next absent e) f j =
-          subst (λ (x : Rules.Store). amountOf (x .book j) < 2 ^ 32) e (f j)
+              (sym (ap (λ (x : Rules.Store). x .book j) e ∙ update-other (s .book) id (some q) j n)) (small j)
+      small-after st (writes slot a from p onto held next absent e) j =
+          subst (λ (x : Rules.Store). amountOf (x .book j) < 2 ^ 32) (sym e) (small j)
+      small-after st (retires floor is all some-booked e) j =
+          subst (λ (x : Rules.Store). amountOf (x .book j) < 2 ^ 32) (sym e) (go (ltb j floor))
+        where
+          go : (b : Bool) → amountOf (if_then_else_ b none (s .book j)) < 2 ^ 32
+          go true = omega arith
+          go false = small j
 
-      by-change : (st : Rules.Store) → Change (packOf pack) (stateOf lent) st → Wrote (lent .store) (lent′ .store) st →
+      by-change : (st : Rules.Store) → Change (packOf pack) (stateOf lent) c st → Wrote (lent .store) (lent′ .store) st →
           AddsUp (lent′ .store)
       unfolding stateOf
-      by-change st ch w = go ch (small-before st ch (subst Small (w .holds) small))
-        where
-          go : Change (packOf pack) (stateOf lent) st → Small s → AddsUp (lent′ .store)
-          go (same e) f = subst AddsUp (sym (w .bytes (passes (lent′ .store) (w .parts) passes′) (sym e))) (before f)
-          go (books id q new e) f = booked-adds (lent′ .store) (w .parts) passes′ id q new (w .holds ∙ e) (before f)
-          go (writes slot a from p onto held next absent e) f =
-              block-adds (lent′ .store) (w .parts) passes′ slot a from p onto held next absent (w .holds ∙ e) (f (a .id)) (before f)
+      by-change st (same e) w = subst AddsUp (sym (w .bytes (passes (lent′ .store) (w .parts) passes′) (sym e))) adds-up
+      by-change st (books slot id q is new from e) w =
+          booked-adds (lent′ .store) (w .parts) passes′ id q new from (w .holds ∙ e) adds-up
+      by-change st (writes slot a from p onto held next absent e) w =
+          block-adds (lent′ .store) (w .parts) passes′ slot a from p onto held next absent (w .holds ∙ e) (small (a .id)) adds-up
+      by-change st (retires floor is all some-booked e) w = retired-adds (lent′ .store) (w .parts) passes′ floor all (w .holds ∙ e) adds-up
 
-      call-adds : AddsUp (lent′ .store)
+      call-adds : Small (holds (lent′ .store)) × AddsUp (lent′ .store)
+      unfolding refusalFor
       call-adds = go (refusalFor pack lent c) refl
         where
-          go : (o : Option No) → refusalFor pack lent c ≡ o → AddsUp (lent′ .store)
-          go none e = by-change _ (change (packOf pack) (stateOf lent) c) (h .carried e .1 .written)
+          go : (o : Option No) → refusalFor pack lent c ≡ o → Small (holds (lent′ .store)) × AddsUp (lent′ .store)
+          go none e =
+              let done = change (packOf pack) (stateOf lent) c (orElse-none _ _ e .1) in
+              let w = h .carried e .1 .written in
+              (subst Small (sym (w .holds)) (small-after _ done), by-change _ done w)
           go (some n) e =
-              let k = h .refused n e .1 in
-              subst (λ (x : Lent). AddsUp (x .store)) (sym k) (before (subst (λ (x : Lent). Small (holds (x .store))) k small))
+              subst (λ (x : Lent). Small (holds (x .store)) × AddsUp (x .store)) (sym (h .refused n e .1)) (small, adds-up)
 
   -- ── lists of calls ──
 
-  adds-up-on : (events : List Event) (lent : Lent) → Chain pack P C events lent → Small (holds (lent .store)) → AddsUp (lent .store)
-  adds-up-on events lent (begins buffer store₀ h) small = fresh-adds-up buffer store₀ P C h
-  adds-up-on events lent (goes-on events₀ lent₀ c answer lent′ chain h) small =
-      call-adds events₀ lent₀ chain c answer lent′ h (sized pack P C _ lent′ (goes-on events₀ lent₀ c answer lent′ chain h) .passes) small
-      (λ f. adds-up-on events₀ lent₀ chain f)
+  adds-up-on : (events : List Event) (lent : Lent) → Chain pack P C events lent → AllWords events →
+      Small (holds (lent .store)) × AddsUp (lent .store)
+  adds-up-on events lent (begins buffer store₀ h) words = (fresh-small buffer store₀ P C h, fresh-adds-up buffer store₀ P C h)
+  adds-up-on events lent (goes-on events₀ lent₀ c answer lent′ chain h) words =
+      let before = adds-up-on events₀ lent₀ chain (λ slot id w args a m. words slot id w args a (List·Memᴰ·tail m)) in
+      call-adds events₀ lent₀ chain c answer lent′ h (sized pack P C _ lent′ (goes-on events₀ lent₀ c answer lent′ chain h) .passes)
+      (λ slot id w args is. words slot id w args (answerOf answer)
+      (List·Memᴰ·head (ap (λ (x : Call). record { made = x; answer = answerOf answer }) (sym is))))
+      (before .0) (before .1)
 
 -- Nothing is lost.
 pub nothing-lost : NothingLost
-nothing-lost pack P C only events lent chain bytes =
-    adds-up-on pack P C only events lent chain (small-amounts (lent .store) bytes)
+nothing-lost pack P C only events lent chain words = adds-up-on pack P C only events lent chain words .1

@@ -56,6 +56,7 @@ use Rattle.chain.specs.Demands.{InTime}
 use Rattle.chain.specs.RequestZero.{ChainOn}
 use Rattle.chain.proofs.AsBefore.{by-log-on, as-before-on}
 use Rattle.chain.proofs.Each.{answers-yes, met-none, left-state, demand1}
+use Rattle.chain.proofs.Floor.{above-for}
 
 -- ── 21 is none of 1 to 16 ──
 
@@ -118,7 +119,7 @@ module _ (pack : List ℕ) (lent : Lent) (slot id w : ℕ) (args : List ℕ) (an
   asked =
       let a = ask-none (number 15) _ _ (orElse-none _ _ met .1) in
       let b = ask-none (number 16) _ _ (a .1) in
-      let d = ask-none (number 17) _ _ (ask-none (number 24) _ _ (b .1) .1) in (
+      let d = ask-none (number 17) _ _ (ask-none (number 30) _ _ (ask-none (number 24) _ _ (b .1) .1) .1) in (
         ltb-true slot 8 (a .0),
         is-empty (stateOf lent .slots slot) (b .0),
         omega (arith, ltb-true w (length (packOf pack)) (d .0), length-pack pack),
@@ -202,19 +203,20 @@ module _ (pack : List ℕ) (lent : Lent) (slot id w : ℕ) (args : List ℕ) (an
   room-at-first =
       subst (HasRoom (packOf pack) (partsOf (lent .store)) id request checked below)
       (sym (left-state pack lent (arrival slot id w args) answer arrived h met))
-      (arrives (packOf pack) (partsOf (lent .store)) id request checked below (stateOf lent) slot finds nobody)
+      (arrives (packOf pack) (partsOf (lent .store)) id request checked below (stateOf lent) slot (asked .0) finds nobody)
 
   -- ── The calls behind it ──
 
   room-next : (l : Lent) (c : Call) (told : Answer) (l′ : Lent) → Carried pack l c told l′ →
       (accepted (answerOf told) ≡ true → NoOther (packOf pack) id (stateOf l) c) → RoomIn l → RoomIn l′
+  unfolding refusalFor
   room-next l c told l′ g alone r = go (refusalFor pack l c) refl
     where
       go : (o : Option No) → refusalFor pack l c ≡ o → RoomIn l′
       go none e =
           subst (HasRoom (packOf pack) (partsOf (lent .store)) id request checked below) (sym (left-state pack l c told l′ g e))
           (rule-keeps (packOf pack) (partsOf (lent .store)) id request checked below (stateOf l) r c
-          (alone (answers-yes pack l c told l′ g e)))
+          (orElse-none _ _ e .1) (above-for pack l c e) (alone (answers-yes pack l c told l′ g e)))
       go (some n) e = subst RoomIn (sym (g .refused n e .1)) r
 
   room-after : (events : List Event) (l : Lent) → Undisturbed pack id arrived events l → RoomIn l

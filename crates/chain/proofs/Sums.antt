@@ -9,12 +9,12 @@ use native.Mathlib.Omega.{arith}
 use native.Mathlib.Decide.{ℕ-discrete}
 use borrow.Author.Tests.{eq-eqb, ne-eqb, eqb-true, eqb-false}
 use lib.Dec.{eqb}
-use Rattle.questions.specs.Basics.{if_then_else_}
+use Rattle.questions.specs.Basics.{if_then_else_, sumBelow}
 use Rattle.questions.proofs.Tests.{and-right}
 use Rattle.store.specs.Rows.{Row, keysIn, lookup}
 use Rattle.store.specs.Questions.{ahead, rising}
 use Rattle.store.proofs.Lists.{rises-none}
-use Rattle.chain.specs.NothingLost.{sumBelow, anyBelow, sumOver}
+use Rattle.chain.specs.NothingLost.{anyBelow, sumOver}
 
 -- what is found at a key counts
 abbrev pub countAt : (counts : Row → ℕ) → (k : ℕ) → Option ℕ → ℕ

@@ -1,4 +1,4 @@
--- How the sums of W-207 change with the store of the rules: by a request booked, and by a block of MOVE.
+-- How the sums of W-207 change with the store of the rules: by a request booked, by what a retire removes, and by a block of MOVE.
 use mathlib.Core.Bool.{Bool, true, false}
 use mathlib.Core.List.{List}
 use mathlib.Core.Logic.{_⊎_, inl, inr}
@@ -7,21 +7,22 @@ use mathlib.Core.Path.{_≡_, refl, sym, _∙_, ap, ap₂, subst}
 use Prim.Native.Nat.{ℕ, suc, _+_, _-_, _%_, _^_, _≤_, _<_}
 use native.Mathlib.Omega.{arith}
 use native.Mathlib.Decide.{ℕ-discrete}
-use borrow.Author.Tests.{eq-eqb, eqb-true}
-use lib.Dec.{eqb}
-use Rattle.questions.specs.Basics.{if_then_else_, isSome, update}
+use borrow.Author.Tests.{ltb-true, eq-eqb, eqb-true}
+use lib.Dec.{eqb, ltb, nltb→le}
+use Rattle.questions.specs.Basics.{if_then_else_, isSome, update, sumBelow}
 use Rattle.questions.proofs.Updates.{none-some, update-same, update-other}
 use Rattle.keys.specs.Keys.{isDataKey, dataKey, dataOf, bookKey, isBookKey, bookedId, bookRow}
 use Rattle.keys.proofs.Keys.{data-is, data-bounds, book-is, book-again}
 use Rattle.rules.specs.Blocks.{Table, Result, Block}
-use Rattle.rules.specs.Store.{Request, sought, found, booked, withRow, written}
+use Rattle.rules.specs.Store.{Request, sought, found, booked, withRow, written, retired}
 use Rattle.rules.specs.Store as Rules
 use Rattle.rules.proofs.Follow.{Free, Same, row-cases, row-elsewhere, row-later, row-here}
+use Rattle.rules.proofs.Retire.{kept-from, gone-below}
 use Rattle.contents.specs.Contents.{contentsOf, bookRows}
 use Rattle.store.specs.Layout.{partsOf}
 use Rattle.store.specs.Rows.{lookup, rowsOf, storeOf}
 use Rattle.store.specs.Questions.{storeRefusal}
-use Rattle.chain.specs.NothingLost.{sumBelow, anyBelow, sumOver, dataValue, allData, isLogged, betweenSteps, isUnderWay}
+use Rattle.chain.specs.NothingLost.{anyBelow, sumOver, dataValue, allData, isLogged, betweenSteps, isUnderWay}
 use Rattle.chain.specs.NothingLost.{amountRow, amountIf, amountsUnderWay, AddsUp}
 use Rattle.chain.proofs.Sums.{countAt, same-sum, changed-sum, same-below, changed-below}
 use Rattle.chain.proofs.Counted.{dataAt, amountOf, amountAt, part-rises, book-rises, data-counted}
@@ -173,6 +174,14 @@ module _ (store store′ : List ℕ) (passes : storeRefusal store ≡ none) (pas
       sym (ap₂ betweenSteps (logged-stays id 0 h (omega arith) (λ p. e p 0))
       (logged-stays id 1 h (omega arith) (λ p. e p 1)))
 
+  -- a step whose row is found is logged
+  pub was-logged : (id u p : ℕ) (r : Result) → id < 2 ^ 32 → u < 65536 → found (s .log) p id u ≡ some r → isLogged store id u ≡ true
+  was-logged id u p r l h f = go (s .log .usual p id u) refl f
+    where
+      go : (o : Option ℕ) → s .log .usual p id u ≡ o → sought o ≡ some r → isLogged store id u ≡ true
+      go none w f = none-some r refl f
+      go (some x) w f = there-logged store passes id u l h p x (log-found-within store p id u x w .0) w
+
   -- ── a request booked ──
 
   -- one that has no log row yet counts nothing
@@ -196,6 +205,37 @@ module _ (store store′ : List ℕ) (passes : storeRefusal store ≡ none) (pas
       go j l (no n) =
           ap₂ due (way-stays j l (log-same j))
           (sym (ap (λ (x : Rules.Store). x .book j) e ∙ update-other (s .book) id (some q) j n))
+
+  -- ── what a retire removes ──
+
+  -- what isn't booked counts nothing
+  none-due : (underWay : Bool) → due underWay none ≡ 0
+  none-due true = refl
+  none-due false = refl
+
+  -- where no booked request below the floor is under way, none counted that is removed
+  pub by-retiring : (floor : ℕ) → s′ ≡ retired s floor →
+      ((id : ℕ) (q : Request) → id < 2 ^ 32 → id < floor → s .book id ≡ some q → isUnderWay store id ≡ false) →
+      allData store′ + amountsUnderWay store′ ≡ allData store + amountsUnderWay store
+  by-retiring floor e over =
+      omega (arith, data-stays (λ p. ap (λ (x : Rules.Store). x .rows p) e), amounts-stay (λ j l. go j l (ltb j floor) refl))
+    where
+      removed : (j : ℕ) → j < 2 ^ 32 → j < floor → (o : Option Request) → s .book j ≡ o → due (isUnderWay store j) (s .book j) ≡ 0
+      removed j l below none b = ap (due (isUnderWay store j)) b ∙ none-due (isUnderWay store j)
+      removed j l below (some q) b = ap (λ x. due x (s .book j)) (over j q l below b)
+
+      go : (j : ℕ) → j < 2 ^ 32 → (b : Bool) → ltb j floor ≡ b →
+          due (isUnderWay store j) (s .book j) ≡ due (isUnderWay store′ j) (s′ .book j)
+      go j l true b =
+          let below = ltb-true j floor b in
+          removed j l below (s .book j) refl
+          ∙ sym (ap (due (isUnderWay store′ j)) (ap (λ (x : Rules.Store). x .book j) e ∙ gone-below floor j (s .book j) below)
+          ∙ none-due (isUnderWay store′ j))
+      go j l false b =
+          let from = nltb→le j floor (rw b tt) in
+          ap₂ due
+          (way-stays j l (λ p t. ap (λ (x : Rules.Store). x .log .usual p j t) e ∙ kept-from floor j (s .log .usual p j t) from))
+          (sym (ap (λ (x : Rules.Store). x .book j) e ∙ kept-from floor j (s .book j) from))
 
   -- ── a block that puts one data row ──
 
@@ -259,13 +299,6 @@ module _ (store store′ : List ℕ) (passes : storeRefusal store ≡ none) (pas
     not-yet : (u : ℕ) → u < 65536 → ((q : ℕ) → Free (s .log) q id u) → isLogged store id u ≡ false
     not-yet u h free = none-logged store passes id u (bounds .1) h free
 
-    was-logged : (u q : ℕ) (r : Result) → u < 65536 → found (s .log) q id u ≡ some r → isLogged store id u ≡ true
-    was-logged u q r h f = go (s .log .usual q id u) refl f
-      where
-        go : (o : Option ℕ) → s .log .usual q id u ≡ o → sought o ≡ some r → isLogged store id u ≡ true
-        go none w f = none-some r refl f
-        go (some x) w f = there-logged store passes id u (bounds .1) h q x (log-found-within store q id u x w .0) w
-
     -- ── a block of MOVE ──
 
     module _ (q : Request) (book : s .book id ≡ some q) (small : amountOf (some q) < 2 ^ 32) where
@@ -293,7 +326,7 @@ module _ (store store′ : List ℕ) (passes : storeRefusal store ≡ none) (pas
       by-second second r logged free value adds-up = omega (arith, by-put, way, value, adds-up)
         where
           first-logged : isLogged store id 0 ≡ true
-          first-logged = was-logged 0 0 r (omega arith) logged
+          first-logged = was-logged id 0 0 r (bounds .1) (omega arith) logged
 
           before : isUnderWay store id ≡ true
           before = ap₂ betweenSteps first-logged (not-yet 1 (omega arith) (free 1 (omega arith)))

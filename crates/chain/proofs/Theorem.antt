@@ -48,7 +48,7 @@ pub record Passing (P C : ℕ) (store : List ℕ) : Type 0 where
   pub passes : storeRefusal store ≡ none
 
 no-book : (xs : List ℕ) → rowsOf xs (partsOf xs) ≡ [] → StoreQuestions.question12 xs ≡ true
-unfolding StoreQuestions.question12 StoreQuestions.bookOk keysIn StoreQuestions.allIn
+unfolding StoreQuestions.question12 StoreQuestions.bookRight StoreQuestions.bookOk StoreQuestions.fromFloor keysIn StoreQuestions.allIn
 no-book xs e = rw e refl
 
 sized-start : (buffer store : List ℕ) (P C : ℕ) → Created buffer store P C Accepted → Passing P C store

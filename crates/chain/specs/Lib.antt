@@ -4,4 +4,5 @@ pub mod InOrder
 pub mod RequestZero
 pub mod Room
 pub mod NothingLost
+pub mod Retired
 pub mod Listed

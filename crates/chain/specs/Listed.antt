@@ -4,7 +4,7 @@ use mathlib.Core.List.{List, [], _∷_, _++_, List·Memᴰ}
 use mathlib.Core.Logic.{_⊎_}
 use mathlib.Core.Option.{Option, none, some}
 use mathlib.Core.Path.{_≡_}
-use Prim.Native.Nat.{ℕ}
+use Prim.Native.Nat.{ℕ, _<_}
 use Rattle.contents.specs.Contents.{contentsOf}
 use Rattle.rules.specs.Blocks.{Result}
 use Rattle.rules.specs.Store.{Request}
@@ -20,6 +20,7 @@ use Rattle.meaning.specs.State.{Lent, workedOut}
 use Rattle.meaning.specs.Questions.{replyRefusal}
 use Rattle.meaning.specs.Carried.{Carried}
 use Rattle.chain.specs.Chain.{Chain, ChainFrom}
+use Rattle.chain.specs.Retired.{floorIn}
 
 -- the id is in the book
 abbrev pub IsBooked : (id : ℕ) → Lent → Type 0
@@ -46,8 +47,8 @@ pub record TakenOff (pack : List ℕ) (before : List Event) (lent : Lent) (later
   -- its reply could then be worked out from the log
   pub value : Result
   pub worked-out : workedOut pack (lent-then .store) id ≡ some value
-  -- it still can
-  pub still : workedOut pack (lent′ .store) id ≡ some value
+  -- it still can, or the request has been retired since (W-209)
+  pub still : (workedOut pack (lent′ .store) id ≡ some value) ⊎ (id < floorIn (lent′ .store))
   -- and it is each reply that was ever given
   pub is-reply : (r : Reply) → List·Memᴰ r (repliesOf (later ++ before)) → r .id ≡ id → r .value ≡ value
 
@@ -77,11 +78,13 @@ pub record Reading (pack : List ℕ) (events : List Event) (lent : Lent) : Type 
   -- the reply worked out from the log is each reply that was given to the id
   pub worked : (id : ℕ) (value : Result) → workedOut pack (lent .store) id ≡ some value →
       (r : Reply) → List·Memᴰ r (repliesOf events) → r .id ≡ id → r .value ≡ value
-  -- it is still worked out after any later calls
+  -- it is still worked out after any later calls, unless the request has been retired by then (W-209)
   pub still : (later : List Event) (lent′ : Lent) → ChainFrom pack lent later lent′ →
-      (id : ℕ) (value : Result) → workedOut pack (lent .store) id ≡ some value → workedOut pack (lent′ .store) id ≡ some value
-  -- each reply that was given can be worked out
-  pub replied : (r : Reply) → List·Memᴰ r (repliesOf events) → workedOut pack (lent .store) (r .id) ≡ some (r .value)
+      (id : ℕ) (value : Result) → workedOut pack (lent .store) id ≡ some value →
+      (workedOut pack (lent′ .store) id ≡ some value) ⊎ (id < floorIn (lent′ .store))
+  -- each reply that was given can be worked out, unless its request is retired
+  pub replied : (r : Reply) → List·Memᴰ r (repliesOf events) →
+      (workedOut pack (lent .store) (r .id) ≡ some (r .value)) ⊎ (r .id < floorIn (lent .store))
   -- what can be worked out is a reply to a booked request
   pub booked : (id : ℕ) (value : Result) → workedOut pack (lent .store) id ≡ some value → IsBooked id lent
   -- and to a reading call for a booked id none of 1 to 13 and 20 says no: a terminal that comes back late is told its reply

@@ -1,26 +1,23 @@
 -- W-207, nothing lost on the way: what a technician adds up from the rows that stand in a store's bytes.
 use mathlib.Core.Bool.{Bool, false, not, _&&_, _||_}
-use mathlib.Core.List.{List, [], _∷_}
+use mathlib.Core.List.{List, [], _∷_, List·Memᴰ}
 use mathlib.Core.Path.{_≡_}
-use Prim.Native.Nat.{ℕ, zero, suc, _+_, _%_, _^_}
+use Prim.Native.Nat.{ℕ, zero, suc, _+_, _%_, _^_, _<_}
 use lib.Dec.{eqb}
-use Rattle.questions.specs.Basics.{if_then_else_, isSome}
+use lib.ListN.{getD}
+use Rattle.questions.specs.Basics.{if_then_else_, isSome, sumBelow}
 use Rattle.keys.specs.Keys.{isDataKey, logKey, bookedId, bookRow}
 use Rattle.rules.specs.Move.{MOVE}
+use Rattle.rules.specs.Calls.{Answer, arrival}
 use Rattle.rules.specs.Plain.{Event}
 use Rattle.contents.specs.Contents.{bookRows}
 use Rattle.pack.specs.Meaning.{packOf}
-use Rattle.store.specs.Layout.{AllBytes, partsOf}
+use Rattle.store.specs.Layout.{partsOf}
 use Rattle.store.specs.Rows.{Row, rowsOf, lookup}
 use Rattle.meaning.specs.State.{Lent}
 use Rattle.chain.specs.Chain.{Chain}
 
 -- ── Over numbers and over rows ──
-
--- the sum of f at the numbers below n
-unfoldable pub sumBelow : (n : ℕ) → (ℕ → ℕ) → ℕ
-sumBelow zero f = 0
-sumBelow (suc n) f = sumBelow n f + f n
 
 -- does f hold at some number below n?
 unfoldable pub anyBelow : (n : ℕ) → (ℕ → Bool) → Bool
@@ -74,9 +71,15 @@ amountsUnderWay store = sumOver (amountIf (isUnderWay store)) (bookRows store)
 abbrev pub AddsUp : (store : List ℕ) → Type 0
 AddsUp store = (allData store + amountsUnderWay store) % 2 ^ 32 ≡ 0
 
--- For a pack whose only workflow is MOVE, a fresh store without agents and calls in any sequence: after each of them. (Each number of a
--- lent store is a byte; here it is asked for, since calls and bytes are numbers of any size.)
+-- each argument of an arrival has 32 bits, as in every call that a host makes
+abbrev pub AllWords : List Event → Type 0
+AllWords events =
+    (slot id w : ℕ) (args : List ℕ) (answer : Answer) → List·Memᴰ (record { made = arrival slot id w args; answer = answer }) events →
+    (at : ℕ) → getD args at 0 < 2 ^ 32
+
+-- For a pack whose only workflow is MOVE, a fresh store without agents and calls in any sequence, retire among them: after each of them.
+-- (That arguments have 32 bits is asked for here, since the numbers of a `Call` may be of any size.)
 abbrev pub NothingLost : Type 0
 NothingLost =
     (pack : List ℕ) (P C : ℕ) → packOf pack ≡ MOVE ∷ [] →
-    (events : List Event) (lent : Lent) → Chain pack P C events lent → AllBytes (lent .store) → AddsUp (lent .store)
+    (events : List Event) (lent : Lent) → Chain pack P C events lent → AllWords events → AddsUp (lent .store)

@@ -1,8 +1,8 @@
--- What a store means after a change of the book.
+-- What a store means after a change of the book that leaves the floor row.
 use mathlib.Core.Bool.{Bool, true, false}
 use mathlib.Core.List.{List}
 use mathlib.Core.Option.{none}
-use mathlib.Core.Path.{_≡_, refl, ap}
+use mathlib.Core.Path.{_≡_, refl, _∙_, ap}
 use Prim.Native.Nat.{ℕ}
 use native.Mathlib.Omega.{arith}
 use borrow.Author.Tests.{ltb-true}
@@ -11,14 +11,15 @@ use lib.ListN.{length}
 use Rattle.rules.specs.Store.{withBook}
 use Rattle.contents.specs.Contents.{contentsOf, valueIn, bookOf}
 use Rattle.questions.specs.Basics.{if_then_else_}
-use Rattle.keys.specs.Keys.{tableOf, logOf}
-use Rattle.store.specs.Rows.{Row, Store, alter}
+use Rattle.keys.specs.Keys.{floorKey, tableOf, logOf}
+use Rattle.store.specs.Rows.{Row, Store, alter, lookup}
 use Rattle.store.proofs.Lists.{alter-here, alter-there}
 
-pub contents-book : (st : Store) (g : List Row → List Row) → contentsOf (alter (st .parts) g st) ≡
+pub contents-book : (st : Store) (g : List Row → List Row) →
+    lookup floorKey (g (st .rows (st .parts))) ≡ lookup floorKey (st .rows (st .parts)) → contentsOf (alter (st .parts) g st) ≡
     withBook (contentsOf st) (length (g (st .rows (st .parts)))) (bookOf (valueIn (g (st .rows (st .parts)))))
 unfolding contentsOf alter
-contents-book st g =
+contents-book st g floor =
     let P = st .parts in
     λ i.
     record {
@@ -28,6 +29,7 @@ contents-book st g =
       log = record { usual = λ p id t. log-same p id t (ltb p P) refl i };
       bookUsed = length (alter-here P g st i);
       book = bookOf (valueIn (alter-here P g st i));
+      floor = (ap (lookup floorKey) (alter-here P g st) ∙ floor) i;
     }
   where
     same : (p : ℕ) → ltb p (st .parts) ≡ true → alter (st .parts) g st .rows p ≡ st .rows p

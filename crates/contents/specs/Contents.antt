@@ -5,7 +5,7 @@ use Prim.Native.Nat.{ℕ, _^_}
 use lib.Dec.{ltb}
 use lib.ListN.{length}
 use Rattle.questions.specs.Basics.{if_then_else_}
-use Rattle.keys.specs.Keys.{bookKey, tableOf, logOf}
+use Rattle.keys.specs.Keys.{bookKey, floorKey, tableOf, logOf}
 use Rattle.rules.specs.Store.{Request}
 use Rattle.rules.specs.Store as Rules
 use Rattle.store.specs.Rows.{Row, rowsOf, lookup, Store}
@@ -37,8 +37,8 @@ bookOf f id = if ltb id (2 ^ 32) then requestOf (f (bookKey id 0)) (argumentsOf 
 abbrev pub bookRows : (store : List ℕ) → List Row
 bookRows store = rowsOf store (partsOf store)
 
--- The store of the rules: data rows and log rows of the partitions below P, the requests of the book, which is partition P, the used
--- counts, and C.
+-- The store of the rules: data rows and log rows of the partitions below P, the requests and the floor row of the book, which is partition
+-- P, the used counts, and C.
 unfoldable pub contentsOf : Store → Rules.Store
 contentsOf st =
     record {
@@ -48,4 +48,5 @@ contentsOf st =
       log = record { usual = λ p id t. if ltb p (st .parts) then logOf (valueIn (st .rows p)) id t else none };
       bookUsed = length (st .rows (st .parts));
       book = bookOf (valueIn (st .rows (st .parts)));
+      floor = valueIn (st .rows (st .parts)) floorKey;
     }

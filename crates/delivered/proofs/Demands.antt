@@ -29,9 +29,10 @@ use Rattle.worklist.specs.declared.Worklist.{Worklist}
 use Rattle.worklist.specs.Bytes.{listIn, withList}
 use Rattle.answers.specs.Answers.{heard, slotsAfter, listAfter}
 use Rattle.answers.specs.Answers as Answers
-use Rattle.host.specs.Exports.{lentWith, lentIn, buffersWrong, listWrong, Exported, ListExported, Restarted}
+use Rattle.host.specs.Exports.{lentWith, lentIn, buffersWrong, listWrong, Exported, ListExported, StoreExported, Restarted}
 use Rattle.delivered.specs.Delivered.{Delivered}
-use Rattle.delivered.specs.Demands.{RefusedFirst, AsRuled, ListRefusedFirst, ListAsRuled, RestartAsRuled, ByTheList}
+use Rattle.delivered.specs.Demands.{RefusedFirst, AsRuled, ListRefusedFirst, ListAsRuled, StoreRefusedFirst, StoreAsRuled}
+use Rattle.delivered.specs.Demands.{RestartAsRuled, ByTheList}
 use Rattle.delivered.proofs.Lists.{wrong-unheard, list-unheard, as-chain, same-lengths}
 
 -- an answer that was heard
@@ -143,6 +144,35 @@ module _ (pack store slots list answer : List ℕ) (c : Call) (number : ℕ) (li
                   ∙ list-written (answerOf (s .said))
                   (ap accepted (r .0) ∙ rule-accepted (packOf pack) (stateOf (lentIn store slots list)) c),
             );
+      }
+
+module _ (pack store slots list answer : List ℕ) (c : Call) (number : ℕ) (store′ answer′ : List ℕ)
+    (x : StoreExported pack store slots list answer c number store′ answer′) where
+  pub store-refused-first : StoreRefusedFirst pack store slots list answer c number store′ answer′
+  store-refused-first =
+      record {
+        wrong = λ n e. let w = x .wrong n e in
+            (w .0, ap (λ m. heard m answer′) (w .0) ∙ list-unheard answer slots list n answer′ e, w .1, w .2);
+        says-no = λ b n e. let s = x .served b in
+            let r = s .carried .refused n e in
+            (s .read ∙ ap some (r .0), ap (λ (l : Lent). l .store) (r .1));
+        says-why = λ n e. why n e (listWrong answer slots list) refl;
+      }
+    where
+      why : (n : No) → heard number answer′ ≡ some (refused n) → (o : Option ℕ) → listWrong answer slots list ≡ o →
+          refusalFor pack (lentIn store slots list) c ≡ some n
+      why n e (some m) q =
+          none-some (refused n) (ap (λ k. heard k answer′) (x .wrong m q .0) ∙ list-unheard answer slots list m answer′ q) e
+      why n e none q =
+          let s = x .served q in
+          demand1 pack (lentIn store slots list) c (s .said) (lentIn store′ slots list) (s .carried) .says-why n
+          (same-heard (answerOf (s .said)) (refused n) (sym (s .read) ∙ e))
+
+  pub store-as-ruled : StoreAsRuled pack store slots list answer c number store′ answer′
+  store-as-ruled =
+      record {
+        accepts = λ b e. let s = x .served b in
+            let r = s .carried .carried e in (s .read ∙ ap some (r .0), r .1);
       }
 
 -- restart puts no question

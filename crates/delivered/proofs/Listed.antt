@@ -3,7 +3,7 @@ use mathlib.Core.List.{List, [], _∷_, _++_, List·Memᴰ}
 use mathlib.Core.Logic.{_⊎_, inl, inr}
 use mathlib.Core.Option.{Option, none, some}
 use mathlib.Core.Path.{_≡_, refl, sym, _∙_, ap, subst}
-use Prim.Native.Nat.{ℕ, _≤_}
+use Prim.Native.Nat.{ℕ, _≤_, _<_}
 use native.Mathlib.Omega.{arith}
 use lib.ListN.{length}
 use borrow.Author.Tests.{le-leb, eq-eqb}
@@ -25,8 +25,10 @@ use Rattle.chain.specs.Chain.{Chain, ChainFrom}
 use Rattle.chain.specs.Chain as Chains
 use Rattle.chain.specs.Listed.{doneOf}
 use Rattle.chain.specs.Listed as Meant
-use Rattle.chain.proofs.Listed.{joined}
+use Rattle.chain.specs.Retired.{floorIn}
+use Rattle.chain.proofs.Listed.{joined, adds-none}
 use Rattle.chain.proofs.Listed as Proved
+use Rattle.chain.proofs.Retired.{retiring}
 use Rattle.host.specs.Told.{answerShort, knownNumber, knownWords, ReplyTold}
 use Rattle.host.specs.Exports.{lentIn, listWrong, Restarted}
 use Rattle.delivered.specs.Delivered.{andThen, HostCall, Delivered, DeliveredFrom, from-here, on-from}
@@ -82,6 +84,14 @@ module _ (pack : List ℕ) (P C : ℕ) (before : List Event) (store slots list :
     abbrev Fate : (later : List Event) (store′ slots′ list′ : List ℕ) → Type 0
     Fate later store′ slots′ list′ = IsListed id list′ ⊎ TakenOff pack before store slots list later store′ slots′ list′ id
 
+    -- its reply can be worked out, or it has been retired
+    abbrev Still : (store′ : List ℕ) → Result → Type 0
+    Still store′ v = (workedOut pack store′ id ≡ some v) ⊎ (id < floorIn store′)
+
+    -- each reply to it that the host read is this
+    abbrev EachIs : Result → List Event → Type 0
+    EachIs v calls = (r : Reply) → List·Memᴰ r (repliesOf calls) → r .id ≡ id → r .value ≡ v
+
     -- one call more
     module _ (events : List Event) (store₁ slots₁ list₁ : List ℕ) (c : Call) (said : Option Answer) (store₂ slots₂ list₂ : List ℕ)
         (g : DeliveredFrom pack store slots list events store₁ slots₁ list₁)
@@ -114,7 +124,7 @@ module _ (pack : List ℕ) (P C : ℕ) (before : List Event) (store slots list :
             value = o .value;
             worked-out = ap (λ (l : Lent). workedOut pack (l .store) id) (sym then) ∙ o .worked-out;
             still = o .still;
-            is-reply = replies (andThen c said events) store₂ slots₂ list₂ after id (o .value) (o .still);
+            is-reply = subst (λ s. EachIs (o .value) (andThen c s events ++ before)) (sym e) (o .is-reply);
           })
 
       -- it is listed up to the call
@@ -132,14 +142,35 @@ module _ (pack : List ℕ) (P C : ℕ) (before : List Event) (store slots list :
           go (inl still) = inl still
           go (inr o) = off-now a e o
 
+      -- what could be worked out before the call still can, or it has been retired
+      still-on : (v : Result) → Still store₁ v → Still store₂ v
+      still-on v (inl e) =
+          Proved.none-vanishes pack P C .reading (events ++ before) (lentIn store₁ slots₁ list₁) (both events store₁ slots₁ list₁ g)
+          .still (andThen c said []) (lentIn store₂ slots₂ list₂)
+          (as-chain-from pack store₁ slots₁ list₁ (andThen c said []) store₂ slots₂ list₂ alone) id v e
+      still-on v (inr l) =
+          let up =
+          retiring pack P C .rises (events ++ before) (lentIn store₁ slots₁ list₁) (both events store₁ slots₁ list₁ g) (andThen c said [])
+          (lentIn store₂ slots₂ list₂) (as-chain-from pack store₁ slots₁ list₁ (andThen c said []) store₂ slots₂ list₂ alone) in
+          inr (omega (arith, l, up))
+
+      -- and so it is each reply, since none is given to a retired request
+      each-on : (v : Result) → EachIs v (events ++ before) → Still store₂ v → CameTo pack store₁ slots₁ list₁ c said store₂ slots₂ list₂ →
+          EachIs v (andThen c said events ++ before)
+      unfolding repliesOf
+      each-on v known (inl w) came = replies (andThen c said events) store₂ slots₂ list₂ after id v w
+      each-on v known (inr l) (unread e p q r) = subst (λ s. EachIs v (andThen c s events ++ before)) (sym e) known
+      each-on v known (inr l) (answered a e h p q) =
+          subst (λ s. EachIs v (andThen c s events ++ before)) (sym e)
+          (λ r k i. known r
+          (adds-none pack P C (events ++ before) (lentIn store₁ slots₁ list₁) (both events store₁ slots₁ list₁ g) c a
+          (lentIn store₂ slots₂ list₂) h r k (omega (arith, l, i))) i)
+
       -- it was taken off before the call, or is listed up to it
       onward : Fate events store₁ slots₁ list₁ → Fate (andThen c said events) store₂ slots₂ list₂
       onward (inl k) = listed-yet k (came-to pack store₁ slots₁ list₁ c said store₂ slots₂ list₂ x)
       onward (inr o) =
-          let still =
-          Proved.none-vanishes pack P C .reading (events ++ before) (lentIn store₁ slots₁ list₁) (both events store₁ slots₁ list₁ g)
-          .still (andThen c said []) (lentIn store₂ slots₂ list₂)
-          (as-chain-from pack store₁ slots₁ list₁ (andThen c said []) store₂ slots₂ list₂ alone) id (o .value) (o .still) in
+          let still = still-on (o .value) (o .still) in
           inr
           (record {
             since = andThen c said (o .since);
@@ -156,7 +187,8 @@ module _ (pack : List ℕ) (P C : ℕ) (before : List Event) (store slots list :
             value = o .value;
             worked-out = o .worked-out;
             still = still;
-            is-reply = replies (andThen c said events) store₂ slots₂ list₂ after id (o .value) still;
+            is-reply =
+                each-on (o .value) (o .is-reply) still (came-to pack store₁ slots₁ list₁ c said store₂ slots₂ list₂ x);
           })
 
     fate : (later : List Event) (store′ slots′ list′ : List ℕ) → DeliveredFrom pack store slots list later store′ slots′ list′ →
@@ -221,6 +253,13 @@ module _ (pack : List ℕ) (P C : ℕ) (events : List Event) (store slots list :
     words-are : fields 4 answer′ 0 3 ≡ knownWords id (known none (workedOut pack store id))
     words-are = x .told long-enough .2 ∙ ap (λ o. knownWords id (known o (workedOut pack store id))) no-question
 
+    -- where none can be worked out, none was given: a booked request isn't retired
+    none-given : workedOut pack store id ≡ none → (r : Reply) → r .id ≡ id →
+        (workedOut pack store (r .id) ≡ some (r .value)) ⊎ (r .id < floorIn store) → ⊥
+    none-given e r q (inl w) = none-some (r .value) (ap (workedOut pack store) q ∙ e) w
+    none-given e r q (inr l) =
+        none-some (book .0) (retiring pack P C .never-again events lent (stands .0) id (omega (arith, l, q)) .unbooked) (book .1)
+
     reads : ToldReply pack events store id number answer′ ⊎ ToldNotYet pack events store id number answer′
     reads = go (workedOut pack store id) refl
       where
@@ -241,14 +280,18 @@ module _ (pack : List ℕ) (P C : ℕ) (events : List Event) (store slots list :
               is-not-yet = number-is ∙ ap (λ o. knownNumber (known none o)) e;
               words = words-are ∙ ap (λ o. knownWords id (known none o)) e;
               worked-out = e;
-              no-reply = λ r k q. none-some (r .value) (ap (workedOut pack store) q ∙ e) (reading .replied r k);
+              no-reply = λ r k q. none-given e r q (reading .replied r k);
             })
 
-  again : (r : Reply) → List·Memᴰ r (repliesOf events) → (answer : List ℕ) (number : ℕ) (answer′ : List ℕ) → 12 ≤ length answer →
+  again : (r : Reply) → List·Memᴰ r (repliesOf events) → floorIn store ≤ r .id →
+      (answer : List ℕ) (number : ℕ) (answer′ : List ℕ) → 12 ≤ length answer →
       ReplyTold pack store answer (r .id) number answer′ → ToldReply pack events store (r .id) number answer′
-  again r k answer number answer′ h x =
-      go (reads (r .id) (reading .booked (r .id) (r .value) (reading .replied r k)) answer number answer′ h x)
+  again r k up answer number answer′ h x = go (reads (r .id) (book (reading .replied r k)) answer number answer′ h x)
     where
+      book : (workedOut pack store (r .id) ≡ some (r .value)) ⊎ (r .id < floorIn store) → IsBooked (r .id) store
+      book (inl w) = reading .booked (r .id) (r .value) w
+      book (inr l) = absurd (omega (arith, l, up))
+
       go : ToldReply pack events store (r .id) number answer′ ⊎ ToldNotYet pack events store (r .id) number answer′ →
           ToldReply pack events store (r .id) number answer′
       go (inl t) = t

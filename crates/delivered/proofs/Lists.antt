@@ -35,7 +35,8 @@ use Rattle.worklist.proofs.Bytes.{length-list}
 use Rattle.answers.specs.Answers.{heard, judged, numberOf, slotsAfter, listAfter}
 use Rattle.answers.specs.Answers as Answers
 use Rattle.host.specs.Told.{answerShort, Made}
-use Rattle.host.specs.Exports.{lentIn, buffersWrong, listWrong, Served, Exported, ListServed, ListExported, Restarted, PutInOrder}
+use Rattle.host.specs.Exports.{lentIn, buffersWrong, listWrong, Served, Exported, ListServed, ListExported, StoreExported}
+use Rattle.host.specs.Exports.{Restarted, PutInOrder}
 use Rattle.delivered.specs.Delivered.{andThen, OtherLent, HostCall, Delivered, DeliveredFrom}
 use Rattle.delivered.specs.Delivered as Lists
 
@@ -205,6 +206,25 @@ module _ (pack store slots list : List ℕ) where
       let w = x .wrong (b .0) (b .1) in
       unread (ap (λ m. heard m answer′) (w .0) ∙ list-unheard answer slots₁ list₁ (b .0) answer′ (b .1)) refl refl refl
 
+  store-called : (answer : List ℕ) (c : Call) (number : ℕ) (store′ answer′ : List ℕ) →
+      StoreExported pack store slots list answer c number store′ answer′ →
+      CameTo pack store slots list c (heard number answer′) store′ slots list
+  store-called answer c number store′ answer′ x = go (listWrong answer slots list) refl
+    where
+      go : (o : Option ℕ) → listWrong answer slots list ≡ o → CameTo pack store slots list c (heard number answer′) store′ slots list
+      go (some n) e =
+          let w = x .wrong n e in
+          unread (ap (λ m. heard m answer′) (w .0) ∙ list-unheard answer slots list n answer′ e) (w .1) refl refl
+      go none e = let s = x .served e in answered (s .said) (s .read) (s .carried) refl refl
+
+  store-mislent : (slots₁ list₁ answer : List ℕ) (c : Call) (number : ℕ) (store′ answer′ : List ℕ) → OtherLent slots₁ list₁ →
+      StoreExported pack store slots₁ list₁ answer c number store′ answer′ →
+      CameTo pack store slots list c (heard number answer′) store′ slots list
+  store-mislent slots₁ list₁ answer c number store′ answer′ d x =
+      let b = other-list-wrong answer slots₁ list₁ d in
+      let w = x .wrong (b .0) (b .1) in
+      unread (ap (λ m. heard m answer′) (w .0) ∙ list-unheard answer slots₁ list₁ (b .0) answer′ (b .1)) (w .1) refl refl
+
   restart-called : (answer : List ℕ) (number : ℕ) (slots′ list′ answer′ : List ℕ) →
       Restarted slots list answer number slots′ list′ answer′ →
       CameTo pack store slots list restart (heard number answer′) store slots′ list′
@@ -249,6 +269,8 @@ came-to pack _ _ _ _ _ _ _ _ (Lists.calls store slots list answer c number store
     called pack store slots list answer c number store′ slots′ answer′ x
 came-to pack _ _ _ _ _ _ _ _ (Lists.lists store slots list answer c number list′ answer′ x) =
     list-called pack store slots list answer c number list′ answer′ x
+came-to pack _ _ _ _ _ _ _ _ (Lists.stores store slots list answer c number store′ answer′ x) =
+    store-called pack store slots list answer c number store′ answer′ x
 came-to pack _ _ _ _ _ _ _ _ (Lists.restarts store slots list answer number slots′ list′ answer′ x) =
     restart-called pack store slots list answer number slots′ list′ answer′ x
 came-to pack _ _ _ _ _ _ _ _ (Lists.orders store slots list answer number store′ answer′ x) =
@@ -257,6 +279,8 @@ came-to pack _ _ _ _ _ _ _ _ (Lists.mislends store slots list other answer c num
     mislent pack store slots list other answer c number store′ other′ answer′ d x
 came-to pack _ _ _ _ _ _ _ _ (Lists.mislists store slots list slots₁ list₁ answer c number list₂ answer′ d x) =
     list-mislent pack store slots list slots₁ list₁ answer c number list₂ answer′ d x
+came-to pack _ _ _ _ _ _ _ _ (Lists.misstores store slots list slots₁ list₁ answer c number store′ answer′ d x) =
+    store-mislent pack store slots list slots₁ list₁ answer c number store′ answer′ d x
 came-to pack _ _ _ _ _ _ _ _ (Lists.misrestarts store slots list slots₁ list₁ answer number slots₂ list₂ answer′ d x) =
     restart-mislent pack store slots list slots₁ list₁ answer number slots₂ list₂ answer′ d x
 

@@ -7,7 +7,6 @@ use Prim.Native.Nat.{ℕ, _*_, _<_}
 use native.Mathlib.Omega.{arith}
 use Rattle.words.specs.Words.{fields}
 use Rattle.questions.specs.Questions.{No, number, ask, orElse}
-use Rattle.questions.specs.Questions as Questions
 use Rattle.questions.proofs.Tests.{yes-no}
 use Rattle.questions.proofs.Each.{each-at}
 use Rattle.pack.specs.Refusal.{packRefusal}
@@ -70,6 +69,7 @@ module _ (pack store slots : List ℕ) (l : Worklist) (i : ℕ) (h : i < 8) (no-
         adds = λ id. unfold Meaning.refusalFor in unfold Meaning.lentFor in first _;
         takes = unfold Meaning.refusalFor in unfold Meaning.lentFor in first _;
         dones = λ id. unfold Meaning.refusalFor in unfold Meaning.lentFor in first _;
+        retires = λ floor. unfold Meaning.refusalFor in unfold Meaning.lentFor in first _;
       }
 
 pub malformed-refused : MalformedRefused

@@ -5,5 +5,5 @@ use Rattle.delivered.specs.NothingLost.{HostLosesNothing}
 use Rattle.delivered.proofs.Lists.{as-chain}
 
 pub host-loses-nothing : HostLosesNothing
-host-loses-nothing pack P C only events store slots list d bytes =
-    nothing-lost pack P C only events (lentIn store slots list) (as-chain pack P C events store slots list d .0) bytes
+host-loses-nothing pack P C only events store slots list d words =
+    nothing-lost pack P C only events (lentIn store slots list) (as-chain pack P C events store slots list d .0) words

@@ -9,7 +9,7 @@ use Rattle.rules.specs.Calls.{Call, Answer, restart, order}
 use Rattle.rules.specs.Plain.{Event}
 use Rattle.answers.specs.Answers.{heard}
 use Rattle.host.specs.Told.{Made}
-use Rattle.host.specs.Exports.{Exported, ListExported, Restarted, PutInOrder}
+use Rattle.host.specs.Exports.{Exported, ListExported, StoreExported, Restarted, PutInOrder}
 
 -- the calls with one more, if the host read an answer to it; a wrong buffer, 100 to 102, is none
 abbrev pub andThen : Call → Option Answer → List Event → List Event
@@ -31,6 +31,10 @@ pub data HostCall (pack : List ℕ) : (store slots list : List ℕ) → Call →
   lists : (store slots list answer : List ℕ) (c : Call) (number : ℕ) (list′ answer′ : List ℕ) →
       ListExported pack store slots list answer c number list′ answer′ →
       HostCall pack store slots list c (heard number answer′) store slots list′
+  -- so is one that reads slots and worklist and works on the store
+  stores : (store slots list answer : List ℕ) (c : Call) (number : ℕ) (store′ answer′ : List ℕ) →
+      StoreExported pack store slots list answer c number store′ answer′ →
+      HostCall pack store slots list c (heard number answer′) store′ slots list
   -- so is restart
   restarts : (store slots list answer : List ℕ) (number : ℕ) (slots′ list′ answer′ : List ℕ) →
       Restarted slots list answer number slots′ list′ answer′ →
@@ -46,6 +50,10 @@ pub data HostCall (pack : List ℕ) : (store slots list : List ℕ) → Call →
   mislists : (store slots list slots₁ list₁ answer : List ℕ) (c : Call) (number : ℕ) (list₂ answer′ : List ℕ) →
       OtherLent slots₁ list₁ → ListExported pack store slots₁ list₁ answer c number list₂ answer′ →
       HostCall pack store slots list c (heard number answer′) store slots list
+  -- so is one that reads them and works on the store
+  misstores : (store slots list slots₁ list₁ answer : List ℕ) (c : Call) (number : ℕ) (store′ answer′ : List ℕ) →
+      OtherLent slots₁ list₁ → StoreExported pack store slots₁ list₁ answer c number store′ answer′ →
+      HostCall pack store slots list c (heard number answer′) store′ slots list
   -- so is restart
   misrestarts : (store slots list slots₁ list₁ answer : List ℕ) (number : ℕ) (slots₂ list₂ answer′ : List ℕ) →
       OtherLent slots₁ list₁ → Restarted slots₁ list₁ answer number slots₂ list₂ answer′ →

@@ -61,6 +61,20 @@ pub record ListAsRuled (pack store slots list answer : List ℕ) (c : Call) (num
       × Left (lentIn store slots list) (lentIn store slots list′) (rule (packOf pack) (stateOf (lentIn store slots list)) c .state)
       × (list′ ≡ withList list (listIn list′))
 
+-- Demand 1 of retire, which reads slots and worklist and writes to the store alone: no byte of it is changed.
+pub record StoreRefusedFirst (pack store slots list answer : List ℕ) (c : Call) (number : ℕ) (store′ answer′ : List ℕ) : Type 0 where
+  pub wrong : (n : ℕ) → listWrong answer slots list ≡ some n →
+      (number ≡ n) × (heard number answer′ ≡ none) × (store′ ≡ store) × (answer′ ≡ answer)
+  pub says-no : listWrong answer slots list ≡ none → (n : No) → refusalFor pack (lentIn store slots list) c ≡ some n →
+      (heard number answer′ ≡ some (refused n)) × (store′ ≡ store)
+  pub says-why : (n : No) → heard number answer′ ≡ some (refused n) → refusalFor pack (lentIn store slots list) c ≡ some n
+
+-- Demand 2 of it: the store has the rule's rows, byte for byte.
+pub record StoreAsRuled (pack store slots list answer : List ℕ) (c : Call) (number : ℕ) (store′ answer′ : List ℕ) : Type 0 where
+  pub accepts : listWrong answer slots list ≡ none → refusalFor pack (lentIn store slots list) c ≡ none →
+      (heard number answer′ ≡ some (rule (packOf pack) (stateOf (lentIn store slots list)) c .answer))
+      × Left (lentIn store slots list) (lentIn store′ slots list) (rule (packOf pack) (stateOf (lentIn store slots list)) c .state)
+
 -- Demands 1 and 2 of restart, which gets slots and worklist: a wrong buffer first; otherwise it is never refused, and leaves what the rule
 -- leaves, with any pack and any store.
 pub record RestartAsRuled (slots list answer : List ℕ) (number : ℕ) (slots′ list′ answer′ : List ℕ) : Type 0 where

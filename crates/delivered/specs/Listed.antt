@@ -5,7 +5,7 @@ use mathlib.Core.List.{List, [], _∷_, _++_, List·Memᴰ}
 use mathlib.Core.Logic.{_⊎_}
 use mathlib.Core.Option.{none, some}
 use mathlib.Core.Path.{_≡_}
-use Prim.Native.Nat.{ℕ, _≤_}
+use Prim.Native.Nat.{ℕ, _≤_, _<_}
 use lib.ListN.{length}
 use Rattle.words.specs.Words.{fields}
 use Rattle.contents.specs.Contents.{contentsOf}
@@ -18,6 +18,7 @@ use Rattle.worklist.specs.Worklist.{worklistOf}
 use Rattle.worklist.specs.Bytes.{listIn}
 use Rattle.meaning.specs.State.{workedOut}
 use Rattle.chain.specs.Listed.{doneOf}
+use Rattle.chain.specs.Retired.{floorIn}
 use Rattle.host.specs.Told.{ReplyTold}
 use Rattle.host.specs.Exports.{Restarted}
 use Rattle.delivered.specs.Delivered.{Delivered, DeliveredFrom}
@@ -48,8 +49,8 @@ pub record TakenOff (pack : List ℕ) (before : List Event) (store slots list : 
   -- its reply could then be worked out from the log
   pub value : Result
   pub worked-out : workedOut pack store-then id ≡ some value
-  -- it still can
-  pub still : workedOut pack store′ id ≡ some value
+  -- it still can, or the request has been retired since (W-209)
+  pub still : (workedOut pack store′ id ≡ some value) ⊎ (id < floorIn store′)
   -- and it is each reply to it that the host ever read
   pub is-reply : (r : Reply) → List·Memᴰ r (repliesOf (later ++ before)) → r .id ≡ id → r .value ≡ value
 
@@ -95,12 +96,14 @@ pub record Reading (pack : List ℕ) (events : List Event) (store slots list : L
   pub told : (id : ℕ) → IsBooked id store → (answer : List ℕ) (number : ℕ) (answer′ : List ℕ) → 12 ≤ length answer →
       ReplyTold pack store answer id number answer′ →
       ToldReply pack events store id number answer′ ⊎ ToldNotYet pack events store id number answer′
-  -- a reply that the host read is told again, to a terminal that comes back late
-  pub again : (r : Reply) → List·Memᴰ r (repliesOf events) → (answer : List ℕ) (number : ℕ) (answer′ : List ℕ) → 12 ≤ length answer →
+  -- a reply that the host read is told again, to a terminal that comes back late, as long as the request isn't retired
+  pub again : (r : Reply) → List·Memᴰ r (repliesOf events) → floorIn store ≤ r .id →
+      (answer : List ℕ) (number : ℕ) (answer′ : List ℕ) → 12 ≤ length answer →
       ReplyTold pack store answer (r .id) number answer′ → ToldReply pack events store (r .id) number answer′
-  -- what can be worked out from the log still can after any later calls
+  -- what can be worked out from the log still can after any later calls, unless the request has been retired by then (W-209)
   pub still : (later : List Event) (store′ slots′ list′ : List ℕ) → DeliveredFrom pack store slots list later store′ slots′ list′ →
-      (id : ℕ) (value : Result) → workedOut pack store id ≡ some value → workedOut pack store′ id ≡ some value
+      (id : ℕ) (value : Result) → workedOut pack store id ≡ some value →
+      (workedOut pack store′ id ≡ some value) ⊎ (id < floorIn store′)
 
 -- W-208's sentence, for any pack, any P and C, and any list of exported calls.
 pub record HostLosesNoRequest (pack : List ℕ) (P C : ℕ) : Type 0 where

@@ -6,7 +6,7 @@ use mathlib.Core.Path.{_≡_}
 use Prim.Native.Nat.{ℕ, _*_, _<_}
 use Rattle.words.specs.Words.{fields}
 use Rattle.questions.specs.Questions.{No, number, ask, orElse}
-use Rattle.rules.specs.Calls.{arrival, retry, turn, crash, listAdd, listTake, listDone}
+use Rattle.rules.specs.Calls.{arrival, retry, turn, crash, listAdd, listTake, listDone, retire}
 use Rattle.pack.specs.Refusal.{packRefusal}
 use Rattle.store.specs.Questions.{storeRefusal}
 use Rattle.meaning.specs.Questions.{question13, question14, refusalFor}
@@ -34,6 +34,7 @@ pub record Malformed (pack store slots : List ℕ) (l : Worklist) : Type 0 where
   pub adds : (id : ℕ) → refusalFor pack (lentWith store slots l) (listAdd id) ≡ orElse14 pack store
   pub takes : refusalFor pack (lentWith store slots l) listTake ≡ orElse14 pack store
   pub dones : (id : ℕ) → refusalFor pack (lentWith store slots l) (listDone id) ≡ orElse14 pack store
+  pub retires : (floor : ℕ) → refusalFor pack (lentWith store slots l) (retire floor) ≡ orElse14 pack store
 
 -- That is so wherever the bytes of one of the eight slots are no record.
 abbrev pub MalformedRefused : Type 0

@@ -5,8 +5,7 @@ use Prim.Native.Nat.{ℕ}
 use Rattle.rules.specs.Move.{MOVE}
 use Rattle.rules.specs.Plain.{Event}
 use Rattle.pack.specs.Meaning.{packOf}
-use Rattle.store.specs.Layout.{AllBytes}
-use Rattle.chain.specs.NothingLost.{AddsUp}
+use Rattle.chain.specs.NothingLost.{AllWords, AddsUp}
 use Rattle.delivered.specs.Delivered.{Delivered}
 
 -- For a pack whose only workflow is MOVE, what an accepted create leaves, slots and worklist of zero bytes, and exported calls in any
@@ -14,4 +13,4 @@ use Rattle.delivered.specs.Delivered.{Delivered}
 abbrev pub HostLosesNothing : Type 0
 HostLosesNothing =
     (pack : List ℕ) (P C : ℕ) → packOf pack ≡ MOVE ∷ [] →
-    (events : List Event) (store slots list : List ℕ) → Delivered pack P C events store slots list → AllBytes store → AddsUp store
+    (events : List Event) (store slots list : List ℕ) → Delivered pack P C events store slots list → AllWords events → AddsUp store

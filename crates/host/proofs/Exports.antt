@@ -30,7 +30,8 @@ use Rattle.answers.specs.Answers as Answers
 use Rattle.agents.specs.declared.Answer.{Answer}
 use Rattle.store.specs.Ordered.{InOrder}
 use Rattle.host.specs.Told.{answerShort}
-use Rattle.host.specs.Exports.{buffersWrong, listWrong, lentWith, lentIn, Exported, ListExported, Restarted, PutInOrder}
+use Rattle.host.specs.Exports.{buffersWrong, listWrong, lentWith, lentIn}
+use Rattle.host.specs.Exports.{Exported, ListExported, StoreExported, Restarted, PutInOrder}
 use Rattle.host.proofs.Told.{same, missing}
 
 -- every no that a call can be refused with names a place, so that its words have it whole
@@ -196,6 +197,36 @@ module _ (pack store slots list answer : List ℕ) (c : Call) where
             (subst (λ (x : Worklist). Carried pack (lentWith store slots x) c said (lentWith store slots left)) i
             (subst (λ (rs : List Agent). Carried pack (record { store = store; records = rs; list = l }) c said
             (record { store = store; records = rs; list = left })) r p))
+
+-- ---- retire
+
+module _ (pack store slots list answer : List ℕ) (c : Call) where
+  pub store-wrong : (n : ℕ) → listWrong answer slots list ≡ some n → StoreExported pack store slots list answer c n store answer
+  store-wrong n e =
+      record { wrong = λ m q. (same (sym e ∙ q), refl, refl); served = λ q. absurd (missing (sym q ∙ e)) }
+
+  pub store-exported : (records : List Agent) (l : Worklist) (said : Answer) (store′ answer′ : List ℕ) (number : ℕ) →
+      listWrong answer slots list ≡ none → records ≡ slotsIn slots → l ≡ listIn list →
+      Carried pack (record { store = store; records = records; list = l }) c said
+      (record { store = store′; records = records; list = l }) →
+      FromHost c →
+      ((number ≡ numberOf (answerOf said)) × (answer′ ≡ withWords answer (valuesOf (answerOf said))))
+      × (PlaceFits (answerOf said) → heard number answer′ ≡ some (answerOf said)) →
+      StoreExported pack store slots list answer c number store′ answer′
+  store-exported records l said store′ answer′ number e r i p m w =
+      record {
+        wrong = λ n q. absurd (missing (sym e ∙ q));
+        served = λ q. record {
+          said = said;
+          carried =
+              subst (λ (x : Worklist). Carried pack (lentWith store slots x) c said (lentWith store′ slots x)) i
+              (subst (λ (rs : List Agent). Carried pack (record { store = store; records = rs; list = l }) c said
+              (record { store = store′; records = rs; list = l })) r p);
+          given = w .0 .0;
+          words = w .0 .1;
+          read = w .1 (answer-placed pack _ c said _ m p);
+        };
+      }
 
 -- ---- restart
 

@@ -73,6 +73,20 @@ pub record ListExported (pack store slots list answer : List ℕ) (c : Call) (nu
   pub wrong : (n : ℕ) → listWrong answer slots list ≡ some n → (number ≡ n) × (list′ ≡ list) × (answer′ ≡ answer)
   pub served : listWrong answer slots list ≡ none → ListServed pack store slots list answer c number list′ answer′
 
+-- A call was put to the library, on what the bytes of slots and list mean, and writes to neither: the store is the one that it left, and
+-- the number and the words are those of its answer.
+pub record StoreServed (pack store slots list answer : List ℕ) (c : Call) (number : ℕ) (store′ answer′ : List ℕ) : Type 0 where
+  pub said : Answer
+  pub carried : Carried pack (lentIn store slots list) c said (lentIn store′ slots list)
+  pub given : number ≡ numberOf (answerOf said)
+  pub words : answer′ ≡ withWords answer (valuesOf (answerOf said))
+  pub read : heard number answer′ ≡ some (answerOf said)
+
+-- Retire: a wrong buffer gives the library's own number, and nothing is changed; otherwise the call is served.
+pub record StoreExported (pack store slots list answer : List ℕ) (c : Call) (number : ℕ) (store′ answer′ : List ℕ) : Type 0 where
+  pub wrong : (n : ℕ) → listWrong answer slots list ≡ some n → (number ≡ n) × (store′ ≡ store) × (answer′ ≡ answer)
+  pub served : listWrong answer slots list ≡ none → StoreServed pack store slots list answer c number store′ answer′
+
 -- Restart, which gets slots and list: a wrong buffer gives the library's own number, and nothing is changed; otherwise it is carried out,
 -- with any pack and any store, and answers done.
 pub record Restarted (slots list answer : List ℕ) (number : ℕ) (slots′ list′ answer′ : List ℕ) : Type 0 where

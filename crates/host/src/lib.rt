@@ -5,7 +5,7 @@ ghost use Rattle.rules.specs.Calls.{Call};
 ghost use Rattle.pack.specs.Refusal.{packRefusal, openRefusal};
 ghost use Rattle.answers.specs.Answers.{valuesOf, judged};
 ghost use Rattle.host.specs.Told.{openedWords, Told, FiguresTold, ReplyTold, Made};
-ghost use Rattle.host.specs.Exports.{Exported, ListExported, Restarted, PutInOrder};
+ghost use Rattle.host.specs.Exports.{Exported, ListExported, StoreExported, Restarted, PutInOrder};
 use agents::Answer;
 use agents::Request;
 use questions::Verdict;
@@ -314,6 +314,33 @@ pub extern "C" fn sarthule_done(
     let said = o.answer;
     let left = o.list;
     answers::finish_list(list, answer, said, left)
+}
+
+// Retire removes the book and log rows of every id below the floor.
+#[no_mangle]
+pub extern "C" fn sarthule_retire(
+    pack: &[u8],
+    store: &mut [u8],
+    slots: &[u8],
+    list: &[u8],
+    floor: u32,
+    answer: &mut [u8],
+) -> u32
+    ensures { λ r. ⌜ StoreExported (now (pack .entry)) (now (store .entry)) (now (slots .entry)) (now (list .entry)) (now (answer .entry))
+        (Call.retire floor) r (now (store .exit)) (now (answer .exit)) ⌝ }
+{
+    if answer.len() < 12 {
+        return 100;
+    }
+    if slots.len() != 384 {
+        return 101;
+    }
+    if list.len() < 132 {
+        return 102;
+    }
+    let agents = slots::read_slots(slots);
+    let a = runtime::retire(pack, store, agents, worklist::read_list(list), floor);
+    answers::write_answer(answer, a)
 }
 
 // The reply of a booked request, worked out from the log, or that the log doesn't lead to it yet.

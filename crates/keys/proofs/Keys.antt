@@ -2,15 +2,15 @@
 -- table, and a log row put one of the log and none of the table.
 use mathlib.Core.Bool.{Bool, true, false}
 use mathlib.Core.Path.{_≡_, refl, sym, _∙_, ap}
-use mathlib.Core.Logic.{_⊎_, inl, inr}
+use mathlib.Core.Logic.{_⊎_, inl, inr, ⊎-elim}
 use mathlib.Core.Option.{Option, none, some}
 use Prim.Native.Nat.{ℕ, _+_, _%_, _^_, _≤_, _<_}
 use native.Mathlib.Omega.{arith}
-use borrow.Author.Tests.{lt-ltb, le-leb, lt-leb, leb-true, ltb-true, le-ltb, eq-eqb}
+use borrow.Author.Tests.{lt-ltb, le-leb, lt-leb, leb-true, ltb-true, le-ltb, eq-eqb, ne-eqb, eqb-true}
 use lib.Dec.{eqb, ltb, leb, ltb→lt, lt→ltb, nltb→le}
 use Rattle.questions.specs.Basics.{if_then_else_, update}
 use Rattle.keys.specs.Keys.{dataKey, isDataKey, dataOf, logKey, isLogKey, idOf, stepOf, isForm, tableOf, logOf}
-use Rattle.keys.specs.Keys.{bookKey, isBookKey, bookedId, bookRow, isWorkflowKey}
+use Rattle.keys.specs.Keys.{bookKey, isBookKey, bookedId, bookRow, isWorkflowKey, floorKey, isFloorKey}
 use Rattle.questions.proofs.Tests.{and-left, and-right, no-yes}
 use Rattle.questions.proofs.Updates.{eqb-cases, T-true, true-T, update-same, update-other}
 
@@ -32,6 +32,10 @@ pub workflow-is : (id : ℕ) → id < 2 ^ 32 → isWorkflowKey (bookKey id 0) �
 unfolding isWorkflowKey
 workflow-is id h = rw (book-is id 0 h (omega arith), eq-eqb (bookRow (bookKey id 0)) 0 (omega arith)) refl
 
+pub floor-is : isFloorKey floorKey ≡ true
+unfolding isFloorKey
+floor-is = eq-eqb floorKey floorKey refl
+
 -- ── And is within its bounds ──
 
 pub data-bounds : (k : ℕ) → isDataKey k ≡ true → (2 ^ 63 ≤ k) × (k < 2 ^ 63 + 2 ^ 32)
@@ -46,18 +50,58 @@ pub book-bounds : (k : ℕ) → isBookKey k ≡ true → (k < 2 ^ 35) × (k % 8 
 unfolding isBookKey
 book-bounds k e = (ltb-true k (2 ^ 35) (and-left (ltb k (2 ^ 35)) _ e), leb-true (k % 8) 4 (and-right (ltb k (2 ^ 35)) _ e))
 
+pub floor-bounds : (k : ℕ) → isFloorKey k ≡ true → k ≡ floorKey
+unfolding isFloorKey
+floor-bounds k e = eqb-true k floorKey e
+
+-- a key of the book's forms is a book key or the floor's
+pub form-book : (k : ℕ) → isForm true k ≡ true → (isBookKey k ≡ true) ⊎ (k ≡ floorKey)
+unfolding isForm
+form-book k e = go (isBookKey k) refl
+  where
+    go : (t : Bool) → isBookKey k ≡ t → (isBookKey k ≡ true) ⊎ (k ≡ floorKey)
+    go true b = inl b
+    go false b = inr (floor-bounds k (rw b at e))
+
+-- so none of them is greater than the floor's
+pub form-floor : (k : ℕ) → isForm true k ≡ true → k ≤ floorKey
+form-floor k e = ⊎-elim (λ b. omega (arith, book-bounds k b)) (λ f. omega (arith, f)) (form-book k e)
+
 -- every key of a form lies below this, so that there is one above it
 abbrev pub keyBound : ℕ
 keyBound = dataKey (2 ^ 32)
 
 pub form-bound : (b : Bool) (k : ℕ) → isForm b k ≡ true → k < keyBound
 unfolding isForm
-form-bound true k e = omega (arith, book-bounds k e)
+form-bound true k e = omega (arith, form-floor k e)
 form-bound false k e = go (isDataKey k) refl
   where
     go : (t : Bool) → isDataKey k ≡ t → k < keyBound
     go true d = data-bounds k d .1
     go false d = omega (arith, log-bounds k (rw d at e))
+
+-- ── The floor's key and book keys never meet ──
+
+pub book-no-floor : (k : ℕ) → isBookKey k ≡ true → isFloorKey k ≡ false
+unfolding isFloorKey
+book-no-floor k e = ne-eqb k floorKey (λ q. omega (arith, book-bounds k e .0))
+
+pub floor-no-book : isBookKey floorKey ≡ false
+unfolding isBookKey
+floor-no-book = rw (le-ltb floorKey (2 ^ 35) (omega arith)) refl
+
+-- nor does a row of a request have it
+pub key-no-floor : (id j : ℕ) → id < 2 ^ 32 → j ≤ 4 → isFloorKey (bookKey id j) ≡ false
+key-no-floor id j h g = book-no-floor (bookKey id j) (book-is id j h g)
+
+-- the floor's key is of a form of the book, and so is a book key
+pub floor-form : isForm true floorKey ≡ true
+unfolding isForm
+floor-form = rw (floor-no-book, floor-is) refl
+
+pub book-key-form : (k : ℕ) → isBookKey k ≡ true → isForm true k ≡ true
+unfolding isForm
+book-key-form k e = rw e refl
 
 -- ── What is taken apart is put together again ──
 
@@ -97,12 +141,12 @@ no-data k h = rw (lt-leb (dataKey 0) k h) refl
 -- and a key of a form is of that kind (the book's keys lie within those of log rows)
 pub form-log : (b : Bool) (k : ℕ) → isForm b k ≡ true → k < dataKey 0 → isLogKey k ≡ true
 unfolding isForm
-form-log true k f h = unfold isLogKey in lt-ltb k (2 ^ 48) (omega (arith, book-bounds k f .0))
+form-log true k f h = unfold isLogKey in lt-ltb k (2 ^ 48) (omega (arith, form-floor k f))
 form-log false k f h = rw (no-data k h) at f
 
 pub form-data : (b : Bool) (k : ℕ) → isForm b k ≡ true → dataKey 0 ≤ k → isDataKey k ≡ true
 unfolding isForm
-form-data true k f h = absurd (omega (arith, book-bounds k f .0))
+form-data true k f h = absurd (omega (arith, form-floor k f))
 form-data false k f h = go (isDataKey k) refl
   where
     go : (d : Bool) → isDataKey k ≡ d → isDataKey k ≡ true

@@ -1,7 +1,7 @@
 -- The keys of rows as they are stored: each form is made, recognised and taken apart here, and nowhere else. And what rows seen by their
 -- stored keys stand for.
 use mathlib.Core.Bool.{Bool, _&&_, _||_}
-use mathlib.Core.Option.{Option, none}
+use mathlib.Core.Option.{Option, none, Option·getD}
 use Prim.Native.Nat.{ℕ, _+_, _-_, _*_, _/_, _%_, _^_}
 use lib.Dec.{eqb, ltb, leb}
 use mathlib.Core.List.{List, [], _∷_}
@@ -64,11 +64,18 @@ bookKeys id = bookKey id 0 ∷ bookKey id 1 ∷ bookKey id 2 ∷ bookKey id 3 �
 abbrev pub lastOfFive : (first : ℕ) → ℕ
 lastOfFive first = first + 4
 
+-- The floor is kept as one extra book row with key 2^40 (W-209).
+abbrev pub floorKey : ℕ
+floorKey = 2 ^ 40
+
+unfoldable pub isFloorKey : (stored : ℕ) → Bool
+isFloorKey stored = eqb stored floorKey
+
 -- ── The forms of a partition ──
 
--- Is it a key of a form of its partition? The book has book keys, each other partition data keys and log keys.
+-- Is it a key of a form of its partition? The book has book keys and the floor's, each other partition data keys and log keys.
 unfoldable pub isForm : (book : Bool) → (stored : ℕ) → Bool
-isForm book stored = if book then isBookKey stored else (isDataKey stored || isLogKey stored)
+isForm book stored = if book then (isBookKey stored || isFloorKey stored) else (isDataKey stored || isLogKey stored)
 
 -- ── What rows stand for ──
 
@@ -79,3 +86,7 @@ tableOf f key = if ltb key (2 ^ 32) then f (dataKey key) else none
 -- The log: the result of a step of a request, if it is logged. Past 32 and 16 bits there is none: two pairs would share a key.
 abbrev pub logOf : ((stored : ℕ) → Option ℕ) → (id step : ℕ) → Option ℕ
 logOf f id step = if ltb id (2 ^ 32) then (if ltb step 65536 then f (logKey id step) else none) else none
+
+-- The floor of a book: the value of the floor row, or 0 if it has none.
+abbrev pub floorAt : ((stored : ℕ) → Option ℕ) → ℕ
+floorAt f = Option·getD (f floorKey) 0

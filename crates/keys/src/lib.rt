@@ -3,7 +3,7 @@ ghost use mathlib.Core.Bool.{true};
 ghost use mathlib.Core.Path.{_≡_};
 ghost use Prim.Native.Nat.{_^_, _≤_, _<_};
 ghost use Rattle.keys.specs.Keys.{dataKey, isDataKey, dataOf, logKey, isLogKey, idOf, stepOf, isForm};
-ghost use Rattle.keys.specs.Keys.{bookKey, isBookKey, bookedId, bookRow, bookKeys, isWorkflowKey, lastOfFive};
+ghost use Rattle.keys.specs.Keys.{bookKey, isBookKey, bookedId, bookRow, bookKeys, isWorkflowKey, lastOfFive, floorKey, isFloorKey};
 
 // The stored key of a data key.
 pub fn data_key(key: u32) -> u64
@@ -84,6 +84,13 @@ fn is_book(stored: u64) -> bool
     false
 }
 
+// The id that a row of the book is of.
+pub fn booked_id(stored: u64) -> u64
+    ensures { λ r. ⌜ r ≡ bookedId stored ⌝ }
+{
+    stored / 8
+}
+
 // Which of a request's five rows a book row is.
 pub fn book_row(stored: u64) -> u64
     ensures { λ r. ⌜ (r ≡ bookRow stored) × (r < 8) ⌝ }
@@ -117,12 +124,29 @@ pub fn last_of_five(first: u64) -> u64
     first + 4
 }
 
+// The stored key of the floor.
+pub fn floor_key() -> u64
+    ensures { λ r. ⌜ r ≡ floorKey ⌝ }
+{
+    1_099_511_627_776
+}
+
+// Is it the key of the floor?
+pub fn is_floor(stored: u64) -> bool
+    ensures { λ r. ⌜ r ≡ isFloorKey stored ⌝ }
+{
+    stored == 1_099_511_627_776
+}
+
 // Is it a key of a form of the book, or of another partition?
 pub fn of_form(book: bool, stored: u64) -> bool
     ensures { λ r. ⌜ r ≡ isForm book stored ⌝ }
 {
     if book {
-        return is_book(stored);
+        if is_book(stored) {
+            return true;
+        }
+        return is_floor(stored);
     }
     if is_data(stored) {
         return true;

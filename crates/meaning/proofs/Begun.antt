@@ -6,14 +6,16 @@ use mathlib.Core.Option.{Option, none, some}
 use mathlib.Core.Path.{_≡_, refl}
 use Prim.Native.Nat.{ℕ, _≤_, _<_}
 use borrow.Author.Tests.{lt-ltb, le-ltb, ltb-true}
-use lib.Dec.{eqb, ltb}
+use lib.Dec.{eqb, ltb, leb}
 use lib.ListN.{length}
-use Rattle.questions.specs.Basics.{isSome}
+use Rattle.questions.specs.Basics.{isSome, each}
 use Rattle.questions.specs.Questions.{No, number, ask, orElse}
 use Rattle.questions.specs.Questions as Questions
 use Rattle.questions.proofs.Questions.{ask-none, orElse-none}
 use Rattle.questions.proofs.Updates.{none-some}
+use Rattle.rules.specs.Store.{floorOf, bookedBelow}
 use Rattle.rules.specs.Calls.{arrival, retry, turn, crash, asBooked, canBook, canTurn, listAdd, listTake, listDone, canDone}
+use Rattle.rules.specs.Calls.{retire, canRetire}
 use Rattle.rules.specs.Worklist.{Worklist, listRight, canList, firstWaiting}
 use Rattle.rules.specs.Calls as Calls
 use Rattle.pack.specs.Meaning.{packOf}
@@ -110,6 +112,12 @@ module _ (pack : List ℕ) (lent : Lent) where
     unfolding listRefusal refusalFor lentFor Calls.refusal stateOf
     done-left id = first-left _ _ _ _ e
 
+    pub retire-left : (floor : ℕ) → refusalFor pack lent (retire floor)
+        ≡ ask (number 28) (each floor (λ id. canRetire (packOf pack) (stateOf lent) id (stateOf lent .store .book id)))
+        (ask (number 29) (ltb 0 (bookedBelow (stateOf lent .store) floor)) none)
+    unfolding listRefusal refusalFor lentFor Calls.refusal stateOf
+    retire-left floor = first-left _ _ _ _ e
+
   -- a no among them is the call's
   module _ (n : No) (e : listRefusal pack lent ≡ some n) where
     pub add-stops : (id : ℕ) → refusalFor pack lent (listAdd id) ≡ some n
@@ -123,6 +131,10 @@ module _ (pack : List ℕ) (lent : Lent) where
     pub done-stops : (id : ℕ) → refusalFor pack lent (listDone id) ≡ some n
     unfolding listRefusal refusalFor lentFor Calls.refusal stateOf
     done-stops id = same-first _ _ _ _ n e
+
+    pub retire-stops : (floor : ℕ) → refusalFor pack lent (retire floor) ≡ some n
+    unfolding listRefusal refusalFor lentFor Calls.refusal stateOf
+    retire-stops floor = same-first _ _ _ _ n e
 
 module _ (pack : List ℕ) (lent : Lent) (slot : ℕ) where
   -- ── the first no of the sixteen ──
@@ -227,8 +239,9 @@ module _ (pack : List ℕ) (lent : Lent) (slot : ℕ) where
   pub arrival-left : (id w : ℕ) (args : List ℕ) → firstSixteen pack lent slot false ≡ none →
       refusalFor pack lent (arrival slot id w args)
       ≡ ask (number 24) (not (eqb id 0))
+      (ask (number 30) (leb (floorOf (contentsOf (storeOf (lent .store)))) id)
       (ask (number 17) (ltb w (length (packOf pack)))
       (ask (number 18) (asBooked (record { workflow = w; arguments = args }) (contentsOf (storeOf (lent .store)) .book id))
-      (ask (number 19) (canBook (contentsOf (storeOf (lent .store))) (contentsOf (storeOf (lent .store)) .book id)) none)))
+      (ask (number 19) (canBook (contentsOf (storeOf (lent .store))) (contentsOf (storeOf (lent .store)) .book id)) none))))
   unfolding firstSixteen refusalFor lentFor Calls.refusal stateOf
   arrival-left id w args e = rest-left _ _ _ _ _ _ e

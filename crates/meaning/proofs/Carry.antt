@@ -183,6 +183,17 @@ module _ (pack : List ℕ) (lent : Lent) (c : Call) (answer : Answer) (list′ :
       (subst (Left lent (record { store = lent .store; records = lent .records; list = list′ })) (ap (λ (x : Outcome). x .state) (sym q))
       (record { written = wrote-nothing (lent .store); slots = refl; whole = inr refl; list = k }))
 
+-- retire: the store alone is another
+module _ (pack : List ℕ) (lent : Lent) (c : Call) (answer : Answer) (store′ : List ℕ) (st : Rules.Store) (a : Calls.Answer) where
+  pub is-stored : refusalFor pack lent c ≡ none → ruled pack lent c ≡ gives a (withStore (stateOf lent) st) → answerOf answer ≡ a →
+      Wrote (lent .store) store′ st → Carried pack lent c answer (record { store = store′; records = lent .records; list = lent .list })
+  unfolding stateOf
+  is-stored e q u w =
+      carried-out pack lent c answer (record { store = store′; records = lent .records; list = lent .list }) e
+      (u ∙ ap (λ (x : Outcome). x .answer) (sym q))
+      (subst (Left lent (record { store = store′; records = lent .records; list = lent .list })) (ap (λ (x : Outcome). x .state) (sym q))
+      (record { written = w; slots = refl; whole = inr refl; list = kept-same (lent .list) }))
+
 -- order
 module _ (pack : List ℕ) (lent : Lent) (store′ : List ℕ) (r : Verdict) (o : Ordered (lent .store) store′ r) where
   abbrev left : Lent

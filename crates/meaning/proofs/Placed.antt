@@ -6,7 +6,8 @@ use Prim.Native.Nat.{ℕ, _<_}
 use native.Mathlib.Omega.{arith}
 use Rattle.questions.specs.Questions.{No, number, Placed, ask}
 use Rattle.questions.proofs.Every.{Every, every-none, every-some, every-ask, every-or, no-place}
-use Rattle.rules.specs.Calls.{Call, State, arrival, retry, turn, crash, restart, order, listAdd, listTake, listDone, stopped, refusal}
+use Rattle.rules.specs.Calls.{Call, State, arrival, retry, turn, crash, restart, order, listAdd, listTake, listDone, retire, stopped}
+use Rattle.rules.specs.Calls.{refusal}
 use Rattle.rules.specs.Instructions.{Pack}
 use Rattle.pack.specs.Meaning.{packOf}
 use Rattle.pack.proofs.Placed.{pack-placed}
@@ -25,6 +26,7 @@ FromHost order = Unit {0}
 FromHost (listAdd id) = Unit {0}
 FromHost listTake = Unit {0}
 FromHost (listDone id) = Unit {0}
+FromHost (retire floor) = Unit {0}
 FromHost (stopped n) = Placed n
 
 -- a question without a place, and the rest
@@ -64,7 +66,8 @@ unfolding refusal
 call-placed pack s (arrival slot id w args) m =
     asks 15 (omega arith) _ _
     (asks 16 (omega arith) _ _
-    (asks 24 (omega arith) _ _ (asks 17 (omega arith) _ _ (asks 18 (omega arith) _ _ (asks 19 (omega arith) _ _ ends)))))
+    (asks 24 (omega arith) _ _
+    (asks 30 (omega arith) _ _ (asks 17 (omega arith) _ _ (asks 18 (omega arith) _ _ (asks 19 (omega arith) _ _ ends))))))
 call-placed pack s (retry slot id) m = asks 15 (omega arith) _ _ (asks 16 (omega arith) _ _ (asks 20 (omega arith) _ _ ends))
 call-placed pack s (turn slot) m = asks 15 (omega arith) _ _ (asks 16 (omega arith) _ _ (asks 21 (omega arith) _ _ ends))
 call-placed pack s (crash slot) m = asks 15 (omega arith) _ _ (asks 16 (omega arith) _ _ ends)
@@ -73,6 +76,7 @@ call-placed pack s order m = ends
 call-placed pack s (listAdd id) m = asks 25 (omega arith) _ _ (asks 26 (omega arith) _ _ (asks 20 (omega arith) _ _ ends))
 call-placed pack s listTake m = asks 25 (omega arith) _ _ (asks 27 (omega arith) _ _ ends)
 call-placed pack s (listDone id) m = asks 25 (omega arith) _ _ (asks 27 (omega arith) _ _ ends)
+call-placed pack s (retire floor) m = asks 25 (omega arith) _ _ (asks 28 (omega arith) _ _ (asks 29 (omega arith) _ _ ends))
 call-placed pack s (stopped n) m = every-some Placed n m
 
 for-placed : (c : Call) (pack : List ℕ) (lent : Lent) → Every Placed (lentFor c pack lent)
@@ -86,6 +90,7 @@ for-placed order pack lent = order-placed (lent .store)
 for-placed (listAdd id) pack lent = lent-placed pack lent
 for-placed listTake pack lent = lent-placed pack lent
 for-placed (listDone id) pack lent = lent-placed pack lent
+for-placed (retire floor) pack lent = lent-placed pack lent
 for-placed (stopped n) pack lent = lent-placed pack lent
 
 pub refusal-placed : (pack : List ℕ) (lent : Lent) (c : Call) → FromHost c → Every Placed (refusalFor pack lent c)

@@ -12,7 +12,7 @@ use Rattle.words.specs.Words.{le}
 use Rattle.questions.specs.Basics.{if_then_else_, each, isSome}
 use Rattle.questions.specs.Questions.{No, number, ask, orElse}
 use Rattle.rules.specs.Store.{Request}
-use Rattle.rules.specs.Calls.{Call, arrival, retry, turn, crash, restart, order, listAdd, listTake, listDone, stopped, refusal}
+use Rattle.rules.specs.Calls.{Call, arrival, retry, turn, crash, restart, order, listAdd, listTake, listDone, retire, stopped, refusal}
 use Rattle.code.specs.Questions.{insideAt}
 use Rattle.pack.specs.Layout.{count, sizeOf, total, operationsOf}
 use Rattle.pack.specs.Refusal.{packRefusal}
@@ -90,7 +90,7 @@ replyRefusal pack store id =
     (ask (number 20) (isSome (contentsOf (storeOf store) .book id))
     none)
 
--- Questions 1 to 14 and 25, with which add, take and done begin: the first no.
+-- Questions 1 to 14 and 25, with which add, take, done and retire begin: the first no.
 unfoldable pub listRefusal : (pack : List ℕ) → Lent → Option No
 listRefusal pack lent = orElse (lentRefusal pack lent) (ask (number 25) (listRight (worklistOf (lent .list))) none)
 
@@ -118,6 +118,7 @@ lentFor order pack lent = orderRefusal (lent .store)
 lentFor (listAdd id) pack lent = lentRefusal pack lent
 lentFor listTake pack lent = lentRefusal pack lent
 lentFor (listDone id) pack lent = lentRefusal pack lent
+lentFor (retire floor) pack lent = lentRefusal pack lent
 lentFor (stopped n) pack lent = lentRefusal pack lent
 
 -- All questions that a call puts, in the order in which they are put: the first no.

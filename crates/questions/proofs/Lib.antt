@@ -4,3 +4,4 @@ pub mod Questions
 pub mod Chains
 pub mod Each
 pub mod Every
+pub mod Counts

@@ -26,3 +26,12 @@ eachFrom f (suc n) i = if f i then eachFrom f n (i + 1) else false
 -- does f hold at each number below n?
 abbrev pub each : (n : ℕ) → (ℕ → Bool) → Bool
 each n f = eachFrom f n 0
+
+-- the sum of f at the numbers below n
+unfoldable pub sumBelow : (n : ℕ) → (ℕ → ℕ) → ℕ
+sumBelow zero f = 0
+sumBelow (suc n) f = sumBelow n f + f n
+
+-- how many numbers below n pass the test?
+abbrev pub countBelow : (n : ℕ) → (test : ℕ → Bool) → ℕ
+countBelow n test = sumBelow n (λ i. if test i then 1 else 0)

@@ -6,7 +6,7 @@ use mathlib.Core.Option.{Option, none, some}
 use Prim.Native.Nat.{ℕ}
 use Rattle.rules.specs.Instructions.{Pack}
 use Rattle.rules.specs.Calls.{Agent, State, Call, arrival, retry, turn, crash, restart, order, stopped}
-use Rattle.rules.specs.Calls.{listAdd, listTake, listDone, given, takes, withWork}
+use Rattle.rules.specs.Calls.{listAdd, listTake, listDone, retire, given, takes, withWork}
 use Rattle.rules.specs.Calls.{Answer, done, Outcome, gives, rule}
 use Rattle.rules.specs.Worklist.{firstWaiting}
 use Rattle.rules.specs.Plain.{Reply, withAnswer, accepted, nothing, feeds}
@@ -20,11 +20,12 @@ pub record Idle (pack : Pack) (s : State) (c : Call) : Type 0 where
   pub store-left : rule pack s c .state .store ≡ s .store
   pub slots-left : (slot : ℕ) (a : Agent) → rule pack s c .state .slots slot ≡ some a → s .slots slot ≡ some a
 
--- a call is one of those that feed something, or idle
+-- a call is one of those that feed something, a retire, which feeds nothing but changes the store, or idle
 pub data Kind (pack : Pack) (s : State) : Call → Type 0 where
   an-arrival : (slot id w : ℕ) (args : List ℕ) → Kind pack s (arrival slot id w args)
   a-retry : (slot id : ℕ) → Kind pack s (retry slot id)
   a-turn : (slot : ℕ) → Kind pack s (turn slot)
+  a-retire : (floor : ℕ) → Kind pack s (retire floor)
   an-idle : (c : Call) → Idle pack s c → Kind pack s c
 
 module _ (pack : Pack) (s : State) where
@@ -74,4 +75,5 @@ module _ (pack : Pack) (s : State) where
   kind (listAdd id) = only-empties (listAdd id) refl refl refl (λ slot a e. e)
   kind listTake = idle-take (firstWaiting (s .work)) refl
   kind (listDone id) = only-empties (listDone id) refl refl refl (λ slot a e. e)
+  kind (retire floor) = a-retire floor
   kind (stopped n) = leaves-all (stopped n) refl refl

@@ -4,36 +4,38 @@ use mathlib.Core.Path.{_≡_, refl, sym, _∙_, ap, subst}
 use mathlib.Core.Logic.{_⊎_, inl, inr}
 use mathlib.Core.List.{List}
 use mathlib.Core.Option.{Option, none, some, Option·some-injective}
-use Prim.Native.Nat.{ℕ, _<_}
+use Prim.Native.Nat.{ℕ, _≤_, _<_}
 use native.Mathlib.Omega.{arith}
-use lib.Dec.{ltb→lt}
+use borrow.Author.Tests.{leb-true, ltb-true}
 use lib.ListN.{length}
 use Rattle.questions.specs.Basics.{update, isSome}
 use Rattle.questions.specs.Questions.{No}
 use Rattle.rules.specs.Instructions.{Pack, Code, Place}
 use Rattle.rules.specs.Blocks.{Result}
 use Rattle.rules.specs.Courses.{Course, Next, goes, does, says, nextOf}
-use Rattle.rules.specs.Store.{Request, Store, booked, found}
+use Rattle.rules.specs.Store.{Request, Store, booked, found, floorOf}
 use Rattle.rules.specs.Logged.{start, at, follow}
 use Rattle.rules.specs.Calls.{codeBy, Agent, State, started, arrive, again, throughBlock, turnOn, turnIn, refusal, rule, Call}
 use Rattle.rules.specs.Calls.{withStore}
 use Rattle.rules.specs.Calls.{Answer, Outcome, unless, call}
 use Rattle.rules.specs.Plain.{Reply, Run, Machine, Tallies, booking, accepted, withAnswer, Feed, feeds, feedOf}
 use Rattle.rules.specs.Plain.{tallied, fed, fedArrival}
-use Rattle.questions.proofs.Updates.{none-some, false-true, true-T, update-same, update-other, update-cases, update-each}
+use Rattle.questions.proofs.Updates.{none-some, false-true, update-same, update-other, update-cases, update-each}
 use Rattle.rules.proofs.Follow.{same-here}
-use Rattle.rules.proofs.Invariant.{Book, underway, Counterpart, Live, Inv, Remains, slots-stay, slots-set}
+use Rattle.rules.proofs.Invariant.{Book, underway, Counterpart, Live, Inv, Remains, slots-stay, slots-set, eight-set}
 use Rattle.rules.proofs.Core.{counterpart-stays}
 use Rattle.rules.proofs.Turn.{Keeps, tallyOf, turn-keeps}
-use Rattle.rules.proofs.ByFeed.{Idle, Kind, an-arrival, a-retry, a-turn, an-idle, kind}
+use Rattle.rules.proofs.Retire.{retire-asked}
+use Rattle.rules.proofs.RetireKeeps.{retire-inv}
+use Rattle.rules.proofs.ByFeed.{Idle, Kind, an-arrival, a-retry, a-turn, a-retire, an-idle, kind}
 use Rattle.questions.proofs.Questions.{ask-none}
 
 module _ (pack : Pack) (s : State) (m : Machine) (t : Tallies) (rs : List Reply) (inv : Inv pack s m t rs) where
   -- a booked request starts in a slot
-  started-inv : (slot id : ℕ) (q : Request) → s .store .book id ≡ some q → (r : Run) → m .runs id ≡ some r → r .request ≡ q →
+  started-inv : (slot id : ℕ) → slot < 8 → (q : Request) → s .store .book id ≡ some q → (r : Run) → m .runs id ≡ some r → r .request ≡ q →
       Inv pack (started s slot id q) m (update t slot (tallyOf id 0)) rs
   unfolding follow
-  started-inv slot id q book-is r run-is request-is =
+  started-inv slot id low q book-is r run-is request-is =
       record {
         core = inv .core;
         slots =
@@ -50,93 +52,109 @@ module _ (pack : Pack) (s : State) (m : Machine) (t : Tallies) (rs : List Reply)
               behind = omega arith;
               there = ap (λ x. some (at (start x) 0)) request-is;
             }));
+        eight = eight-set (s .slots) (inv .eight) slot (some (record { id = id; course = start q; step = 0 })) low;
       }
 
 module _ (pack : Pack) (s : State) (m : Machine) (t : Tallies) (rs : List Reply) (inv : Inv pack s m t rs) where
   -- a new request
-  module _ (id : ℕ) (q : Request) (below : q .workflow < length pack) (free : s .store .book id ≡ none) (new : m .runs id ≡ none) where
-    abbrev r₀ : Run
-    r₀ = record { request = q; course = start q; moveCount = 0 }
+  module _
+      (id : ℕ)
+      (q : Request)
+      (below : q .workflow < length pack)
+      (from-floor : floorOf (s .store) ≤ id)
+      (free : s .store .book id ≡ none)
+      (new : m .runs id ≡ none)
+    where
+      abbrev r₀ : Run
+      r₀ = record { request = q; course = start q; moveCount = 0 }
 
-    abbrev runs′ : ℕ → Option Run
-    runs′ = update (m .runs) id (some r₀)
+      abbrev runs′ : ℕ → Option Run
+      runs′ = update (m .runs) id (some r₀)
 
-    abbrev book′ : Book
-    book′ = update (s .store .book) id (some q)
+      abbrev book′ : Book
+      book′ = update (s .store .book) id (some q)
 
-    -- who was there is there
-    kept : (j : ℕ) (w : Run) → m .runs j ≡ some w → runs′ j ≡ some w
-    kept j w e = update-other (m .runs) id (some r₀) j (λ p. none-some w (ap (m .runs) p ∙ new) e) ∙ e
+      -- who was there is there
+      kept : (j : ℕ) (w : Run) → m .runs j ≡ some w → runs′ j ≡ some w
+      kept j w e = update-other (m .runs) id (some r₀) j (λ p. none-some w (ap (m .runs) p ∙ new) e) ∙ e
 
-    remains : (j : ℕ) → Remains (s .store .log) (s .store .log) (s .store .book) book′ j
-    remains j w e = (update-other (s .store .book) id (some q) j (λ p. none-some w (ap (s .store .book) p ∙ free) e) ∙ e, λ p u v h. h)
+      remains : (j : ℕ) → Remains (s .store .log) (s .store .log) (s .store .book) book′ j
+      remains j w e = (update-other (s .store .book) id (some q) j (λ p. none-some w (ap (s .store .book) p ∙ free) e) ∙ e, λ p u v h. h)
 
-    booked-inv : Inv pack (withStore s (booked (s .store) id q)) (booking m id q) t rs
-    unfolding follow
-    booked-inv =
-        record {
-          core =
-              record {
-                tables = inv .core .tables;
-                counterpart =
-                    update-each (s .store .book) id (some q) (λ j (w : Request). Counterpart pack (s .store .log) runs′ (m .replies) j w)
-                    (λ w e. subst (λ (x : Request). Counterpart pack (s .store .log) runs′ (m .replies) id x) (Option·some-injective q w e)
-                    (record {
-                      run = r₀;
-                      run-is = update-same (m .runs) id (some r₀);
-                      request-is = refl;
-                      progress = underway 0 refl (λ p u h. inv .core .unlogged id new p u) (inv .core .unreplied id new);
-                    }))
-                    (λ j w n e.
-                    counterpart-stays pack (s .store .log) (s .store .log) (m .runs) runs′ (m .replies) (m .replies) j w
-                    (λ p u. same-here (s .store .log) p j u) (update-other (m .runs) id (some r₀) j n) refl (inv .core .counterpart j w e));
-                valid =
-                    update-each (s .store .book) id (some q) (λ j (w : Request). w .workflow < length pack)
-                    (λ w e. subst (λ (x : Request). x .workflow < length pack) (Option·some-injective q w e) below)
-                    (λ j w n e. inv .core .valid j w e);
-                unbooked = λ j e. go-book j e (update-cases (s .store .book) id (some q) j);
-                unlogged = λ j e p u. inv .core .unlogged j (was j e (update-cases (m .runs) id (some r₀) j)) p u;
-                unreplied = λ j e. inv .core .unreplied j (was j e (update-cases (m .runs) id (some r₀) j));
-                settled = inv .core .settled;
-                firsts = inv .core .firsts;
-              };
-          slots =
-              slots-stay pack (s .store .log) (s .store .log) (s .store .book) book′ (m .runs) runs′
-              (λ j w e. record { run = w; run-is = kept j w e; request-is = refl; further = omega arith }) t (s .slots)
-              (λ slot a e. remains (a .id)) (inv .slots);
-        }
-      where
-        was : (j : ℕ) → runs′ j ≡ none → ((j ≡ id) × (runs′ j ≡ some r₀)) ⊎ ((j ≡ id → ⊥) × (runs′ j ≡ m .runs j)) → m .runs j ≡ none
-        was j e (inl h) = none-some r₀ e (h .1)
-        was j e (inr h) = sym (h .1) ∙ e
+      booked-inv : Inv pack (withStore s (booked (s .store) id q)) (booking m id q) t rs
+      unfolding follow
+      booked-inv =
+          record {
+            core =
+                record {
+                  tables = inv .core .tables;
+                  counterpart =
+                      update-each (s .store .book) id (some q) (λ j (w : Request). Counterpart pack (s .store .log) runs′ (m .replies) j w)
+                      (λ w e. subst (λ (x : Request). Counterpart pack (s .store .log) runs′ (m .replies) id x)
+                      (Option·some-injective q w e)
+                      (record {
+                        run = r₀;
+                        run-is = update-same (m .runs) id (some r₀);
+                        request-is = refl;
+                        progress = underway 0 refl (λ p u h. inv .core .unlogged id new p u) (inv .core .unreplied id new);
+                      }))
+                      (λ j w n e.
+                      counterpart-stays pack (s .store .log) (s .store .log) (m .runs) runs′ (m .replies) (m .replies) j w
+                      (λ p u. same-here (s .store .log) p j u) (update-other (m .runs) id (some r₀) j n) refl
+                      (inv .core .counterpart j w e));
+                  valid =
+                      update-each (s .store .book) id (some q) (λ j (w : Request). w .workflow < length pack)
+                      (λ w e. subst (λ (x : Request). x .workflow < length pack) (Option·some-injective q w e) below)
+                      (λ j w n e. inv .core .valid j w e);
+                  above =
+                      update-each (s .store .book) id (some q) (λ j (w : Request). floorOf (s .store) ≤ j) (λ w e. from-floor)
+                      (λ j w n e. inv .core .above j w e);
+                  unbooked = λ j l e. go-book j l e (update-cases (s .store .book) id (some q) j);
+                  unlogged = λ j e p u. inv .core .unlogged j (was j e (update-cases (m .runs) id (some r₀) j)) p u;
+                  unreplied = λ j e. inv .core .unreplied j (was j e (update-cases (m .runs) id (some r₀) j));
+                  settled = inv .core .settled;
+                  firsts = inv .core .firsts;
+                };
+            slots =
+                slots-stay pack (s .store .log) (s .store .log) (s .store .book) book′ (m .runs) runs′
+                (λ j w e. record { run = w; run-is = kept j w e; request-is = refl; further = omega arith }) t (s .slots)
+                (λ slot a e. remains (a .id)) (inv .slots);
+            eight = inv .eight;
+          }
+        where
+          was : (j : ℕ) → runs′ j ≡ none → ((j ≡ id) × (runs′ j ≡ some r₀)) ⊎ ((j ≡ id → ⊥) × (runs′ j ≡ m .runs j)) → m .runs j ≡ none
+          was j e (inl h) = none-some r₀ e (h .1)
+          was j e (inr h) = sym (h .1) ∙ e
 
-        go-book : (j : ℕ) → book′ j ≡ none → ((j ≡ id) × (book′ j ≡ some q)) ⊎ ((j ≡ id → ⊥) × (book′ j ≡ s .store .book j)) →
-            runs′ j ≡ none
-        go-book j e (inl h) = none-some q e (h .1)
-        go-book j e (inr h) = update-other (m .runs) id (some r₀) j (h .0) ∙ inv .core .unbooked j (sym (h .1) ∙ e)
+          go-book : (j : ℕ) → floorOf (s .store) ≤ j → book′ j ≡ none →
+              ((j ≡ id) × (book′ j ≡ some q)) ⊎ ((j ≡ id → ⊥) × (book′ j ≡ s .store .book j)) → runs′ j ≡ none
+          go-book j l e (inl h) = none-some q e (h .1)
+          go-book j l e (inr h) = update-other (m .runs) id (some r₀) j (h .0) ∙ inv .core .unbooked j l (sym (h .1) ∙ e)
 
-  arrive-keeps : (slot id : ℕ) (q : Request) (o : Option Request) → q .workflow < length pack → s .store .book id ≡ o →
+  arrive-keeps : (slot id : ℕ) (q : Request) (o : Option Request) → slot < 8 → floorOf (s .store) ≤ id → q .workflow < length pack →
+      s .store .book id ≡ o →
       Keeps pack (fedArrival m id q (m .runs id)) (update t slot (tallyOf id 0)) rs (arrive s slot id q o)
   unfolding arrive fedArrival
-  arrive-keeps slot id q none below e =
-      rw (inv .core .unbooked id e)
+  arrive-keeps slot id q none low from-floor below e =
+      rw (inv .core .unbooked id from-floor e)
       (record {
         kept =
             started-inv pack (withStore s (booked (s .store) id q)) (booking m id q) t rs
-            (booked-inv id q below e (inv .core .unbooked id e)) slot id q (update-same (s .store .book) id (some q))
+            (booked-inv id q below from-floor e (inv .core .unbooked id from-floor e)) slot id low q
+            (update-same (s .store .book) id (some q))
             (record { request = q; course = start q; moveCount = 0 }) (update-same (m .runs) id _) refl;
       })
-  arrive-keeps slot id q (some known) below e =
+  arrive-keeps slot id q (some known) low from-floor below e =
       let x = inv .core .counterpart id known e in
-      rw (x .run-is) (record { kept = started-inv pack s m t rs inv slot id known e (x .run) (x .run-is) (x .request-is) })
+      rw (x .run-is) (record { kept = started-inv pack s m t rs inv slot id low known e (x .run) (x .run-is) (x .request-is) })
 
-  again-keeps : (slot id : ℕ) (o : Option Request) → s .store .book id ≡ o → isSome o ≡ true →
+  again-keeps : (slot id : ℕ) (o : Option Request) → slot < 8 → s .store .book id ≡ o → isSome o ≡ true →
       Keeps pack m (update t slot (tallyOf id 0)) rs (again s slot id o)
   unfolding again
-  again-keeps slot id none e b = false-true refl b
-  again-keeps slot id (some known) e b =
+  again-keeps slot id none low e b = false-true refl b
+  again-keeps slot id (some known) low e b =
       let x = inv .core .counterpart id known e in
-      record { kept = started-inv pack s m t rs inv slot id known e (x .run) (x .run-is) (x .request-is) }
+      record { kept = started-inv pack s m t rs inv slot id low known e (x .run) (x .run-is) (x .request-is) }
 
   -- a call that feeds nothing
   idle-keeps : (c : Call) → Idle pack s c → Keeps pack (fed pack m t (feeds c)) (tallied t (feeds c)) rs (rule pack s c)
@@ -147,7 +165,11 @@ module _ (pack : Pack) (s : State) (m : Machine) (t : Tallies) (rs : List Reply)
             subst (λ (f : Feed). Inv pack s′ (fed pack m t f) (tallied t f) (withAnswer (rule pack s c .answer) rs)) (sym (i .feeds-none))
             (subst (λ (l : List Reply). Inv pack s′ m t l) (sym (i .no-reply rs))
             (subst (λ (st : Store). Inv pack (withStore s′ st) m t rs) (sym (i .store-left))
-            (record { core = inv .core; slots = λ slot a e. inv .slots slot a (i .slots-left slot a e) })));
+            (record {
+              core = inv .core;
+              slots = λ slot a e. inv .slots slot a (i .slots-left slot a e);
+              eight = λ slot a e. inv .eight slot a (i .slots-left slot a e);
+            })));
       }
     where
       s′ : State
@@ -158,11 +180,17 @@ module _ (pack : Pack) (s : State) (m : Machine) (t : Tallies) (rs : List Reply)
       Keeps pack (fed pack m t (feeds c)) (tallied t (feeds c)) rs (rule pack s c)
   unfolding refusal rule fed tallied
   rule-keeps c (an-arrival slot id w args) allow =
-      let below = ask-none _ _ _ (ask-none _ _ _ (ask-none _ _ _ (ask-none _ _ _ allow .1) .1) .1) .0 in
-      arrive-keeps slot id (record { workflow = w; arguments = args }) (s .store .book id) (ltb→lt w (length pack) (true-T _ below)) refl
+      let a₁₅ = ask-none _ _ _ allow in
+      let a₃₀ = ask-none _ _ _ (ask-none _ _ _ (ask-none _ _ _ (a₁₅ .1) .1) .1) in
+      arrive-keeps slot id (record { workflow = w; arguments = args }) (s .store .book id) (ltb-true slot 8 (a₁₅ .0))
+      (leb-true (floorOf (s .store)) id (a₃₀ .0)) (ltb-true w (length pack) (ask-none _ _ _ (a₃₀ .1) .0)) refl
   rule-keeps c (a-retry slot id) allow =
-      again-keeps slot id (s .store .book id) refl (ask-none _ _ _ (ask-none _ _ _ (ask-none _ _ _ allow .1) .1) .0)
+      again-keeps slot id (s .store .book id) (ltb-true slot 8 (ask-none _ _ _ allow .0)) refl
+      (ask-none _ _ _ (ask-none _ _ _ (ask-none _ _ _ allow .1) .1) .0)
   rule-keeps c (a-turn slot) allow = turn-keeps pack s m t rs inv slot (ask-none _ _ _ (ask-none _ _ _ allow .1) .0)
+  rule-keeps c (a-retire floor) allow =
+      let asked = retire-asked pack s floor allow in
+      record { kept = retire-inv pack s m t rs inv floor (asked .0) (asked .1) }
   rule-keeps c (an-idle _ i) allow = idle-keeps c i
 
 -- A rule is never a refusal: a call is refused exactly where a question says no.
@@ -196,6 +224,7 @@ rule-accepted pack s c = by-kind c (kind pack s c)
     by-kind c (an-arrival slot id w args) = arrived slot id (record { workflow = w; arguments = args }) (s .store .book id)
     by-kind c (a-retry slot id) = retried slot id (s .store .book id)
     by-kind c (a-turn slot) = turned slot (s .slots slot)
+    by-kind c (a-retire floor) = refl
     by-kind c (an-idle _ i) = i .accepts
 
 -- an accepted call feeds what is said of it

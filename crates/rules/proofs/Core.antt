@@ -2,13 +2,13 @@
 use mathlib.Core.Path.{_≡_, refl, sym, _∙_, ap, subst}
 use mathlib.Core.Logic.{_⊎_, inl, inr}
 use mathlib.Core.List.{List, List·Memᴰ}
-use mathlib.Core.Option.{Option, none, some, Option·some-injective}
+use mathlib.Core.Option.{Option, none, some, Option·getD, Option·some-injective}
 use Prim.Native.Nat.{ℕ, _≤_, _<_}
 use native.Mathlib.Omega.{arith}
 use Rattle.questions.specs.Basics.{update}
 use Rattle.rules.specs.Instructions.{Pack}
 use Rattle.rules.specs.Blocks.{Table}
-use Rattle.rules.specs.Store.{Request, Log, Store}
+use Rattle.rules.specs.Store.{Request, Log, Store, floorOf}
 use Rattle.rules.specs.Logged.{requestCode, Stage, at, finished}
 use Rattle.rules.specs.Plain.{Reply, Run, Machine, firstReplies}
 use Rattle.questions.proofs.Updates.{none-some, le-cases, update-cases}
@@ -94,23 +94,31 @@ module _
     pub core-moved : (tables : ℕ → Table) (replies : List Reply) →
         s′ .rows ≡ tables →
         s′ .book ≡ s .book →
+        s′ .floor ≡ s .floor →
         Progress pack (s′ .log) replies id r₁ →
         ((j : ℕ) → (j ≡ id → ⊥) → replyTo j replies ≡ replyTo j (m .replies)) →
         ((w : Reply) → List·Memᴰ w rs′ → replyTo (w .id) replies ≡ some (w .value)) →
         firstReplies rs′ ≡ replies →
         Core pack s′ (record { tables = tables; runs = update (m .runs) id (some r₁); replies = replies }) rs′
-    core-moved tables replies same-rows same-book new others settled firsts =
+    core-moved tables replies same-rows same-book same-floor new others settled firsts =
         record {
           tables = same-rows;
           counterpart = λ j q e. go-on j q (ap (λ f. f j) (sym same-book) ∙ e) (update-cases (m .runs) id (some r₁) j);
           valid = λ j q e. core .valid j q (ap (λ f. f j) (sym same-book) ∙ e);
-          unbooked = λ j e. go-book j (core .unbooked j (ap (λ f. f j) (sym same-book) ∙ e)) (update-cases (m .runs) id (some r₁) j);
+          above = λ j q e. subst (λ n. n ≤ j) (sym floor-is) (core .above j q (ap (λ f. f j) (sym same-book) ∙ e));
+          unbooked =
+              λ j l e.
+              go-book j (core .unbooked j (subst (λ n. n ≤ j) floor-is l) (ap (λ f. f j) (sym same-book) ∙ e))
+              (update-cases (m .runs) id (some r₁) j);
           unlogged = λ j e p u. go-log j e p u (update-cases (m .runs) id (some r₁) j);
           unreplied = λ j e. go-reply j e (update-cases (m .runs) id (some r₁) j);
           settled = settled;
           firsts = firsts;
         }
       where
+        floor-is : floorOf s′ ≡ floorOf s
+        floor-is = ap (λ (o : Option ℕ). Option·getD o 0) same-floor
+
         go-on : (j : ℕ) (q : Request) → s .book j ≡ some q →
             ((j ≡ id) × (update (m .runs) id (some r₁) j ≡ some r₁)) ⊎ ((j ≡ id → ⊥) × (update (m .runs) id (some r₁) j ≡ m .runs j)) →
             Counterpart pack (s′ .log) (update (m .runs) id (some r₁)) replies j q

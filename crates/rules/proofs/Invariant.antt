@@ -8,7 +8,7 @@ use lib.ListN.{length}
 use Rattle.questions.specs.Basics.{update}
 use Rattle.rules.specs.Instructions.{Pack}
 use Rattle.rules.specs.Blocks.{Result}
-use Rattle.rules.specs.Store.{Request, Log, Store}
+use Rattle.rules.specs.Store.{Request, Log, Store, floorOf}
 use Rattle.rules.specs.Logged.{requestCode, Stage, at, finished, follow}
 use Rattle.rules.specs.Calls.{Agent, State}
 use Rattle.rules.specs.Plain.{Reply, Run, Machine, Tally, Tallies, firstReplies}
@@ -51,13 +51,22 @@ pub record Live (pack : Pack) (log : Log) (book : Book) (runs : ℕ → Option R
 abbrev pub Slots : Pack → Log → Book → (ℕ → Option Run) → Tallies → ((slot : ℕ) → Option Agent) → Type 0
 Slots pack log book runs t slots = (slot : ℕ) (a : Agent) → slots slot ≡ some a → Live pack log book runs (t slot) a
 
+-- agents are in the eight slots only
+abbrev pub Eight : ((slot : ℕ) → Option Agent) → Type 0
+Eight slots = (slot : ℕ) (a : Agent) → slots slot ≡ some a → slot < 8
+
+-- no booked id is below the floor
+abbrev pub Above : Store → Type 0
+Above s = (id : ℕ) (q : Request) → s .book id ≡ some q → floorOf s ≤ id
+
 pub record Core (pack : Pack) (s : Store) (m : Machine) (rs : List Reply) : Type 0 where
   pub tables : s .rows ≡ m .tables
   -- what is booked here is booked there, and the log follows its run
   pub counterpart : (id : ℕ) (q : Request) → s .book id ≡ some q → Counterpart pack (s .log) (m .runs) (m .replies) id q
   pub valid : (id : ℕ) (q : Request) → s .book id ≡ some q → q .workflow < length pack
-  -- a new id is new there too
-  pub unbooked : (id : ℕ) → s .book id ≡ none → m .runs id ≡ none
+  pub above : Above s
+  -- from the floor on, a new id is new there too: what is booked there and not here is below the floor
+  pub unbooked : (id : ℕ) → floorOf s ≤ id → s .book id ≡ none → m .runs id ≡ none
   pub unlogged : (id : ℕ) → m .runs id ≡ none → (p t : ℕ) → Free (s .log) p id t
   pub unreplied : (id : ℕ) → m .runs id ≡ none → replyTo id (m .replies) ≡ none
   -- a reply that was given is the machine's
@@ -67,6 +76,7 @@ pub record Core (pack : Pack) (s : Store) (m : Machine) (rs : List Reply) : Type
 pub record Inv (pack : Pack) (s : State) (m : Machine) (t : Tallies) (rs : List Reply) : Type 0 where
   pub core : Core pack (s .store) m rs
   pub slots : Slots pack (s .store .log) (s .store .book) (m .runs) t (s .slots)
+  pub eight : Eight (s .slots)
 
 -- ── Slots ──
 
@@ -125,3 +135,6 @@ module _
         update-each slots slot o (λ j a. Live pack log book runs (update t slot tally j) a)
         (λ a e. subst (λ w. Live pack log book runs w a) (sym (update-same t slot tally)) (new a e))
         (λ j a n e. subst (λ w. Live pack log book runs w a) (sym (update-other t slot tally j n)) (h j a e))
+
+pub eight-set : (slots : ℕ → Option Agent) → Eight slots → (slot : ℕ) (o : Option Agent) → slot < 8 → Eight (update slots slot o)
+eight-set slots h slot o low = update-each slots slot o (λ j a. j < 8) (λ a e. low) (λ j a n e. h j a e)

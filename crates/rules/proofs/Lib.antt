@@ -2,8 +2,10 @@ pub mod Shapes
 pub mod Alike
 pub mod Follow
 pub mod Replies
+pub mod Retire
 pub mod Invariant
 pub mod Core
+pub mod RetireKeeps
 pub mod Positions
 pub mod Stands
 pub mod Turn
@@ -15,12 +17,15 @@ pub mod Blocks
 pub mod Routes
 pub mod Taken
 pub mod Theorem
+pub mod NotBooked
+pub mod Retiring
 pub mod RequestZero
 pub mod ByLog
 pub mod Room
 pub mod NeverWritten
 pub mod Move
 pub mod WholeCase
+pub mod RetireCase
 pub mod States
 pub mod Worklists
 pub mod Listing

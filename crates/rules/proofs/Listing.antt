@@ -1,34 +1,38 @@
 -- W-208: no listed request vanishes before its reply can be worked out from the log. First of one call, then of lists of calls.
-use mathlib.Core.Bool.{true}
+use mathlib.Core.Bool.{Bool, true, false}
 use mathlib.Core.Path.{_≡_, refl, sym, _∙_, ap, subst}
 use mathlib.Core.Logic.{_⊎_, inl, inr}
-use mathlib.Core.List.{List, [], _∷_, _++_, List·Memᴰ}
+use mathlib.Core.List.{List, [], _∷_, _++_, List·Memᴰ, List·Memᴰ·cases-cons}
 use mathlib.Core.Option.{Option, none, some, Option·some-injective}
-use Prim.Native.Nat.{ℕ}
+use Prim.Native.Nat.{ℕ, _<_}
 use native.Mathlib.Omega.{arith}
-use Rattle.questions.specs.Basics.{isSome}
+use borrow.Author.Tests.{ltb-true}
+use lib.Dec.{ltb, nltb→le}
+use Rattle.questions.specs.Basics.{isSome, each}
 use Rattle.questions.specs.Questions.{No}
 use Rattle.rules.specs.Instructions.{Code, Pack, Place}
-use Rattle.rules.specs.Blocks.{Result, runBlock}
+use Rattle.rules.specs.Blocks.{Result}
 use Rattle.rules.specs.Courses.{Course, Next, goes, does, says, nextOf}
-use Rattle.rules.specs.Store.{Request, Store, found}
+use Rattle.rules.specs.Store.{Request, Store, found, floorOf, retired}
 use Rattle.rules.specs.Logged.{requestCode, finished, replyLogged, loggedThrough}
 use Rattle.rules.specs.Worklist.{Worklist, Entry, waiting, listed, canList, firstWaiting, takenOn}
 use Rattle.rules.specs.Worklist.{added, tookFirst, without, restarted}
 use Rattle.rules.specs.Calls.{codeBy, Agent, State, done, Outcome, arrive, again, throughBlock, turnOn, turnIn, takes}
-use Rattle.rules.specs.Calls.{Call, arrival, retry, turn, crash, restart, order, listAdd, listTake, listDone, stopped}
-use Rattle.rules.specs.Calls.{canDone, refusal, rule, unless, call, History, stateAfter, answerTo}
-use Rattle.rules.specs.Plain.{Reply, Machine, Tallies, machineAfter, talliesAfter, repliesAfter}
+use Rattle.rules.specs.Calls.{Call, arrival, retry, turn, crash, restart, order, listAdd, listTake, listDone, retire, stopped}
+use Rattle.rules.specs.Calls.{canDone, canRetire, refusal, rule, unless, call, History, stateAfter, answerTo}
+use Rattle.rules.specs.Plain.{Reply, Machine, Tallies, withAnswer, repliesOf, eventsAfter, machineAfter, talliesAfter, repliesAfter}
+use Rattle.rules.specs.Retired.{floorAfter}
 use Rattle.rules.specs.Listed.{workedOut, workAfter, TakenOff, Listing, Reading}
 use Rattle.questions.proofs.Tests.{no-yes, and-right}
-use Rattle.questions.proofs.Updates.{none-some, eqb-cases, update-other}
+use Rattle.questions.proofs.Updates.{none-some, false-true, eqb-cases}
 use Rattle.questions.proofs.Questions.{ask-none}
-use Rattle.rules.proofs.Follow.{row-grows}
 use Rattle.rules.proofs.Replies.{replyTo}
 use Rattle.rules.proofs.Logged.{ends-once, logged-ends, logged-stays}
-use Rattle.rules.proofs.Invariant.{followed, Progress, underway, over, Counterpart, Inv}
-use Rattle.rules.proofs.Changes.{Change, same, books, writes, change}
-use Rattle.rules.proofs.ByLog.{Stays, not-found}
+use Rattle.rules.proofs.Invariant.{followed, Progress, underway, over, Counterpart, Remains, Inv}
+use Rattle.rules.proofs.ByFeed.{Kind, an-arrival, a-retry, a-turn, a-retire, an-idle, kind}
+use Rattle.rules.proofs.Retire.{retired-unlisted}
+use Rattle.rules.proofs.Changes.{Change, same, books, writes, retires, change, change-stays, AboveFor, Gone, Stays, stays-here}
+use Rattle.rules.proofs.Changes.{booking-remains, retired-remains}
 use Rattle.rules.proofs.Theorem.{invariant}
 use Rattle.rules.proofs.Worklists.{SameOrNot, listed-added, added-listed, listed-took, listed-restarted, listed-without}
 use Rattle.rules.proofs.Worklists.{without-listed, Right, is-right, right-added, right-took, right-without, right-restarted}
@@ -41,11 +45,11 @@ is-some (some x) e = (x, refl)
 
 -- ── What a call does to the worklist ──
 
--- Nothing, what restart does, or what an add, a take or a done does, each with what was asked of it.
+-- Nothing, what restart does, or what an add, a take or a done does, each with what was asked of it. (An add leaves the book.)
 pub data Relisted (pack : Pack) (s : State) (c : Call) (o : Outcome) : Type 0 where
   as-it-was : o .state .work ≡ s .work → Relisted pack s c o
   restarts : o .state .work ≡ restarted (s .work) → Relisted pack s c o
-  adds : (id : ℕ) → canList id (s .work) ≡ true → isSome (s .store .book id) ≡ true → o .state .work ≡ added id (s .work) →
+  adds : (id : ℕ) → canList id (s .work) ≡ true → isSome (o .state .store .book id) ≡ true → o .state .work ≡ added id (s .work) →
       Relisted pack s c o
   takes-one : o .state .work ≡ tookFirst (s .work) → Relisted pack s c o
   removes : (id : ℕ) → c ≡ listDone id → o .answer ≡ done → loggedThrough pack (s .store .log) id (s .store .book id) ≡ true →
@@ -102,6 +106,7 @@ module _ (pack : Pack) (s : State) where
   relisted listTake allow = by-take (firstWaiting (s .work))
   relisted (listDone id) allow =
       removes id refl refl (and-right (takenOn id (s .work)) _ (ask-none _ _ _ (ask-none _ _ _ allow .1) .0)) refl
+  relisted (retire floor) allow = as-it-was refl
   relisted (stopped n) allow = as-it-was refl
 
   -- a refused call too
@@ -143,14 +148,14 @@ module _ (pack : Pack) (s : State) where
 
     -- who is listed after a call was listed, or is booked
     pub was-listed : Relisted pack s c o → (id : ℕ) → listed id (o .state .work) ≡ true →
-        (listed id (s .work) ≡ true) ⊎ (isSome (s .store .book id) ≡ true)
+        (listed id (s .work) ≡ true) ⊎ (isSome (o .state .store .book id) ≡ true)
     was-listed (as-it-was e) id h = inl (ap (listed id) (sym e) ∙ h)
     was-listed (restarts e) id h = inl (sym (listed-restarted id (s .work)) ∙ ap (listed id) (sym e) ∙ h)
     was-listed (adds j can known e) id h = go (added-listed j id (s .work) (ap (listed id) (sym e) ∙ h))
       where
-        go : (listed id (s .work) ≡ true) ⊎ (id ≡ j) → (listed id (s .work) ≡ true) ⊎ (isSome (s .store .book id) ≡ true)
+        go : (listed id (s .work) ≡ true) ⊎ (id ≡ j) → (listed id (s .work) ≡ true) ⊎ (isSome (o .state .store .book id) ≡ true)
         go (inl k) = inl k
-        go (inr k) = inr (ap (λ i. isSome (s .store .book i)) k ∙ known)
+        go (inr k) = inr (ap (λ i. isSome (o .state .store .book i)) k ∙ known)
     was-listed (takes-one e) id h = inl (sym (listed-took id (s .work)) ∙ ap (listed id) (sym e) ∙ h)
     was-listed (removes j is answers through e) id h = inl (without-listed j id (s .work) (ap (listed id) (sym e) ∙ h))
 
@@ -165,37 +170,47 @@ module _ (pack : Pack) (s : State) where
     pub call-right : Right (s .work) → Right after
     call-right = stays-right c (call pack s c) (call-relisted c)
 
-    pub call-was : (id : ℕ) → listed id after ≡ true → (listed id (s .work) ≡ true) ⊎ (isSome (s .store .book id) ≡ true)
+    pub call-was : (id : ℕ) → listed id after ≡ true →
+        (listed id (s .work) ≡ true) ⊎ (isSome (call pack s c .state .store .book id) ≡ true)
     call-was = was-listed c (call pack s c) (call-relisted c)
 
 -- ── What a call does to what is booked and logged ──
 
 module _ (pack : Pack) (s : State) where
-  -- a booked request stays booked, and its log rows stay
-  pub change-stays : (s′ : Store) → Change pack s s′ → Stays (s .store) s′
-  change-stays s′ (same e) = subst (Stays (s .store)) (sym e) (λ id q h. (h, λ p u r f. f))
-  change-stays s′ (books j w new e) =
-      subst (Stays (s .store)) (sym e)
-      (λ id q h. (
-        update-other (s .store .book) j (some w) id (λ p. none-some q (ap (s .store .book) p ∙ new) h) ∙ h,
-        λ p u r f. f,
-      ))
-  change-stays s′ (writes slot a from p onto held next absent e) =
-      subst (Stays (s .store)) (sym e)
-      (λ id q h. (
-        h,
-        row-grows (s .store .log) p (a .id) (a .step)
-            (runBlock (codeBy pack (s .store .book (a .id))) from (s .store .rows p) .result)
-            (not-found (s .store .log .usual p (a .id) (a .step)) absent) id,
-      ))
-
-  pub booked-stays : (c : Call) → Stays (s .store) (call pack s c .state .store)
+  -- a booked request stays booked and its log rows stay, or it is retired
+  pub booked-stays : (c : Call) → AboveFor c (s .store) → Stays (s .store) (call pack s c .state .store)
   unfolding call unless
-  booked-stays c = go (refusal pack s c)
+  booked-stays c above = go (refusal pack s c) refl
     where
-      go : (o : Option No) → Stays (s .store) (unless o s (rule pack s c) .state .store)
-      go none = change-stays (rule pack s c .state .store) (change pack s c)
-      go (some n) = λ id q h. (h, λ p u r f. f)
+      go : (o : Option No) → refusal pack s c ≡ o → Stays (s .store) (unless o s (rule pack s c) .state .store)
+      go none e = change-stays pack s c (rule pack s c .state .store) above (change pack s c e)
+      go (some n) e = stays-here (s .store)
+
+  -- a listed request isn't retired, by 28
+  pub listed-remains : (c : Call) (s′ : Store) → Change pack s c s′ → (id : ℕ) → listed id (s .work) ≡ true →
+      (q : Request) → s .store .book id ≡ some q → s′ .book id ≡ some q
+  listed-remains c s′ ch id on q h = go ch
+    where
+      kept : (floor : ℕ) → each floor (λ j. canRetire pack s j (s .store .book j)) ≡ true → (b : Bool) → ltb id floor ≡ b →
+          retired (s .store) floor .book id ≡ some q
+      kept floor all true l = false-true (retired-unlisted pack s floor all id q (ltb-true id floor l) h) on
+      kept floor all false l = retired-remains (s .store) floor id (nltb→le id floor (rw l tt)) q h .0
+
+      go : Change pack s c s′ → s′ .book id ≡ some q
+      go (same e) = ap (λ (x : Store). x .book id) e ∙ h
+      go (books slot j w is new l e) = ap (λ (x : Store). x .book id) e ∙ booking-remains (s .store) j w new id q h .0
+      go (writes slot a from p onto held next absent e) = ap (λ (x : Store). x .book id) e ∙ h
+      go (retires floor is all some-booked e) = ap (λ (x : Store). x .book id) e ∙ kept floor all (ltb id floor) refl
+
+  -- the same of a call, accepted or refused
+  pub call-remains : (c : Call) (id : ℕ) → listed id (s .work) ≡ true →
+      (q : Request) → s .store .book id ≡ some q → call pack s c .state .store .book id ≡ some q
+  unfolding call unless
+  call-remains c id on q h = go (refusal pack s c) refl
+    where
+      go : (o : Option No) → refusal pack s c ≡ o → unless o s (rule pack s c) .state .store .book id ≡ some q
+      go none e = listed-remains c (rule pack s c .state .store) (change pack s c e) id on q h
+      go (some n) e = h
 
 -- the request of a reply that can be worked out is booked
 pub worked-booked : (pack : Pack) (s : State) (id : ℕ) (v : Result) → workedOut pack s id ≡ some v →
@@ -208,15 +223,19 @@ worked-booked pack s id v e = go (s .store .book id) refl e
     go none b h = none-some v refl h
     go (some q) b h = (q, b)
 
--- what can be worked out still can
+-- what can be worked out still can, or its request has been retired
 pub worked-stays : (pack : Pack) (s s′ : State) → Stays (s .store) (s′ .store) → (id : ℕ) (v : Result) → workedOut pack s id ≡ some v →
-    workedOut pack s′ id ≡ some v
-worked-stays pack s s′ on id v e =
-    let b = worked-booked pack s id v e in
-    let k = on id (b .0) (b .1) in
-    ap (replyLogged pack (s′ .store .log) id) (k .0)
-    ∙ logged-stays pack (s .store .log) (s′ .store .log) id (b .0) v (k .1)
-    (ap (replyLogged pack (s .store .log) id) (sym (b .1)) ∙ e)
+    (workedOut pack s′ id ≡ some v) ⊎ (id < floorOf (s′ .store))
+worked-stays pack s s′ on id v e = go (on .remains id) (worked-booked pack s id v e)
+  where
+    go : Remains (s .store .log) (s′ .store .log) (s .store .book) (s′ .store .book) id ⊎ Gone (s′ .store) id →
+        (q : Request) × (s .store .book id ≡ some q) → (workedOut pack s′ id ≡ some v) ⊎ (id < floorOf (s′ .store))
+    go (inr g) b = inr (g .0)
+    go (inl h) b =
+        let k = h (b .0) (b .1) in
+        inl (ap (replyLogged pack (s′ .store .log) id) (k .0)
+        ∙ logged-stays pack (s .store .log) (s′ .store .log) id (b .0) v (k .1)
+        (ap (replyLogged pack (s .store .log) id) (sym (b .1)) ∙ e))
 
 -- and it is each reply that was given
 module _ (pack : Pack) (s : State) (m : Machine) (t : Tallies) (rs : List Reply) (inv : Inv pack s m t rs) where
@@ -242,6 +261,67 @@ module _ (pack : Pack) (s : State) (m : Machine) (t : Tallies) (rs : List Reply)
           )
           (logged-ends pack (s .store .log) id (b .0) v (ap (replyLogged pack (s .store .log) id) (sym (b .1)) ∙ e))
 
+  -- no reply to an id below the floor is added: an agent's request is booked, and no booked id is below the floor
+  module _ (slot : ℕ) (a : Agent) (held : s .slots slot ≡ some a) (r : Reply) where
+    through-adds : (code : Code) (from : Place) (p : ℕ) (onto : Result → Course) (o : Option Result) →
+        List·Memᴰ r (withAnswer (throughBlock s slot a code from p onto o .answer) rs) → List·Memᴰ r rs
+    unfolding throughBlock
+    through-adds code from p onto none h = h
+    through-adds code from p onto (some w) h = h
+
+    turn-adds : (code : Code) (x : Next) → List·Memᴰ r (withAnswer (turnOn s slot a code x .answer) rs) →
+        r .id < floorOf (turnOn s slot a code x .state .store) → List·Memᴰ r rs
+    unfolding turnOn
+    turn-adds code (goes to) h l = h
+    turn-adds code (does from p onto) h l = through-adds code from p onto (found (s .store .log) p (a .id) (a .step)) h
+    turn-adds code (says v) h l = go (List·Memᴰ·cases-cons h)
+      where
+        go : (r ≡ record { id = a .id; value = v }) ⊎ List·Memᴰ r rs → List·Memᴰ r rs
+        go (inl e) =
+            let live = inv .slots slot a held in
+            let up = inv .core .above (a .id) (live .run .request) (live .book-is) in
+            absurd (omega (arith, up, l, ap (λ (x : Reply). x .id) e))
+        go (inr m) = m
+
+  pub rule-adds : (c : Call) (r : Reply) → List·Memᴰ r (withAnswer (rule pack s c .answer) rs) →
+      r .id < floorOf (rule pack s c .state .store) → List·Memᴰ r rs
+  unfolding rule arrive again turnIn
+  rule-adds c r h l = by-kind c (kind pack s c) h l
+    where
+      arrived : (slot id : ℕ) (q : Request) (o : Option Request) →
+          List·Memᴰ r (withAnswer (arrive s slot id q o .answer) rs) → List·Memᴰ r rs
+      arrived slot id q none h = h
+      arrived slot id q (some known) h = h
+
+      retried : (slot id : ℕ) (o : Option Request) → List·Memᴰ r (withAnswer (again s slot id o .answer) rs) → List·Memᴰ r rs
+      retried slot id none h = h
+      retried slot id (some known) h = h
+
+      turned : (slot : ℕ) (o : Option Agent) → s .slots slot ≡ o → List·Memᴰ r (withAnswer (turnIn pack s slot o .answer) rs) →
+          r .id < floorOf (turnIn pack s slot o .state .store) → List·Memᴰ r rs
+      turned slot none e h l = h
+      turned slot (some a) e h l =
+          turn-adds slot a e r (codeBy pack (s .store .book (a .id))) (nextOf (codeBy pack (s .store .book (a .id))) (a .course)) h l
+
+      by-kind : (c : Call) → Kind pack s c → List·Memᴰ r (withAnswer (rule pack s c .answer) rs) →
+          r .id < floorOf (rule pack s c .state .store) → List·Memᴰ r rs
+      by-kind c (an-arrival slot id w args) h l = arrived slot id (record { workflow = w; arguments = args }) (s .store .book id) h
+      by-kind c (a-retry slot id) h l = retried slot id (s .store .book id) h
+      by-kind c (a-turn slot) h l = turned slot (s .slots slot) refl h l
+      by-kind c (a-retire floor) h l = h
+      by-kind c (an-idle _ i) h l = subst (λ (x : List Reply). List·Memᴰ r x) (i .no-reply rs) h
+
+  -- the same of a call, accepted or refused
+  pub call-adds : (c : Call) (r : Reply) → List·Memᴰ r (withAnswer (call pack s c .answer) rs) →
+      r .id < floorOf (call pack s c .state .store) → List·Memᴰ r rs
+  unfolding call unless
+  call-adds c r = go (refusal pack s c)
+    where
+      go : (o : Option No) → List·Memᴰ r (withAnswer (unless o s (rule pack s c) .answer) rs) →
+          r .id < floorOf (unless o s (rule pack s c) .state .store) → List·Memᴰ r rs
+      go none h l = rule-adds c r h l
+      go (some n) h l = h
+
 -- ── After each list of calls ──
 
 module _ (pack : Pack) (room : ℕ) where
@@ -264,13 +344,10 @@ module _ (pack : Pack) (room : ℕ) where
   list-booked [] id h = no-yes h
   list-booked (c ∷ calls) id h = go (call-was pack (at calls) c id h) (list-booked calls id)
     where
-      still : Booked (at calls) id → Booked (call pack (at calls) c .state) id
-      still b = (b .0, booked-stays pack (at calls) c id (b .0) (b .1) .0)
-
-      go : (listed id (at calls .work) ≡ true) ⊎ (isSome (at calls .store .book id) ≡ true) →
+      go : (listed id (at calls .work) ≡ true) ⊎ (isSome (call pack (at calls) c .state .store .book id) ≡ true) →
           (listed id (at calls .work) ≡ true → Booked (at calls) id) → Booked (call pack (at calls) c .state) id
-      go (inl l) rec = still (rec l)
-      go (inr l) rec = still (is-some (at calls .store .book id) l)
+      go (inl l) rec = let b = rec l in (b .0, call-remains pack (at calls) c id l (b .0) (b .1))
+      go (inr l) rec = is-some (call pack (at calls) c .state .store .book id) l
 
   -- what a restart leaves of the list: all waiting, the ids as before
   restart-list : (calls : History) → workAfter pack room (restart ∷ calls) ≡ restarted (workAfter pack room calls)
@@ -287,19 +364,44 @@ module _ (pack : Pack) (room : ℕ) where
 
   -- ── What can be worked out from the log ──
 
-  module _ (calls : History) (id : ℕ) (v : Result) (worked : workedOut pack (at calls) id ≡ some v) where
-    -- it is each reply that was given, and it stays
-    worked-reply : (r : Reply) → List·Memᴰ r (repliesAfter pack room calls) → r .id ≡ id → r .value ≡ v
-    worked-reply =
+  module _ (id : ℕ) (v : Result) where
+    -- each reply that was given to the id is this
+    abbrev EachIs : History → Type 0
+    EachIs calls = (r : Reply) → List·Memᴰ r (repliesAfter pack room calls) → r .id ≡ id → r .value ≡ v
+
+    -- it can be worked out, or the request has been retired
+    abbrev Still : History → Type 0
+    Still calls = (workedOut pack (at calls) id ≡ some v) ⊎ (id < floorAfter pack room calls)
+
+    -- what can be worked out is each reply that was given
+    worked-reply : (calls : History) → workedOut pack (at calls) id ≡ some v → EachIs calls
+    worked-reply calls worked =
         worked-is-reply pack (at calls) (machineAfter pack room calls) (talliesAfter pack room calls) (repliesAfter pack room calls)
         (invariant pack room calls) id v worked
 
-    worked-still : (later : History) → workedOut pack (at (later ++ calls)) id ≡ some v
-    unfolding stateAfter
-    worked-still [] = worked
-    worked-still (c ∷ later) =
-        worked-stays pack (at (later ++ calls)) (call pack (at (later ++ calls)) c .state) (booked-stays pack (at (later ++ calls)) c) id v
-        (worked-still later)
+    -- one call more
+    module _ (calls : History) (c : Call) where
+      stays : Stays (at calls .store) (call pack (at calls) c .state .store)
+      stays = booked-stays pack (at calls) c (λ floor e. invariant pack room calls .core .above)
+
+      still-on : Still calls → Still (c ∷ calls)
+      unfolding stateAfter
+      still-on (inl w) = worked-stays pack (at calls) (call pack (at calls) c .state) stays id v w
+      still-on (inr l) = let up = stays .rises in inr (omega arith)
+
+      -- it is still each reply that was given
+      each-on : EachIs calls → Still (c ∷ calls) → EachIs (c ∷ calls)
+      unfolding stateAfter eventsAfter repliesOf
+      each-on known (inl w) = worked-reply (c ∷ calls) w
+      each-on known (inr l) =
+          λ r h e.
+          known r
+          (call-adds pack (at calls) (machineAfter pack room calls) (talliesAfter pack room calls) (repliesAfter pack room calls)
+          (invariant pack room calls) c r h (omega (arith, l, e))) e
+
+    worked-still : (calls later : History) → Still calls → Still (later ++ calls)
+    worked-still calls [] w = w
+    worked-still calls (c ∷ later) w = still-on (later ++ calls) c (worked-still calls later w)
 
   -- ── No listed request vanishes ──
 
@@ -315,7 +417,7 @@ module _ (pack : Pack) (room : ℕ) where
     taken-off later c (inl h) = inl h
     taken-off later c (inr h) =
         let v = h .2 in
-        let still = worked-still (later ++ before) id v (h .3) (c ∷ []) in
+        let still = still-on id v (later ++ before) c (inl (h .3)) in
         inr
         (record {
           since = [];
@@ -325,13 +427,13 @@ module _ (pack : Pack) (room : ℕ) where
           value = v;
           worked-out = h .3;
           still = still;
-          is-reply = worked-reply (c ∷ later ++ before) id v still;
+          is-reply = each-on id v (later ++ before) c (worked-reply id v (later ++ before) (h .3)) still;
         })
 
     -- it was taken off before the latest call
     was-off : (later : History) (c : Call) → TakenOff pack room before later id → TakenOff pack room before (c ∷ later) id
     was-off later c o =
-        let still = worked-still (later ++ before) id (o .value) (o .still) (c ∷ []) in
+        let still = still-on id (o .value) (later ++ before) c (o .still) in
         record {
           since = c ∷ o .since;
           upto = o .upto;
@@ -340,7 +442,7 @@ module _ (pack : Pack) (room : ℕ) where
           value = o .value;
           worked-out = o .worked-out;
           still = still;
-          is-reply = worked-reply (c ∷ later ++ before) id (o .value) still;
+          is-reply = each-on id (o .value) (later ++ before) c (o .is-reply) still;
         }
 
     fate : (later : History) → Fate later
@@ -365,4 +467,7 @@ listing pack room calls =
 -- and what a reading call relies on
 pub reading : (pack : Pack) (room : ℕ) (calls : History) → Reading pack room calls
 reading pack room calls =
-    record { worked = worked-reply pack room calls; still = λ later id v e. worked-still pack room calls id v e later }
+    record {
+      worked = λ id v. worked-reply pack room id v calls;
+      still = λ later id v e. worked-still pack room id v calls later (inl e);
+    }

@@ -1,4 +1,4 @@
--- The two blocks of MOVE: where an agent of it stands before each, and what each puts.
+-- The two blocks of MOVE: where an agent of it stands before each, what each puts, and that a request with a reply has both logged.
 use mathlib.Core.Path.{_≡_, refl, sym, _∙_, ap, subst}
 use mathlib.Core.Logic.{_⊎_, inl, inr}
 use mathlib.Core.List.{[], _∷_}
@@ -59,14 +59,16 @@ module _ (log : Log) (id workflow a0 a1 a2 a3 : ℕ) where
   unfolding follow nextOf nextBy actAt act behind passed afterBlock
   after-3 v e = rw e refl
 
+  -- both blocks have their log row
+  abbrev BothLogged : Type 0
+  BothLogged = (v : ℕ) × (w : ℕ) × (found log 0 id 0 ≡ some (yields v)) × (found log 1 id 1 ≡ some (yields w))
+
   -- who has come to three moves has both in the log
-  both-logged : (c : Course) (t : ℕ) → stage 3 ≡ some (at c t) →
-      (v : ℕ) × (w : ℕ) × (found log 0 id 0 ≡ some (yields v)) × (found log 1 id 1 ≡ some (yields w))
+  both-logged : (c : Course) (t : ℕ) → stage 3 ≡ some (at c t) → BothLogged
   unfolding behind
   both-logged c t e = go (found log 0 id 0) (found log 1 id 1) refl refl
     where
-      go : (o u : Option Result) → found log 0 id 0 ≡ o → found log 1 id 1 ≡ u →
-          (v : ℕ) × (w : ℕ) × (found log 0 id 0 ≡ some (yields v)) × (found log 1 id 1 ≡ some (yields w))
+      go : (o u : Option Result) → found log 0 id 0 ≡ o → found log 1 id 1 ≡ u → BothLogged
       go none u f g =
           let b = follow-before log id MOVE asked 2 (at c t) e in
           none-some (at (b .0) (b .1)) (after-2 ∙ ap (behind (passed MOVE beforeFirst) 0) f) (b .2)
@@ -147,3 +149,28 @@ module _ (log : Log) (id workflow a0 a1 a2 a3 : ℕ) where
       go : (4 ≡ suc (suc (suc (suc n)))) ⊎ (4 < suc (suc (suc (suc n)))) → ⊥
       go (inl h) = ends c t (subst (λ k. stage k ≡ some (at c t)) (sym h) e)
       go (inr l) = let b = follow-below log id MOVE asked (suc (suc (suc (suc n)))) (at c t) 4 l e in ends (b .0) (b .1) (b .2)
+
+  -- behind a block there is no reply yet
+  no-reply : (onto : Result → Course) (t : ℕ) (o : Option Result) (r : Result) → behind onto t o ≡ some (finished r) → ⊥
+  unfolding behind
+  no-reply onto t none r e = none-some (finished r) refl e
+  no-reply onto t (some v) r e = absurd (let z : _≡_ {A = ℕ} 0 1 = cc in omega arith)
+
+  -- nor behind both, by what the first one's log row says
+  not-at-three : (r : Result) → stage 3 ≡ some (finished r) → (o : Option Result) → found log 0 id 0 ≡ o → ⊥
+  unfolding behind
+  not-at-three r e none f =
+      let b = follow-before log id MOVE asked 2 (finished r) e in
+      none-some (at (b .0) (b .1)) (after-2 ∙ ap (behind (passed MOVE beforeFirst) 0) f) (b .2)
+  not-at-three r e (some (yields v)) f = no-reply (passed MOVE (beforeSecond v)) 1 (found log 1 id 1) r (sym (after-3 v f) ∙ e)
+
+  -- who has come to the reply has both in the log
+  pub replied-both : (moves : ℕ) (r : Result) → stage moves ≡ some (finished r) → BothLogged
+  unfolding follow
+  replied-both zero r e = absurd (let z : _≡_ {A = ℕ} 0 1 = cc in omega arith)
+  replied-both (suc zero) r e = absurd (let h = sym after-1 ∙ e in let z : _≡_ {A = ℕ} 0 1 = cc in omega arith)
+  replied-both (suc (suc zero)) r e = absurd (no-reply (passed MOVE beforeFirst) 0 (found log 0 id 0) r (sym after-2 ∙ e))
+  replied-both (suc (suc (suc zero))) r e = absurd (not-at-three r e (found log 0 id 0) refl)
+  replied-both (suc (suc (suc (suc n)))) r e =
+      let b = follow-below log id MOVE asked (suc (suc (suc (suc n)))) (finished r) 3 (omega arith) e in
+      both-logged (b .0) (b .1) (b .2)

@@ -6,21 +6,23 @@ use mathlib.Core.Logic.{_⊎_, inl, inr, ⊎-elim}
 use mathlib.Core.Option.{Option, none, some, Option·some-injective}
 use Prim.Native.Nat.{ℕ, _<_}
 use borrow.Author.Tests.{lt-ltb, eqb-true, eqb-false}
-use lib.Dec.{eqb}
+use lib.Dec.{eqb, ltb}
 use Rattle.questions.specs.Questions.{No, number, ask}
 use Rattle.rules.specs.Instructions.{Code, Pack, Place}
 use Rattle.rules.specs.Blocks.{Result}
 use Rattle.rules.specs.Courses.{Course, Next, goes, does, says, nextOf}
 use Rattle.rules.specs.Store.{Request, Store, sought, found}
 use Rattle.rules.specs.Calls.{Agent, State, Call, arrival, retry, turn, crash, restart, order, stopped, codeBy}
-use Rattle.rules.specs.Calls.{listAdd, listTake, listDone}
+use Rattle.rules.specs.Calls.{listAdd, listTake, listDone, retire}
 use Rattle.rules.specs.Calls.{refusal, rule, arrive, again, throughBlock, turnOn, turnIn, unless, call, History, stateAfter}
-use Rattle.rules.specs.Plain.{machineAfter}
+use Rattle.rules.specs.Plain.{machineOf, eventsAfter, talliesAfter, machineAfter, repliesAfter}
 use Rattle.rules.specs.RequestZero.{zeroNo, RequestZero, NoZero}
 use Rattle.questions.proofs.Updates.{none-some, false-true, update-other}
 use Rattle.questions.proofs.Questions.{ask-none}
 use Rattle.rules.proofs.Replies.{replyTo}
-use Rattle.rules.proofs.ByFeed.{Kind, an-arrival, a-retry, a-turn, an-idle, kind}
+use Rattle.rules.proofs.ByFeed.{Kind, an-arrival, a-retry, a-turn, a-retire, an-idle, kind}
+use Rattle.rules.proofs.Retire.{none-there}
+use Rattle.rules.proofs.NotBooked.{run-same}
 use Rattle.rules.proofs.Theorem.{invariant}
 
 -- ── the questions ──
@@ -64,7 +66,7 @@ module _ (pack : Pack) (s : State) where
   nobody-else (arrival slot id w args) e =
       ⊎-elim
       (λ z. inl (slot, w, args, ap (λ n. arrival slot n w args) z))
-      (λ q. none-some (number 24) refl (behind 19 _ _ refl (behind 18 _ _ refl (behind 17 _ _ refl q))))
+      (λ q. none-some (number 24) refl (behind 19 _ _ refl (behind 18 _ _ refl (behind 17 _ _ refl (behind 30 _ _ refl q)))))
       (at-24 id _ (behind 16 _ _ refl (behind 15 _ _ refl e)))
   nobody-else (retry slot id) e = none-some (number 24) refl (behind 20 _ _ refl (behind 16 _ _ refl (behind 15 _ _ refl e)))
   nobody-else (turn slot) e = none-some (number 24) refl (behind 21 _ _ refl (behind 16 _ _ refl (behind 15 _ _ refl e)))
@@ -74,6 +76,7 @@ module _ (pack : Pack) (s : State) where
   nobody-else (listAdd id) e = none-some (number 24) refl (behind 20 _ _ refl (behind 26 _ _ refl (behind 25 _ _ refl e)))
   nobody-else listTake e = none-some (number 24) refl (behind 27 _ _ refl (behind 25 _ _ refl e))
   nobody-else (listDone id) e = none-some (number 24) refl (behind 27 _ _ refl (behind 25 _ _ refl e))
+  nobody-else (retire floor) e = none-some (number 24) refl (behind 29 _ _ refl (behind 28 _ _ refl (behind 25 _ _ refl e)))
   nobody-else (stopped n) e = inr (ap stopped (Option·some-injective n (number 24) e))
 
   -- ── the book ──
@@ -112,6 +115,7 @@ module _ (pack : Pack) (s : State) where
           (not-zero id (ask-none _ _ _ (ask-none _ _ _ (ask-none _ _ _ allow .1) .1) .0)) (s .store .book id)
       by-kind c (a-retry slot id) allow = again-started slot id (s .store .book id)
       by-kind c (a-turn slot) allow = turned slot (s .slots slot)
+      by-kind c (a-retire floor) allow = none-there (ltb 0 floor) (s .store .book 0) free
       by-kind c (an-idle _ i) allow = ap (λ (st : Store). st .book 0) (i .store-left) ∙ free
 
   books-no-new : (c : Call) → s .store .book 0 ≡ none → call pack s c .state .store .book 0 ≡ none
@@ -141,11 +145,20 @@ module _ (pack : Pack) (room : ℕ) where
   not-booked [] = refl
   not-booked (c ∷ before) = books-no-new pack (stateAfter pack room before) c (not-booked before)
 
+  no-run : (calls : History) → machineAfter pack room calls .runs 0 ≡ none
+  unfolding eventsAfter machineOf
+  no-run [] = refl
+  no-run (c ∷ before) =
+      run-same pack (stateAfter pack room before) (machineAfter pack room before) (talliesAfter pack room before)
+      (repliesAfter pack room before) (invariant pack room before) 0 (not-booked before)
+      (none-accepted pack (stateAfter pack room before)) c
+      ∙ no-run before
+
   -- The plain run books no new 0.
   pub no-zero : (calls : History) → NoZero pack room calls
   no-zero calls =
       let core = invariant pack room calls .core in
-      let run = core .unbooked 0 (not-booked calls) in
+      let run = no-run calls in
       record {
         run = run;
         book = not-booked calls;

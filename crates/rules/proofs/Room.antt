@@ -1,5 +1,5 @@
 -- W-202, room for a request: one that found its figures of rows free has room for each block, whatever calls are made, as long as no
--- other request's block runs.
+-- other request's block runs; and once it is retired, no agent of it stands again.
 use mathlib.Core.Bool.{Bool, true, false}
 use mathlib.Core.Path.{_≡_, refl, sym, _∙_, ap, subst}
 use mathlib.Core.Logic.{_⊎_, inl, inr}
@@ -8,20 +8,20 @@ use Prim.Native.Nat.{ℕ, zero, suc, _+_, _-_, _≤_, _<_}
 use native.Mathlib.Nat.{add-zero}
 use native.Mathlib.Omega.{arith}
 use native.Mathlib.Decide.{ℕ-discrete, decLt}
-use borrow.Author.Tests.{le-leb}
-use lib.Dec.{eqb}
+use borrow.Author.Tests.{le-leb, ltb-true}
+use lib.Dec.{eqb, ltb, nltb→le}
 use lib.ListN.{length}
 use Rattle.questions.specs.Basics.{if_then_else_, update}
 use Rattle.rules.specs.Instructions.{Code, Pack, Place, BEGIN, instructionAt}
 use Rattle.rules.specs.Shapes.{outside}
 use Rattle.rules.specs.Blocks.{Result, Block, runBlock, rowsNeeded}
 use Rattle.rules.specs.Courses.{Course, Next, goes, does, says, nextOf}
-use Rattle.rules.specs.Store.{Request, Log, Store, found, withRow}
+use Rattle.rules.specs.Store.{Request, Log, Store, found, withRow, written, bookRetired, retired}
 use Rattle.rules.specs.Store as Stores
 use Rattle.rules.specs.Logged.{requestCode, start, at, behind, byNext, follow}
 use Rattle.rules.specs.Worklist.{Worklist}
-use Rattle.rules.specs.Calls.{codeBy, Agent, State, Call, turn, withStore, withSlot, started, arrive, again, movesTo, throughBlock}
-use Rattle.rules.specs.Calls.{turnOn, turnIn, canWrite, canDo, canTurn, rule}
+use Rattle.rules.specs.Calls.{codeBy, Agent, State, Call, turn, retire, withStore, withSlot, started, arrive, again, movesTo}
+use Rattle.rules.specs.Calls.{throughBlock, turnOn, turnIn, canWrite, canDo, canTurn, refusal, rule}
 use Rattle.rules.specs.Checked.{sideAt, Checked}
 use Rattle.rules.specs.Routes.{Route, putsOn, byRows, countOn}
 use Rattle.rules.specs.Room.{FindsRoom, NoOther}
@@ -29,8 +29,10 @@ use Rattle.questions.proofs.Updates.{none-some, le-cases, eqb-same, eqb-cases, 
 use Rattle.rules.proofs.Follow.{Free, Grows, free-none, row-grows, row-later, row-here, follow-stays, follow-before, follow-below}
 use Rattle.rules.proofs.Follow.{follow-next}
 use Rattle.rules.proofs.Positions.{does-begins, does-forward, follow-position}
-use Rattle.rules.proofs.ByFeed.{Idle, Kind, an-arrival, a-retry, a-turn, an-idle, kind}
-use Rattle.rules.proofs.ByLog.{not-found}
+use Rattle.questions.proofs.Questions.{ask-none}
+use Rattle.rules.proofs.Retire.{log-same, log-grows, retire-asked, slot-stays}
+use Rattle.rules.proofs.ByFeed.{Idle, Kind, an-arrival, a-retry, a-turn, a-retire, an-idle, kind}
+use Rattle.rules.proofs.Changes.{change, change-stays, from-floor, AboveFor, Gone, not-found, retired-remains, retired-gone}
 use Rattle.rules.proofs.Taken.{PutsAtLeast, block-way, some-route, Makes, perBlock, begins-here, block-makes, move-makes}
 
 -- each BEGIN's partition is below P
@@ -109,13 +111,18 @@ module _ (pack : Pack) (P id : ℕ) (q : Request) (checked : Checked (requestCod
   abbrev code : Code
   code = requestCode pack q
 
-  -- an agent stands where the log leads the request
-  abbrev Led : Log → Agent → Type 0
-  Led log a = (n : ℕ) × (follow log id code q n ≡ some (at (a .course) (a .step)))
+  -- an agent stands in one of the eight slots, where the log leads the request
+  abbrev Led : Log → (slot : ℕ) → Agent → Type 0
+  Led log slot a = (slot < 8) × (n : ℕ) × (follow log id code q n ≡ some (at (a .course) (a .step)))
+
+  -- and so it does by a longer log
+  led-on : (log log′ : Log) → Grows log log′ id → (slot : ℕ) (a : Agent) → Led log slot a → Led log′ slot a
+  led-on log log′ grows slot a x =
+      (x .0, x .1, follow-stays log log′ id code q (x .1) (at (a .course) (a .step)) grows (x .2))
 
   -- The request is booked, and its log leads it this far: no row of this step and of later ones; in each partition the rows of any route
   -- from here are free; and its agents stand where the log leads.
-  pub record HasRoom (s : State) : Type 0 where
+  pub record InBook (s : State) : Type 0 where
     booked : s .store .book id ≡ some q
     far : ℕ
     course : Course
@@ -124,12 +131,25 @@ module _ (pack : Pack) (P id : ℕ) (q : Request) (checked : Checked (requestCod
     unlogged : (p u : ℕ) → p < P → step ≤ u → Free (s .store .log) p id u
     room : (p : ℕ) → p < P → (r : Route code (course .place .position)) →
         s .store .used p + countOn (byRows p) code _ r ≤ s .store .room
-    agents : (slot : ℕ) (a : Agent) → s .slots slot ≡ some a → a .id ≡ id → Led (s .store .log) a
+    agents : (slot : ℕ) (a : Agent) → s .slots slot ≡ some a → a .id ≡ id → Led (s .store .log) slot a
+
+  -- no agent of it is in a slot
+  abbrev pub Nobody : State → Type 0
+  Nobody s = (slot : ℕ) (a : Agent) → s .slots slot ≡ some a → a .id ≡ id → ⊥
+
+  -- the request has been retired, and nobody is there who could go on with it
+  pub record Retired (s : State) : Type 0 where
+    gone : Gone (s .store) id
+    nobody : Nobody s
+
+  -- The request has room for each block that is still ahead of it.
+  abbrev pub HasRoom : State → Type 0
+  HasRoom s = InBook s ⊎ Retired s
 
   -- other agents in the slots, and any worklist
-  with-slots : (s : State) → HasRoom s → (slots : ℕ → Option Agent) (work : Worklist) →
-      ((slot : ℕ) (a : Agent) → slots slot ≡ some a → a .id ≡ id → Led (s .store .log) a) →
-      HasRoom (record { store = s .store; slots = slots; work = work })
+  with-slots : (s : State) → InBook s → (slots : ℕ → Option Agent) (work : Worklist) →
+      ((slot : ℕ) (a : Agent) → slots slot ≡ some a → a .id ≡ id → Led (s .store .log) slot a) →
+      InBook (record { store = s .store; slots = slots; work = work })
   with-slots s h slots work g =
       record {
         booked = h .booked;
@@ -142,52 +162,53 @@ module _ (pack : Pack) (P id : ℕ) (q : Request) (checked : Checked (requestCod
         agents = g;
       }
 
-  in-slot : (s : State) → HasRoom s → (slot : ℕ) (o : Option Agent) →
-      ((a : Agent) → o ≡ some a → a .id ≡ id → Led (s .store .log) a) → HasRoom (withSlot s slot o)
+  in-slot : (s : State) → InBook s → (slot : ℕ) (o : Option Agent) →
+      ((a : Agent) → o ≡ some a → a .id ≡ id → Led (s .store .log) slot a) → InBook (withSlot s slot o)
   in-slot s h slot o g =
       with-slots s h (update (s .slots) slot o) (s .work)
-      (update-each (s .slots) slot o (λ j a. a .id ≡ id → Led (s .store .log) a) g (λ j a n e. h .agents j a e))
+      (update-each (s .slots) slot o (λ j a. a .id ≡ id → Led (s .store .log) j a) g (λ j a n e. h .agents j a e))
 
   -- nobody, an agent of the request, one of another
-  slot-emptied : (s : State) → HasRoom s → (slot : ℕ) → HasRoom (withSlot s slot none)
+  slot-emptied : (s : State) → InBook s → (slot : ℕ) → InBook (withSlot s slot none)
   slot-emptied s h slot = in-slot s h slot none (λ a e. none-some a refl e)
 
-  its-own : (log : Log) (b : Agent) → Led log b → (a : Agent) → some b ≡ some a → a .id ≡ id → Led log a
-  its-own log b l a e f = subst (Led log) (Option·some-injective b a e) l
+  its-own : (log : Log) (slot : ℕ) (b : Agent) → Led log slot b → (a : Agent) → some b ≡ some a → a .id ≡ id → Led log slot a
+  its-own log slot b l a e f = subst (Led log slot) (Option·some-injective b a e) l
 
-  another : (log : Log) (b : Agent) → (b .id ≡ id → ⊥) → (a : Agent) → some b ≡ some a → a .id ≡ id → Led log a
-  another log b n a e f = absurd (n (ap (λ (x : Agent). x .id) (Option·some-injective b a e) ∙ f))
+  another : (log : Log) (slot : ℕ) (b : Agent) → (b .id ≡ id → ⊥) → (a : Agent) → some b ≡ some a → a .id ≡ id → Led log slot a
+  another log slot b n a e f = absurd (n (ap (λ (x : Agent). x .id) (Option·some-injective b a e) ∙ f))
 
   -- ── a turn of an agent of another request ──
 
-  module _ (s : State) (h : HasRoom s) (slot : ℕ) (a : Agent) (its : Code) (other : a .id ≡ id → ⊥) where
+  module _ (s : State) (h : InBook s) (slot : ℕ) (a : Agent) (its : Code) (other : a .id ≡ id → ⊥) where
     other-turn : (x : Next) →
         ((from : Place) (p : ℕ) (onto : Result → Course) → x ≡ does from p onto → found (s .store .log) p (a .id) (a .step) ≡ none → ⊥) →
-        HasRoom (turnOn s slot a its x .state)
+        InBook (turnOn s slot a its x .state)
     unfolding turnOn throughBlock
     other-turn (says r) k = slot-emptied s h slot
-    other-turn (goes to) k = in-slot s h slot _ (another (s .store .log) _ other)
+    other-turn (goes to) k = in-slot s h slot _ (another (s .store .log) _ _ other)
     other-turn (does from p onto) k = go (found (s .store .log) p (a .id) (a .step)) refl
       where
-        go : (o : Option Result) → found (s .store .log) p (a .id) (a .step) ≡ o → HasRoom (throughBlock s slot a its from p onto o .state)
+        go : (o : Option Result) → found (s .store .log) p (a .id) (a .step) ≡ o → InBook (throughBlock s slot a its from p onto o .state)
         go none e = absurd (k from p onto refl e)
-        go (some r) e = in-slot s h slot _ (another (s .store .log) _ other)
+        go (some r) e = in-slot s h slot _ (another (s .store .log) _ _ other)
 
   -- ── a turn of an agent of the request ──
 
   abbrev agentAt : Course → (step : ℕ) → Agent
   agentAt c t = record { id = id; course = c; step = t }
 
-  module _ (s : State) (h : HasRoom s) (slot : ℕ) (c : Course) (t n : ℕ) (f : follow (s .store .log) id code q n ≡ some (at c t)) where
+  module _ (s : State) (h : InBook s) (slot : ℕ) (low : slot < 8) (c : Course) (t n : ℕ)
+      (f : follow (s .store .log) id code q n ≡ some (at c t)) where
     place-is : (n ≤ c .place .position) × (c .place .position < length code) × (sideAt code (c .place .position) ≡ outside)
         × (t ≤ c .place .position)
     place-is = follow-position code checked (s .store .log) id q n c t f
 
     own-moves : (to : Course) (t′ : ℕ) (x : Next) → nextOf code c ≡ x → byNext (s .store .log) id t x ≡ some (at to t′) →
-        HasRoom (movesTo s slot (agentAt c t) to t′ .state)
+        InBook (movesTo s slot (agentAt c t) to t′ .state)
     own-moves to t′ x o e =
         in-slot s h slot _
-        (its-own (s .store .log) _ (suc n, follow-next (s .store .log) id code q n c t x (some (at to t′)) f o e))
+        (its-own (s .store .log) _ _ (low, suc n, follow-next (s .store .log) id code q n c t x (some (at to t′)) f o e))
 
     -- a block that isn't logged
     module _ (from : Place) (p : ℕ) (onto : Result → Course) (o : nextOf code c ≡ does from p onto)
@@ -275,7 +296,7 @@ module _ (pack : Pack) (P id : ℕ) (q : Request) (checked : Checked (requestCod
       room-after k l r =
           subst (λ x. x + countOn (byRows k) code (to .place .position) r ≤ s .store .room) (sym (used-after k)) (takes k l r)
 
-      block-keeps : HasRoom (throughBlock s slot (agentAt c t) code from p onto none .state)
+      block-keeps : InBook (throughBlock s slot (agentAt c t) code from p onto none .state)
       unfolding throughBlock
       block-keeps =
           record {
@@ -287,20 +308,18 @@ module _ (pack : Pack) (P id : ℕ) (q : Request) (checked : Checked (requestCod
             unlogged = λ k u i l. row-later (s .store .log) p id t (b .result) k u l (h .unlogged k u i (omega (arith, furthest .0)));
             room = room-after;
             agents =
-                update-each (s .slots) slot (some (agentAt to (suc t))) (λ j a. a .id ≡ id → Led log′ a)
-                (its-own log′ (agentAt to (suc t)) (suc n, next-stage))
-                (λ j a m e g.
-                let x = h .agents j a e g in
-                (x .0, follow-stays (s .store .log) log′ id code q (x .0) (at (a .course) (a .step)) grows (x .1)));
+                update-each (s .slots) slot (some (agentAt to (suc t))) (λ j a. a .id ≡ id → Led log′ j a)
+                (its-own log′ slot (agentAt to (suc t)) (low, suc n, next-stage))
+                (λ j a m e g. led-on (s .store .log) log′ grows j a (h .agents j a e g));
           }
 
-    own-turn : (x : Next) → nextOf code c ≡ x → HasRoom (turnOn s slot (agentAt c t) code x .state)
+    own-turn : (x : Next) → nextOf code c ≡ x → InBook (turnOn s slot (agentAt c t) code x .state)
     unfolding turnOn
     own-turn (says r) o = slot-emptied s h slot
     own-turn (goes to) o = own-moves to t (goes to) o refl
     own-turn (does from p onto) o = go (found (s .store .log) p id t) refl
       where
-        go : (l : Option Result) → found (s .store .log) p id t ≡ l → HasRoom (throughBlock s slot (agentAt c t) code from p onto l .state)
+        go : (l : Option Result) → found (s .store .log) p id t ≡ l → InBook (throughBlock s slot (agentAt c t) code from p onto l .state)
         go none e = block-keeps from p onto o e
         go (some r) e = unfold throughBlock in own-moves (onto r) (suc t) (does from p onto) o (unfold behind in ap (behind onto t) e)
 
@@ -317,9 +336,9 @@ module _ (pack : Pack) (P id : ℕ) (q : Request) (checked : Checked (requestCod
 
   -- ── the calls ──
 
-  module _ (s : State) (h : HasRoom s) where
+  module _ (s : State) (h : InBook s) where
     -- another request is booked
-    books-other : (j : ℕ) (r : Request) → (j ≡ id → ⊥) → HasRoom (withStore s (Stores.booked (s .store) j r))
+    books-other : (j : ℕ) (r : Request) → (j ≡ id → ⊥) → InBook (withStore s (Stores.booked (s .store) j r))
     books-other j r n =
         record {
           booked = update-other (s .store .book) j (some r) id (λ e. n (sym e)) ∙ h .booked;
@@ -332,31 +351,32 @@ module _ (pack : Pack) (P id : ℕ) (q : Request) (checked : Checked (requestCod
           agents = h .agents;
         }
 
-    starts-own : (slot j : ℕ) → HasRoom (started s slot j q)
+    starts-own : (slot j : ℕ) → slot < 8 → InBook (started s slot j q)
     unfolding follow
-    starts-own slot j = in-slot s h slot _ (its-own (s .store .log) _ (0, refl))
+    starts-own slot j low = in-slot s h slot _ (its-own (s .store .log) _ _ (low, 0, refl))
 
-    starts-other : (slot j : ℕ) (r : Request) → (j ≡ id → ⊥) → HasRoom (started s slot j r)
-    starts-other slot j r n = in-slot s h slot _ (another (s .store .log) _ n)
+    starts-other : (slot j : ℕ) (r : Request) → (j ≡ id → ⊥) → InBook (started s slot j r)
+    starts-other slot j r n = in-slot s h slot _ (another (s .store .log) _ _ n)
 
     -- a booked request starts
-    starts : (slot j : ℕ) (r : Request) → s .store .book j ≡ some r → Dec (j ≡ id) → HasRoom (started s slot j r)
-    starts slot j r e (yes i) =
+    starts : (slot j : ℕ) → slot < 8 → (r : Request) → s .store .book j ≡ some r → Dec (j ≡ id) → InBook (started s slot j r)
+    starts slot j low r e (yes i) =
         let same = Option·some-injective q r (sym (ap (s .store .book) i ∙ h .booked) ∙ e) in
-        subst (λ (x : Request). HasRoom (started s slot j x)) same (starts-own slot j)
-    starts slot j r e (no n) = starts-other slot j r n
+        subst (λ (x : Request). InBook (started s slot j x)) same (starts-own slot j low)
+    starts slot j low r e (no n) = starts-other slot j r n
 
-    arrival-keeps : (slot j : ℕ) (r : Request) (o : Option Request) → s .store .book j ≡ o → HasRoom (arrive s slot j r o .state)
+    arrival-keeps : (slot j : ℕ) → slot < 8 → (r : Request) (o : Option Request) → s .store .book j ≡ o →
+        InBook (arrive s slot j r o .state)
     unfolding arrive
-    arrival-keeps slot j r (some known) e = starts slot j known e (ℕ-discrete j id)
-    arrival-keeps slot j r none e =
+    arrival-keeps slot j low r (some known) e = starts slot j low known e (ℕ-discrete j id)
+    arrival-keeps slot j low r none e =
         let n : j ≡ id → ⊥ = λ i. none-some q e (ap (s .store .book) i ∙ h .booked) in
-        in-slot (withStore s (Stores.booked (s .store) j r)) (books-other j r n) slot _ (another (s .store .log) _ n)
+        in-slot (withStore s (Stores.booked (s .store) j r)) (books-other j r n) slot _ (another (s .store .log) _ _ n)
 
-    retry-keeps : (slot j : ℕ) (o : Option Request) → s .store .book j ≡ o → HasRoom (again s slot j o .state)
+    retry-keeps : (slot j : ℕ) → slot < 8 → (o : Option Request) → s .store .book j ≡ o → InBook (again s slot j o .state)
     unfolding again
-    retry-keeps slot j none e = h
-    retry-keeps slot j (some known) e = starts slot j known e (ℕ-discrete j id)
+    retry-keeps slot j low none e = h
+    retry-keeps slot j low (some known) e = starts slot j low known e (ℕ-discrete j id)
 
     code-is : (a : Agent) → a .id ≡ id → codeBy pack (s .store .book (a .id)) ≡ code
     code-is a e = ap (codeBy pack) (ap (s .store .book) e ∙ h .booked)
@@ -364,7 +384,7 @@ module _ (pack : Pack) (P id : ℕ) (q : Request) (checked : Checked (requestCod
     agent-is : (a : Agent) → a .id ≡ id → agentAt (a .course) (a .step) ≡ a
     agent-is a e = λ i. record { id = sym e i; course = a .course; step = a .step }
 
-    turn-keeps : (slot : ℕ) → NoOther pack id s (turn slot) → (o : Option Agent) → s .slots slot ≡ o → HasRoom (turnIn pack s slot o .state)
+    turn-keeps : (slot : ℕ) → NoOther pack id s (turn slot) → (o : Option Agent) → s .slots slot ≡ o → InBook (turnIn pack s slot o .state)
     unfolding turnIn
     turn-keeps slot alone none e = h
     turn-keeps slot alone (some a) e = go (ℕ-discrete (a .id) id)
@@ -372,12 +392,12 @@ module _ (pack : Pack) (P id : ℕ) (q : Request) (checked : Checked (requestCod
         its : Code
         its = codeBy pack (s .store .book (a .id))
 
-        go : Dec (a .id ≡ id) → HasRoom (turnOn s slot a its (nextOf its (a .course)) .state)
+        go : Dec (a .id ≡ id) → InBook (turnOn s slot a its (nextOf its (a .course)) .state)
         go (yes i) =
             let x = h .agents slot a e i in
-            subst (λ (y : Code). HasRoom (turnOn s slot a y (nextOf y (a .course)) .state)) (sym (code-is a i))
-            (subst (λ (y : Agent). HasRoom (turnOn s slot y code (nextOf code (a .course)) .state)) (agent-is a i)
-            (own-turn s h slot (a .course) (a .step) (x .0) (x .1) (nextOf code (a .course)) refl))
+            subst (λ (y : Code). InBook (turnOn s slot a y (nextOf y (a .course)) .state)) (sym (code-is a i))
+            (subst (λ (y : Agent). InBook (turnOn s slot y code (nextOf code (a .course)) .state)) (agent-is a i)
+            (own-turn s h slot (x .0) (a .course) (a .step) (x .1) (x .2) (nextOf code (a .course)) refl))
         go (no n) =
             other-turn s h slot a its n (nextOf its (a .course))
             (λ from p onto o l.
@@ -395,39 +415,150 @@ module _ (pack : Pack) (P id : ℕ) (q : Request) (checked : Checked (requestCod
               not-logged = l;
             })))
 
-    idle-keeps : (c : Call) → Idle pack s c → HasRoom (rule pack s c .state)
+    idle-keeps : (c : Call) → Idle pack s c → InBook (rule pack s c .state)
     idle-keeps c i =
-        subst (λ (st : Store). HasRoom (withStore (rule pack s c .state) st)) (sym (i .store-left))
+        subst (λ (st : Store). InBook (withStore (rule pack s c .state) st)) (sym (i .store-left))
         (with-slots s h (rule pack s c .state .slots) (rule pack s c .state .work) (λ slot a e. h .agents slot a (i .slots-left slot a e)))
 
-    -- What a call does keeps the room, if no other request's block runs in it.
-    pub rule-keeps : (c : Call) → NoOther pack id s c → HasRoom (rule pack s c .state)
-    unfolding rule
-    rule-keeps c alone = by-kind c (kind pack s c) alone
+    -- A retire frees rows, and leaves those of the request; or it retires the request, when no agent of it is in a slot.
+    retire-keeps : (floor : ℕ) → refusal pack s (retire floor) ≡ none → HasRoom (withStore s (retired (s .store) floor))
+    retire-keeps floor allow = go (ltb id floor) refl
       where
-        by-kind : (c : Call) → Kind pack s c → NoOther pack id s c → HasRoom (rule pack s c .state)
-        by-kind c (an-arrival slot j w args) alone =
-            arrival-keeps slot j (record { workflow = w; arguments = args }) (s .store .book j) refl
-        by-kind c (a-retry slot j) alone = retry-keeps slot j (s .store .book j) refl
-        by-kind c (a-turn slot) alone = turn-keeps slot alone (s .slots slot) refl
-        by-kind c (an-idle _ i) alone = idle-keeps c i
+        store′ : Store
+        store′ = retired (s .store) floor
 
-    -- No turn of the request meets 21.
-    pub has-room : (slot : ℕ) (a : Agent) → s .slots slot ≡ some a → a .id ≡ id → canTurn pack (s .store) (s .slots slot) ≡ true
+        kept : floor ≤ id → InBook (withStore s store′)
+        kept l =
+            let grows = log-grows (bookRetired (s .store) floor) id l in
+            record {
+              booked = retired-remains (s .store) floor id l q (h .booked) .0;
+              far = h .far;
+              course = h .course;
+              step = h .step;
+              stands = follow-stays (s .store .log) (store′ .log) id code q (h .far) (at (h .course) (h .step)) grows (h .stands);
+              unlogged = λ p u i k. log-same (bookRetired (s .store) floor) p id u l ∙ h .unlogged p u i k;
+              room = λ p i r. omega (arith, h .room p i r);
+              agents = λ slot a e i. led-on (s .store .log) (store′ .log) grows slot a (h .agents slot a e i);
+            }
+
+        go : (b : Bool) → ltb id floor ≡ b → HasRoom (withStore s store′)
+        go true e =
+            let l = ltb-true id floor e in
+            inr
+            (record {
+              gone = retired-gone (s .store) floor id l;
+              nobody =
+                  λ slot a held i.
+                  let up = slot-stays pack s floor (retire-asked pack s floor allow .0) slot a (h .agents slot a held i .0) held q
+                  (ap (s .store .book) i ∙ h .booked) in
+                  omega (arith, up, l, i);
+            })
+        go false e = inl (kept (nltb→le id floor (rw e tt)))
+
+    -- what a call does, if no other request's block runs in it
+    in-book-keeps : (c : Call) → refusal pack s c ≡ none → NoOther pack id s c → HasRoom (rule pack s c .state)
+    unfolding refusal rule
+    in-book-keeps c allow alone = by-kind c (kind pack s c) allow alone
+      where
+        by-kind : (c : Call) → Kind pack s c → refusal pack s c ≡ none → NoOther pack id s c → HasRoom (rule pack s c .state)
+        by-kind c (an-arrival slot j w args) allow alone =
+            inl (arrival-keeps slot j (ltb-true slot 8 (ask-none _ _ _ allow .0)) (record { workflow = w; arguments = args })
+            (s .store .book j) refl)
+        by-kind c (a-retry slot j) allow alone =
+            inl (retry-keeps slot j (ltb-true slot 8 (ask-none _ _ _ allow .0)) (s .store .book j) refl)
+        by-kind c (a-turn slot) allow alone = inl (turn-keeps slot alone (s .slots slot) refl)
+        by-kind c (a-retire floor) allow alone = retire-keeps floor allow
+        by-kind c (an-idle _ i) allow alone = inl (idle-keeps c i)
+
+    -- no turn of the request meets 21
+    in-book-turns : (slot : ℕ) (a : Agent) → s .slots slot ≡ some a → a .id ≡ id → canTurn pack (s .store) (s .slots slot) ≡ true
     unfolding canTurn
-    has-room slot a e i =
+    in-book-turns slot a e i =
         let x = h .agents slot a e i in
         rw (e, code-is a i)
         (subst (λ j. canDo (s .store) j (a .step) code (nextOf code (a .course)) ≡ true) (sym i)
-        (says-yes s h slot (a .course) (a .step) (x .0) (x .1) (nextOf code (a .course)) refl))
+        (says-yes s h slot (x .0) (a .course) (a .step) (x .1) (x .2) (nextOf code (a .course)) refl))
+
+  -- ── the request has been retired ──
+
+  module _ (s : State) (h : Retired s) where
+    -- an agent of another request in a slot
+    other-in : (s′ : State) → s′ .slots ≡ s .slots → (slot : ℕ) (b : Agent) → (b .id ≡ id → ⊥) → Nobody (withSlot s′ slot (some b))
+    other-in s′ same slot b n =
+        subst (λ (f : ℕ → Option Agent). (j : ℕ) (a : Agent) → update f slot (some b) j ≡ some a → a .id ≡ id → ⊥) (sym same)
+        (update-each (s .slots) slot (some b) (λ j a. a .id ≡ id → ⊥)
+        (λ a e i. n (ap (λ (x : Agent). x .id) (Option·some-injective b a e) ∙ i)) (λ j a m e. h .nobody j a e))
+
+    nobody-arrives : (slot j : ℕ) (r : Request) → (j ≡ id → ⊥) → (o : Option Request) → Nobody (arrive s slot j r o .state)
+    unfolding arrive
+    nobody-arrives slot j r n none = other-in (withStore s (Stores.booked (s .store) j r)) refl slot _ n
+    nobody-arrives slot j r n (some known) = other-in s refl slot _ n
+
+    nobody-again : (slot j : ℕ) (o : Option Request) → s .store .book j ≡ o → Nobody (again s slot j o .state)
+    unfolding again
+    nobody-again slot j none e = h .nobody
+    nobody-again slot j (some known) e = other-in s refl slot _ (λ i. none-some known (ap (s .store .book) i ∙ h .gone .1) e)
+
+    nobody-turns : (slot : ℕ) (o : Option Agent) → s .slots slot ≡ o → Nobody (turnIn pack s slot o .state)
+    unfolding turnIn turnOn throughBlock
+    nobody-turns slot none e = h .nobody
+    nobody-turns slot (some a) e = on (codeBy pack (s .store .book (a .id))) (nextOf (codeBy pack (s .store .book (a .id))) (a .course))
+      where
+        through : (its : Code) (from : Place) (p : ℕ) (onto : Result → Course) (o : Option Result) →
+            Nobody (throughBlock s slot a its from p onto o .state)
+        through its from p onto none =
+            other-in (withStore s (written (s .store) p (a .id) (a .step) (runBlock its from (s .store .rows p)))) refl slot _
+            (h .nobody slot a e)
+        through its from p onto (some r) = other-in s refl slot _ (h .nobody slot a e)
+
+        on : (its : Code) (x : Next) → Nobody (turnOn s slot a its x .state)
+        on its (goes to) = other-in s refl slot _ (h .nobody slot a e)
+        on its (says v) =
+            update-each (s .slots) slot none (λ j b. b .id ≡ id → ⊥) (λ b f. none-some b refl f) (λ j b m f. h .nobody j b f)
+        on its (does from p onto) = through its from p onto (found (s .store .log) p (a .id) (a .step))
+
+    -- no call starts an agent of it: an arrival below the floor is refused, and so is a retry of what isn't booked
+    still-nobody : (c : Call) → refusal pack s c ≡ none → Nobody (rule pack s c .state)
+    unfolding rule
+    still-nobody c allow = by-kind c (kind pack s c) allow
+      where
+        by-kind : (c : Call) → Kind pack s c → refusal pack s c ≡ none → Nobody (rule pack s c .state)
+        by-kind c (an-arrival slot j w args) allow =
+            nobody-arrives slot j (record { workflow = w; arguments = args })
+            (λ i. omega (arith, from-floor pack s slot j w args allow, h .gone .0, i)) (s .store .book j)
+        by-kind c (a-retry slot j) allow = nobody-again slot j (s .store .book j) refl
+        by-kind c (a-turn slot) allow = nobody-turns slot (s .slots slot) refl
+        by-kind c (a-retire floor) allow = h .nobody
+        by-kind c (an-idle _ i) allow = λ slot a e. h .nobody slot a (i .slots-left slot a e)
+
+    stays-retired : (c : Call) → refusal pack s c ≡ none → AboveFor c (s .store) → Retired (rule pack s c .state)
+    stays-retired c allow above =
+        record {
+          gone = change-stays pack s c (rule pack s c .state .store) above (change pack s c allow) .gone id (h .gone);
+          nobody = still-nobody c allow;
+        }
+
+  -- ── booked or retired ──
+
+  -- What a call does keeps the room, if no other request's block runs in it.
+  pub rule-keeps : (s : State) → HasRoom s → (c : Call) → refusal pack s c ≡ none → AboveFor c (s .store) → NoOther pack id s c →
+      HasRoom (rule pack s c .state)
+  rule-keeps s (inl h) c allow above alone = in-book-keeps s h c allow alone
+  rule-keeps s (inr h) c allow above alone = inr (stays-retired s h c allow above)
+
+  -- No turn of the request meets 21.
+  pub has-room : (s : State) → HasRoom s → (slot : ℕ) (a : Agent) → s .slots slot ≡ some a → a .id ≡ id →
+      canTurn pack (s .store) (s .slots slot) ≡ true
+  has-room s (inl h) slot a e i = in-book-turns s h slot a e i
+  has-room s (inr h) slot a e i = absurd (h .nobody slot a e i)
 
   -- The arrival that books it finds the room.
-  pub arrives : (s : State) (slot : ℕ) → FindsRoom pack P (s .store) id q →
-      ((j : ℕ) (a : Agent) → s .slots j ≡ some a → a .id ≡ id → ⊥) → HasRoom (arrive s slot id q (s .store .book id) .state)
+  pub arrives : (s : State) (slot : ℕ) → slot < 8 → FindsRoom pack P (s .store) id q → Nobody s →
+      HasRoom (arrive s slot id q (s .store .book id) .state)
   unfolding arrive follow
-  arrives s slot finds nobody =
+  arrives s slot low finds nobody =
       rw (finds .new)
-      (record {
+      (inl (record {
         booked = update-same (s .store .book) id (some q);
         far = 0;
         course = start q;
@@ -436,6 +567,6 @@ module _ (pack : Pack) (P id : ℕ) (q : Request) (checked : Checked (requestCod
         unlogged = λ p u i l. not-found (s .store .log .usual p id u) (finds .no-log p u i);
         room = λ p i r. let g = finds .free p i in omega (arith, g .2, g .1 .none-exceeds r);
         agents =
-            update-each (s .slots) slot (some (agentAt (start q) 0)) (λ j a. a .id ≡ id → Led (s .store .log) a)
-            (its-own (s .store .log) (agentAt (start q) 0) (0, refl)) (λ j a n f g. absurd (nobody j a f g));
-      })
+            update-each (s .slots) slot (some (agentAt (start q) 0)) (λ j a. a .id ≡ id → Led (s .store .log) j a)
+            (its-own (s .store .log) slot (agentAt (start q) 0) (low, 0, refl)) (λ j a n f g. absurd (nobody j a f g));
+      }))

@@ -1,19 +1,23 @@
 -- Demand 3: the runtime is the plain machine.
-use mathlib.Core.Bool.{true}
+use mathlib.Core.Bool.{Bool, true, false}
+use mathlib.Core.Logic.{_⊎_, inl, inr}
 use mathlib.Core.Path.{_≡_, refl, sym, _∙_, ap, subst}
 use mathlib.Core.List.{List, [], _∷_, reverse, List·Memᴰ, List·Memᴰ·not-nil}
 use mathlib.Core.Option.{Option, none, some, Option·some-injective}
 use Prim.Native.Nat.{ℕ, suc, _<_}
+use borrow.Author.Tests.{ltb-true}
+use lib.Dec.{ltb, nltb→le}
 use lib.ListN.{length}
 use Rattle.questions.specs.Basics.{isSome}
 use Rattle.questions.specs.Questions.{No}
 use Rattle.rules.specs.Instructions.{Pack}
-use Rattle.rules.specs.Store.{Request}
+use Rattle.rules.specs.Store.{Request, Log}
 use Rattle.rules.specs.Logged.{requestCode, replyLogged}
 use Rattle.rules.specs.Calls.{State, Agent, Outcome, refusal, rule, unless, turnIn, turn, call, History, stateAfter}
 use Rattle.rules.specs.Plain.{Reply, Run, Machine, Tallies, accepted, Feed, tallied, talliesOf, machineOf, repliesOf, firstReplies}
 use Rattle.rules.specs.Plain.{eventsAfter, talliesAfter, machineAfter, repliesAfter}
 use Rattle.rules.specs.Checked.{Checked, CheckedPack}
+use Rattle.rules.specs.Retired.{floorAfter}
 use Rattle.rules.specs.Demand3.{InTime, PlainRun, Demand3, SoundAgent}
 use Rattle.questions.proofs.Updates.{none-some, false-true, update-same}
 use Rattle.rules.proofs.Replies.{replyTo}
@@ -36,13 +40,15 @@ invariant pack room [] =
             tables = refl;
             counterpart = λ id q e. none-some q refl e;
             valid = λ id q e. none-some q refl e;
-            unbooked = λ id e. refl;
+            above = λ id q e. none-some q refl e;
+            unbooked = λ id l e. refl;
             unlogged = λ id e p t. refl;
             unreplied = λ id e. refl;
             settled = λ r h. absurd (List·Memᴰ·not-nil h);
             firsts = refl;
           };
       slots = λ slot a e. none-some a refl e;
+      eight = λ slot a e. none-some a refl e;
     }
 invariant pack room (c ∷ before) =
     call-keeps pack (stateAfter pack room before) (machineAfter pack room before) (talliesAfter pack room before)
@@ -71,7 +77,7 @@ module _ (pack : Pack) (checked : CheckedPack pack) (room : ℕ) (calls : Histor
       let inv = invariant pack room calls in
       let own = live .book-is in
       let c = checked (live .run .request .workflow) (inv .core .valid (a .id) (live .run .request) own) in
-      let st = live-stands pack s m t rs inv slot a live in
+      let st = live-stands pack s m t rs inv slot (inv .eight slot a held) a live in
       record {
         agent = a;
         turns = suc (live .turns);
@@ -133,26 +139,48 @@ plain-run pack checked room calls =
 pub demand3 : Demand3
 demand3 pack checked room calls = plain-run pack checked room (reverse calls)
 
--- A reply that was given can be worked out from the log, as long as its request is in the book: the log leads through to it.
-pub replied-logged : (pack : Pack) → CheckedPack pack → (room : ℕ) (calls : History) (r : Reply) →
-    List·Memᴰ r (repliesAfter pack room calls) →
-    (q : Request) → stateAfter pack room calls .store .book (r .id) ≡ some q →
-    replyLogged pack (stateAfter pack room calls .store .log) (r .id) (some q) ≡ some (r .value)
-replied-logged pack checked room calls r h q e =
-    let inv = invariant pack room calls in
-    let g = inv .core .counterpart (r .id) q e in
-    subst (λ x. replyLogged pack (stateAfter pack room calls .store .log) (r .id) (some x) ≡ some (r .value)) (g .request-is)
-    (go (g .run) (subst (λ (x : Request). Checked (requestCode pack x)) (sym (g .request-is))
-    (checked (q .workflow) (inv .core .valid (r .id) q e))) (g .progress)
-    (inv .core .settled r h))
-  where
-    go : (run : Run) → Checked (requestCode pack (run .request)) →
-        Progress pack (stateAfter pack room calls .store .log) (machineAfter pack room calls .replies) (r .id) run →
-        replyTo (r .id) (machineAfter pack room calls .replies) ≡ some (r .value) →
-        replyLogged pack (stateAfter pack room calls .store .log) (r .id) (some (run .request)) ≡ some (r .value)
-    go run c (underway t f free not-yet) given = none-some (r .value) not-yet given
-    go run c (over v f given′) given =
-        ends-logged pack (stateAfter pack room calls .store .log) (r .id) (run .request) v c (run .moveCount, f) ∙ sym given′ ∙ given
+-- Each reply that was given can be worked out from the log, or its id is below the floor (W-209): as long as its request is in the book,
+-- the log leads through to it.
+module _ (pack : Pack) (room : ℕ) (calls : History) (r : Reply) (given : List·Memᴰ r (repliesAfter pack room calls)) where
+  abbrev log : Log
+  log = stateAfter pack room calls .store .log
+
+  booked-logged : CheckedPack pack → (q : Request) → stateAfter pack room calls .store .book (r .id) ≡ some q →
+      replyLogged pack log (r .id) (some q) ≡ some (r .value)
+  booked-logged checked q e =
+      let inv = invariant pack room calls in
+      let g = inv .core .counterpart (r .id) q e in
+      subst (λ x. replyLogged pack log (r .id) (some x) ≡ some (r .value)) (g .request-is)
+      (go (g .run) (subst (λ (x : Request). Checked (requestCode pack x)) (sym (g .request-is))
+      (checked (q .workflow) (inv .core .valid (r .id) q e))) (g .progress)
+      (inv .core .settled r given))
+    where
+      go : (run : Run) → Checked (requestCode pack (run .request)) →
+          Progress pack log (machineAfter pack room calls .replies) (r .id) run →
+          replyTo (r .id) (machineAfter pack room calls .replies) ≡ some (r .value) →
+          replyLogged pack log (r .id) (some (run .request)) ≡ some (r .value)
+      go run c (underway t f free not-yet) is = none-some (r .value) not-yet is
+      go run c (over v f first) is = ends-logged pack log (r .id) (run .request) v c (run .moveCount, f) ∙ sym first ∙ is
+
+  pub replied-logged : ((q : Request) → stateAfter pack room calls .store .book (r .id) ≡ some q → CheckedPack pack) →
+      (replyLogged pack log (r .id) (stateAfter pack room calls .store .book (r .id)) ≡ some (r .value))
+      ⊎ (r .id < floorAfter pack room calls)
+  replied-logged checked = go (stateAfter pack room calls .store .book (r .id)) refl
+    where
+      -- a reply to what isn't booked was given before it was retired
+      retired : stateAfter pack room calls .store .book (r .id) ≡ none → (b : Bool) → ltb (r .id) (floorAfter pack room calls) ≡ b →
+          r .id < floorAfter pack room calls
+      retired e true h = ltb-true (r .id) (floorAfter pack room calls) h
+      retired e false h =
+          let core = invariant pack room calls .core in
+          none-some (r .value)
+          (core .unreplied (r .id) (core .unbooked (r .id) (nltb→le (r .id) (floorAfter pack room calls) (rw h tt)) e))
+          (core .settled r given)
+
+      go : (o : Option Request) → stateAfter pack room calls .store .book (r .id) ≡ o →
+          (replyLogged pack log (r .id) o ≡ some (r .value)) ⊎ (r .id < floorAfter pack room calls)
+      go none e = inr (retired e (ltb (r .id) (floorAfter pack room calls)) refl)
+      go (some q) e = inl (booked-logged (checked q e) q e)
 
 -- booked workflows are below m
 pub booked-below : (pack : Pack) (room : ℕ) (calls : History) (id : ℕ) (q : Request) →

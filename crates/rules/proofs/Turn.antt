@@ -20,7 +20,7 @@ use Rattle.questions.proofs.Updates.{none-some, false-true, le-cases, T-true, e
 use Rattle.rules.proofs.Follow.{Free, Same, same-here, Grows, same-grows, free-none, row-grows, row-elsewhere, row-later, row-here}
 use Rattle.rules.proofs.Follow.{follow-stays, follow-below, follow-next}
 use Rattle.rules.proofs.Replies.{replyTo, reply-more, reply-other, reply-new, answered-by, answered-first}
-use Rattle.rules.proofs.Invariant.{followed, Progress, underway, over, Live, Inv, Remains, slots-stay, slots-set}
+use Rattle.rules.proofs.Invariant.{followed, Progress, underway, over, Live, Inv, Remains, slots-stay, slots-set, eight-set}
 use Rattle.rules.proofs.Core.{come, come-to, run-ahead, core-moved}
 use Rattle.rules.proofs.Stands.{StandsByLog, turn-is, turn-counted}
 
@@ -41,6 +41,7 @@ module _
     (rs : List Reply)
     (inv : Inv pack s m t rs)
     (slot id : ℕ)
+    (low : slot < 8)
     (r : Run)
     (step : ℕ)
     (run-is : m .runs id ≡ some r)
@@ -60,6 +61,7 @@ module _
         ((p j u : ℕ) → (j ≡ id → ⊥) → Same (s .store .log) (s′ .log) p j u) →
         s′ .rows ≡ tables →
         s′ .book ≡ s .store .book →
+        s′ .floor ≡ s .store .floor →
         Progress pack (s′ .log) replies id r₁ →
         ((j : ℕ) → (j ≡ id → ⊥) → replyTo j replies ≡ replyTo j (m .replies)) →
         ((w : Reply) → List·Memᴰ w rs′ → replyTo (w .id) replies ≡ some (w .value)) →
@@ -69,15 +71,15 @@ module _
         Inv pack (withSlot (withStore s s′) slot o)
         (record { tables = tables; runs = update (m .runs) id (some r₁); replies = replies })
         (update t slot (tallyOf id (suc (r .moveCount)))) rs′
-    front s′ rs′ r₁ o tables replies request-is moved-is grows elsewhere same-rows same-book progress others settled firsts agent =
+    front s′ rs′ r₁ o tables replies request-is moved-is grows apart same-rows same-book same-floor progress others settled firsts agent =
         record {
           core =
-              core-moved pack (s .store) s′ m rs rs′ (inv .core) id r r₁ run-is request-is further elsewhere
-              tables replies same-rows same-book progress others settled firsts;
+              core-moved pack (s .store) s′ m rs rs′ (inv .core) id r r₁ run-is request-is further apart
+              tables replies same-rows same-book same-floor progress others settled firsts;
           slots =
               slots-set pack (s′ .log) (s′ .book) runs′ t (s .slots)
               (slots-stay pack (s .store .log) (s′ .log) (s .store .book) (s′ .book) (m .runs) runs′
-              (run-ahead pack (s .store) s′ m rs rs′ (inv .core) id r r₁ run-is request-is further elsewhere)
+              (run-ahead pack (s .store) s′ m rs rs′ (inv .core) id r r₁ run-is request-is further apart)
               t (s .slots) (λ j a e. remains (a .id)) (inv .slots))
               slot (tallyOf id (suc (r .moveCount))) o
               (λ a e.
@@ -94,6 +96,7 @@ module _
                     (subst (λ q. followed pack (s′ .log) id q (suc (r .moveCount)) ≡ some (at (a .course) (a .step))) (sym request-is)
                     (h .1));
               });
+          eight = eight-set (s .slots) (inv .eight) slot o low;
         }
       where
         runs′ : ℕ → Option Run
@@ -107,7 +110,7 @@ module _
           where
             go : ((j ≡ id) × (eqb j id ≡ true)) ⊎ ((j ≡ id → ⊥) × (eqb j id ≡ false)) → Grows (s .store .log) (s′ .log) j
             go (inl h) = subst (λ i. Grows (s .store .log) (s′ .log) i) (sym (h .0)) grows
-            go (inr h) = same-grows (s .store .log) (s′ .log) j (λ p u. elsewhere p j u (h .0))
+            go (inr h) = same-grows (s .store .log) (s′ .log) j (λ p u. apart p j u (h .0))
 
     -- one instruction outside a block
     front-moves : (to : Course) → nextOf code (r .course) ≡ goes to →
@@ -118,7 +121,7 @@ module _
     front-moves to e f =
         front (s .store) rs (record { request = r .request; course = to; moveCount = suc (r .moveCount) })
         (some (record { id = id; course = to; step = step })) (m .tables) (m .replies) refl refl
-        (λ p u v e. e) (λ p j u n. same-here (s .store .log) p j u) (inv .core .tables) refl
+        (λ p u v e. e) (λ p j u n. same-here (s .store .log) p j u) (inv .core .tables) refl refl
         (underway step f none-from no-reply) (λ j n. refl) (inv .core .settled) (inv .core .firsts)
         (λ a e. subst (λ (x : Agent). (x .id ≡ id) ×
         (followed pack (s .store .log) id (r .request) (suc (r .moveCount)) ≡ some (at (x .course) (x .step))))
@@ -146,7 +149,7 @@ module _
     front-returns v f =
         front (s .store) (record { id = id; value = v } ∷ rs) r₁ none (m .tables) (m .replies ++ record { id = id; value = v } ∷ [])
         refl refl
-        (λ p u v e. e) (λ p j u n. same-here (s .store .log) p j u) (inv .core .tables) refl
+        (λ p u v e. e) (λ p j u n. same-here (s .store .log) p j u) (inv .core .tables) refl refl
         (over v f new) (λ j n. reply-other j (m .replies) (record { id = id; value = v }) n) (λ w h. go w (List·Memᴰ·cases-cons h))
         (rw not-yet (ap (λ l. l ++ record { id = id; value = v } ∷ []) (inv .core .firsts)))
         (λ a e. none-some a refl e)
@@ -174,7 +177,7 @@ module _
     front-block from p onto b e =
         front (written (s .store) p id step b) rs (record { request = r .request; course = to; moveCount = suc (r .moveCount) })
         (some (record { id = id; course = to; step = suc step })) (update (s .store .rows) p (b .table)) (m .replies) refl refl
-        grows (row-elsewhere (s .store .log) p id step (b .result)) refl refl
+        grows (row-elsewhere (s .store .log) p id step (b .result)) refl refl refl
         (underway (suc step) f (λ p′ u l. row-later (s .store .log) p id step (b .result) p′ u l (none-from p′ u (omega arith))) no-reply)
         (λ j n. refl) (inv .core .settled) (inv .core .firsts)
         (λ a e. subst (λ (x : Agent). (x .id ≡ id) ×
@@ -248,6 +251,7 @@ module _
     (rs : List Reply)
     (inv : Inv pack s m t rs)
     (slot : ℕ)
+    (low : slot < 8)
     (a : Agent)
     (r : Run)
     (k : ℕ)
@@ -275,6 +279,7 @@ module _
               (λ b e. subst (λ (x : Agent). Live pack (s .store .log) (s .store .book) (m .runs) (tallyOf (a .id) (suc k)) x)
               (Option·some-injective (record { id = a .id; course = to; step = step }) b e)
               (record { run = r; turns = suc k; tally-is = refl; run-is = run-is; book-is = book-is; behind = less; there = f }));
+          eight = eight-set (s .slots) (inv .eight) slot (some (record { id = a .id; course = to; step = step })) low;
         }
 
     -- a reply is the end of the request, so that the machine has given it
@@ -311,6 +316,7 @@ module _
                 tables = inv .core .tables;
                 counterpart = inv .core .counterpart;
                 valid = inv .core .valid;
+                above = inv .core .above;
                 unbooked = inv .core .unbooked;
                 unlogged = inv .core .unlogged;
                 unreplied = inv .core .unreplied;
@@ -320,6 +326,7 @@ module _
           slots =
               slots-set pack (s .store .log) (s .store .book) (m .runs) t (s .slots) (inv .slots) slot (tallyOf (a .id) (suc k)) none
               (λ b e. none-some b refl e);
+          eight = eight-set (s .slots) (inv .eight) slot none low;
         }
       where
         given : answered (a .id) rs ≡ true
@@ -373,6 +380,7 @@ module _
     (rs : List Reply)
     (inv : Inv pack s m t rs)
     (slot : ℕ)
+    (low : slot < 8)
     (a : Agent)
     (live : Live pack (s .store .log) (s .store .book) (m .runs) (t slot) a)
   where
@@ -421,7 +429,7 @@ module _
         (tallied-is ∙ ap (λ n. update t slot (tallyOf (a .id) (suc n))) e)
         (outcome-is
         ∙ ap (λ (x : Agent). turnOn s slot x (requestCode pack (r .request)) (nextOf (requestCode pack (r .request)) (x .course))) same)
-        (front-keeps pack s m t rs inv slot (a .id) r step (live .run-is) f none-from no-reply (live .book-is)
+        (front-keeps pack s m t rs inv slot (a .id) low r step (live .run-is) f none-from no-reply (live .book-is)
         (nextOf (requestCode pack (r .request)) (r .course)) refl)
       where
         there : followed pack (s .store .log) (a .id) (r .request) (r .moveCount) ≡ some (at (a .course) (a .step))
@@ -447,7 +455,7 @@ module _
         (turnIn pack s slot (some a)) (turnOn s slot a (requestCode pack (r .request)) (nextOf (requestCode pack (r .request)) (a .course)))
         (fed-is ∙ ap (λ b. if_then_else_ b (move pack m (a .id) r) m) (ltb-no (r .moveCount) (suc k) l))
         tallied-is outcome-is
-        (back-keeps pack s m t rs inv slot a r k (live .run-is) (live .book-is) progress l (live .there)
+        (back-keeps pack s m t rs inv slot low a r k (live .run-is) (live .book-is) progress l (live .there)
         (nextOf (requestCode pack (r .request)) (a .course)) refl)
 
     pub live-turn : Keeps pack (fed pack m t (feeds (turn slot))) (tallied t (feeds (turn slot))) rs (turnIn pack s slot (some a))
@@ -466,4 +474,4 @@ turn-keeps pack s m t rs inv slot used = go (s .slots slot) refl used
     go : (o : Option Agent) → s .slots slot ≡ o → isSome o ≡ true →
         Keeps pack (fed pack m t (feeds (turn slot))) (tallied t (feeds (turn slot))) rs (turnIn pack s slot o)
     go none e u = false-true refl u
-    go (some a) e u = live-turn pack s m t rs inv slot a (inv .slots slot a e)
+    go (some a) e u = live-turn pack s m t rs inv slot (inv .eight slot a e) a (inv .slots slot a e)

@@ -1,18 +1,19 @@
--- Agents, slots and the worklist, and the nine calls: the questions from 15 on of each, then what it does.
-use mathlib.Core.Bool.{Bool, true, not, _&&_}
+-- Agents, slots and the worklist, and the ten calls: the questions from 15 on of each, then what it does.
+use mathlib.Core.Bool.{Bool, true, false, not, _&&_}
 use mathlib.Core.List.{List, [], _∷_}
 use mathlib.Core.Option.{Option, none, some}
 use Prim.Native.Nat.{ℕ, suc, _+_}
 use lib.Dec.{eqb, ltb, leb}
 use lib.ListN.{length}
-use Rattle.questions.specs.Basics.{update, isSome}
+use Rattle.questions.specs.Basics.{update, isSome, each}
 use Rattle.questions.specs.Questions.{No, number, ask}
 use Rattle.rules.specs.Instructions.{Code, Pack, Place}
 use Rattle.rules.specs.Blocks.{Result, runBlock, rowsNeeded}
 use Rattle.rules.specs.Courses.{Course, Next, goes, does, says, nextOf}
 use Rattle.rules.specs.Store.{Request, sameRequest, Store, freshStore, rowsPerRequest, booked, found, written}
+use Rattle.rules.specs.Store.{floorOf, bookedBelow, retired}
 use Rattle.rules.specs.Logged.{loggedThrough}
-use Rattle.rules.specs.Worklist.{Worklist, listRight, canList, firstWaiting, takenOn, added, tookFirst, without, restarted}
+use Rattle.rules.specs.Worklist.{Worklist, listed, listRight, canList, firstWaiting, takenOn, added, tookFirst, without, restarted}
 pub use Rattle.rules.specs.Logged.{requestCode, start}
 
 -- an agent in a slot: id, where it stands, step number
@@ -40,6 +41,8 @@ pub data Call : Type 0 where
   listAdd : (id : ℕ) → Call
   listTake : Call
   listDone : (id : ℕ) → Call
+  -- W-209: removes the book and log rows of every id below the floor
+  retire : (floor : ℕ) → Call
   -- a call of any kind to which a question before 15 says no
   stopped : No → Call
 
@@ -93,16 +96,33 @@ isBooked s id = isSome (s .book id)
 unfoldable pub canDone : Pack → State → (id : ℕ) → Bool
 canDone pack s id = takenOn id (s .work) && loggedThrough pack (s .store .log) id (s .store .book id)
 
+-- is it an agent of this id?
+abbrev pub isOf : (id : ℕ) → Option Agent → Bool
+isOf id none = false
+isOf id (some a) = eqb (a .id) id
+
+-- Is no agent of this id in a slot?
+unfoldable pub inNoSlot : (slots : (slot : ℕ) → Option Agent) → (id : ℕ) → Bool
+inNoSlot slots id = each 8 (λ slot. not (isOf id (slots slot)))
+
+-- If the id is booked, is it logged through, in no slot and not on the worklist?
+unfoldable pub canRetire : Pack → State → (id : ℕ) → Option Request → Bool
+canRetire pack s id none = true
+canRetire pack s id (some q) =
+    loggedThrough pack (s .store .log) id (some q) && (inNoSlot (s .slots) id && not (listed id (s .work)))
+
 -- The questions from 15 on that each call puts, in order: the first no. 24, is an arrival's id other than 0, is asked between 16 and 17,
--- whatever the book has of 0; a retry does not put it. 20 of an add comes last, and is put to any id, a listed one too.
+-- whatever the book has of 0, and behind it 30, is its id not below the floor; a retry puts neither. 20 of an add comes last, and is put to
+-- any id, a listed one too. 28 of a retire is asked of each smaller id, 29 is whether one of them is booked.
 unfoldable pub refusal : Pack → State → Call → Option No
 refusal pack s (arrival slot id w args) =
     ask (number 15) (ltb slot 8)
     (ask (number 16) (not (isSome (s .slots slot)))
     (ask (number 24) (not (eqb id 0))
+    (ask (number 30) (leb (floorOf (s .store)) id)
     (ask (number 17) (ltb w (length pack))
     (ask (number 18) (asBooked (record { workflow = w; arguments = args }) (s .store .book id))
-    (ask (number 19) (canBook (s .store) (s .store .book id)) none)))))
+    (ask (number 19) (canBook (s .store) (s .store .book id)) none))))))
 refusal pack s (retry slot id) =
     ask (number 15) (ltb slot 8)
     (ask (number 16) (not (isSome (s .slots slot)))
@@ -126,6 +146,10 @@ refusal pack s listTake =
 refusal pack s (listDone id) =
     ask (number 25) (listRight (s .work))
     (ask (number 27) (canDone pack s id) none)
+refusal pack s (retire floor) =
+    ask (number 25) (listRight (s .work))
+    (ask (number 28) (each floor (λ id. canRetire pack s id (s .store .book id)))
+    (ask (number 29) (ltb 0 (bookedBelow (s .store) floor)) none))
 refusal pack s (stopped n) = some n
 
 -- ── What the calls do ──
@@ -207,6 +231,7 @@ rule pack s order = gives done s
 rule pack s (listAdd id) = gives done (withWork s (added id (s .work)))
 rule pack s listTake = takes s (firstWaiting (s .work))
 rule pack s (listDone id) = gives done (withWork s (without id (s .work)))
+rule pack s (retire floor) = gives done (withStore s (retired (s .store) floor))
 rule pack s (stopped n) = gives done s
 
 -- The first no is the answer, and nothing is changed.

@@ -14,4 +14,5 @@ pub mod RequestZero
 pub mod NeverWritten
 pub mod Routes
 pub mod Room
+pub mod Retired
 pub mod Listed

@@ -4,7 +4,7 @@ use mathlib.Core.List.{_∷_, _++_, List·Memᴰ}
 use mathlib.Core.Logic.{_⊎_}
 use mathlib.Core.Option.{Option, some}
 use mathlib.Core.Path.{_≡_}
-use Prim.Native.Nat.{ℕ}
+use Prim.Native.Nat.{ℕ, _<_}
 use Rattle.rules.specs.Instructions.{Pack}
 use Rattle.rules.specs.Blocks.{Result}
 use Rattle.rules.specs.Store.{Request}
@@ -12,6 +12,7 @@ use Rattle.rules.specs.Logged.{replyLogged}
 use Rattle.rules.specs.Worklist.{Worklist, Entry, waiting, listed, listRight}
 use Rattle.rules.specs.Calls.{State, restart, listDone, done, History, stateAfter, answerTo}
 use Rattle.rules.specs.Plain.{Reply, repliesAfter}
+use Rattle.rules.specs.Retired.{floorAfter}
 
 -- the reply to an id that can be worked out from the log of a state
 abbrev pub workedOut : Pack → State → (id : ℕ) → Option Result
@@ -31,8 +32,8 @@ pub record TakenOff (pack : Pack) (room : ℕ) (before later : History) (id : �
   -- its reply could then be worked out from the log
   pub value : Result
   pub worked-out : workedOut pack (stateAfter pack room (upto ++ before)) id ≡ some value
-  -- it still can
-  pub still : workedOut pack (stateAfter pack room (later ++ before)) id ≡ some value
+  -- it still can, or the request has been retired since (W-209)
+  pub still : (workedOut pack (stateAfter pack room (later ++ before)) id ≡ some value) ⊎ (id < floorAfter pack room (later ++ before))
   -- and it is each reply that was ever given
   pub is-reply : (r : Reply) → List·Memᴰ r (repliesAfter pack room (later ++ before)) → r .id ≡ id → r .value ≡ value
 
@@ -56,6 +57,6 @@ pub record Reading (pack : Pack) (room : ℕ) (calls : History) : Type 0 where
   -- the reply worked out from the log is each reply that was given to the id
   pub worked : (id : ℕ) (value : Result) → workedOut pack (stateAfter pack room calls) id ≡ some value →
       (r : Reply) → List·Memᴰ r (repliesAfter pack room calls) → r .id ≡ id → r .value ≡ value
-  -- and it is still worked out after any later calls
+  -- and it is still worked out after any later calls, unless the request has been retired by then (W-209)
   pub still : (later : History) (id : ℕ) (value : Result) → workedOut pack (stateAfter pack room calls) id ≡ some value →
-      workedOut pack (stateAfter pack room (later ++ calls)) id ≡ some value
+      (workedOut pack (stateAfter pack room (later ++ calls)) id ≡ some value) ⊎ (id < floorAfter pack room (later ++ calls))

@@ -11,7 +11,7 @@ use Rattle.rules.specs.Courses.{Course, Next, goes, does, says, nextOf}
 use Rattle.rules.specs.Store.{Request}
 use Rattle.rules.specs.Logged.{requestCode, start}
 use Rattle.rules.specs.Calls.{Call, arrival, retry, turn, crash, restart, order, stopped, History, answerTo}
-use Rattle.rules.specs.Calls.{listAdd, listTake, listDone}
+use Rattle.rules.specs.Calls.{listAdd, listTake, listDone, retire}
 use Rattle.rules.specs.Calls.{Answer, done, moved, reply, given, refused}
 
 -- a reply: id and value
@@ -104,6 +104,7 @@ feeds order = nothing
 feeds (listAdd id) = nothing
 feeds listTake = nothing
 feeds (listDone id) = nothing
+feeds (retire floor) = nothing
 feeds (stopped n) = nothing
 
 -- by its answer: a call that isn't accepted feeds nothing. (A later answer that is neither accepted nor refused has its place here.)

@@ -1,10 +1,10 @@
--- The store as rows by key: data, log and book, with the used counts and the room; without bytes.
+-- The store as rows by key: data, log and book, with the used counts and the room; without bytes. What retiring leaves of it.
 use mathlib.Core.Bool.{Bool, true, false, _&&_}
 use mathlib.Core.List.{List, [], _∷_}
-use mathlib.Core.Option.{Option, none, some}
-use Prim.Native.Nat.{ℕ, _+_}
-use lib.Dec.{eqb}
-use Rattle.questions.specs.Basics.{update}
+use mathlib.Core.Option.{Option, none, some, Option·getD}
+use Prim.Native.Nat.{ℕ, _+_, _-_, _*_, _^_}
+use lib.Dec.{eqb, ltb}
+use Rattle.questions.specs.Basics.{if_then_else_, update, isSome, sumBelow, countBelow}
 use Rattle.rules.specs.Blocks.{Table, Result, yields, Block, rowsNeeded}
 
 -- what the book has of a request: the workflow number and the arguments
@@ -37,7 +37,7 @@ abbrev pub found : Log → (partition id step : ℕ) → Option Result
 found log p id t = sought (log .usual p id t)
 
 -- The store: C, the rows of each partition and of the book; of each partition the used count, the data rows by data key and the log rows by
--- request and step; of the book the used count and the requests by id.
+-- request and step; of the book the used count, the requests by id, and the value of the floor row, if it has that row.
 pub record Store : Type 0 where
   pub room : ℕ
   pub used : (partition : ℕ) → ℕ
@@ -45,6 +45,11 @@ pub record Store : Type 0 where
   pub log : Log
   pub bookUsed : ℕ
   pub book : (id : ℕ) → Option Request
+  pub floor : Option ℕ
+
+-- the floor: a store without the floor row has floor 0
+abbrev pub floorOf : Store → ℕ
+floorOf s = Option·getD (s .floor) 0
 
 -- Create: a fresh store, all used counts zero.
 abbrev pub freshStore : (room : ℕ) → Store
@@ -56,6 +61,7 @@ freshStore room =
       log = record { usual = λ p id t. none };
       bookUsed = 0;
       book = λ id. none;
+      floor = none;
     }
 
 -- The book has five rows per request.
@@ -72,6 +78,7 @@ withBook s used book =
       log = s .log;
       bookUsed = used;
       book = book;
+      floor = s .floor;
     }
 
 -- a new request in the book
@@ -88,6 +95,7 @@ withPartition s p used table log =
       log = log;
       bookUsed = s .bookUsed;
       book = s .book;
+      floor = s .floor;
     }
 
 -- one row more: the block's result as value
@@ -101,3 +109,43 @@ withRow log p id t (yields v) = record { usual = logged (log .usual) p id t v }
 -- a block's data rows and its log row, written together
 abbrev pub written : Store → (partition id step : ℕ) → Block → Store
 written s p id t b = withPartition s p (s .used p + rowsNeeded b) (b .table) (withRow (s .log) p id t (b .result))
+
+-- ── W-209, retiring ──
+
+-- how many smaller ids are booked
+unfoldable pub bookedBelow : Store → (floor : ℕ) → ℕ
+bookedBelow s floor = countBelow floor (λ id. isSome (s .book id))
+
+-- how many log rows of smaller ids, booked or not, a partition has: a step has 16 bits
+unfoldable pub loggedBelow : Store → (floor partition : ℕ) → ℕ
+loggedBelow s floor p = sumBelow floor (λ id. countBelow (2 ^ 16) (λ t. isSome (s .log .usual p id t)))
+
+-- The book rows of every smaller id are removed. The floor is kept as one extra book row, which the used count includes.
+abbrev pub bookRetired : Store → (floor : ℕ) → Store
+bookRetired s floor =
+    record {
+      room = s .room;
+      used = s .used;
+      rows = s .rows;
+      log = s .log;
+      bookUsed = s .bookUsed - rowsPerRequest * bookedBelow s floor + (if isSome (s .floor) then 0 else 1);
+      book = λ id. if ltb id floor then none else s .book id;
+      floor = some floor;
+    }
+
+-- The log rows of every id below the floor are removed, booked or not, and the freed rows may be used again.
+abbrev pub logRetired : Store → Store
+logRetired s =
+    record {
+      room = s .room;
+      used = λ p. s .used p - loggedBelow s (floorOf s) p;
+      rows = s .rows;
+      log = record { usual = λ p id t. if ltb id (floorOf s) then none else s .log .usual p id t };
+      bookUsed = s .bookUsed;
+      book = s .book;
+      floor = s .floor;
+    }
+
+-- Retire: the book first, then the log. Data rows don't change.
+abbrev pub retired : Store → (floor : ℕ) → Store
+retired s floor = logRetired (bookRetired s floor)

@@ -3,8 +3,8 @@ use mathlib.Core.Bool.{not}
 use mathlib.Core.Option.{Option, none, some}
 use mathlib.Core.Path.{_≡_, refl, ap}
 use Prim.Native.Nat.{ℕ, _≤_, _<_}
-use borrow.Author.Tests.{lt-ltb, le-ltb, eq-eqb, ne-eqb}
-use lib.Dec.{eqb, ltb}
+use borrow.Author.Tests.{lt-ltb, le-ltb, lt-leb, le-leb, eq-eqb, ne-eqb}
+use lib.Dec.{eqb, ltb, leb}
 use Rattle.questions.specs.Basics.{isSome}
 use Rattle.questions.specs.Questions.{No, number, ask}
 use Rattle.questions.specs.Questions as Questions
@@ -28,17 +28,24 @@ pub again-known : (pack : Pack) (s : State) (slot id : ℕ) (q : Request) → s 
 unfolding Calls.rule Calls.again
 again-known pack s slot id q b = ap (again s slot id) b
 
--- ── arrival: 24 and 17, and then those of the booking ──
+-- ── arrival: 24, 30 and 17, and then those of the booking ──
 
-module _ (id w m : ℕ) (rest : Option No) where
-  pub zero-no : id ≡ 0 → ask (number 24) (not (eqb id 0)) (ask (number 17) (ltb w m) rest) ≡ some (number 24)
+module _ (id floor w m : ℕ) (rest : Option No) where
+  abbrev behind-16 : Option No
+  behind-16 = ask (number 24) (not (eqb id 0)) (ask (number 30) (leb floor id) (ask (number 17) (ltb w m) rest))
+
+  pub zero-no : id ≡ 0 → behind-16 ≡ some (number 24)
   unfolding Questions.ask
   zero-no z = rw (eq-eqb id 0 z) refl
 
-  pub workflow-no : (id ≡ 0 → ⊥) → m ≤ w → ask (number 24) (not (eqb id 0)) (ask (number 17) (ltb w m) rest) ≡ some (number 17)
+  pub floor-no : (id ≡ 0 → ⊥) → id < floor → behind-16 ≡ some (number 30)
   unfolding Questions.ask
-  workflow-no n h = rw (ne-eqb id 0 n, le-ltb w m h) refl
+  floor-no n l = rw (ne-eqb id 0 n, lt-leb floor id l) refl
 
-  pub booking-left : (id ≡ 0 → ⊥) → w < m → ask (number 24) (not (eqb id 0)) (ask (number 17) (ltb w m) rest) ≡ rest
+  pub workflow-no : (id ≡ 0 → ⊥) → floor ≤ id → m ≤ w → behind-16 ≡ some (number 17)
   unfolding Questions.ask
-  booking-left n h = rw (ne-eqb id 0 n, lt-ltb w m h) refl
+  workflow-no n l h = rw (ne-eqb id 0 n, le-leb floor id l, le-ltb w m h) refl
+
+  pub booking-left : (id ≡ 0 → ⊥) → floor ≤ id → w < m → behind-16 ≡ rest
+  unfolding Questions.ask
+  booking-left n l h = rw (ne-eqb id 0 n, le-leb floor id l, lt-ltb w m h) refl

@@ -107,7 +107,8 @@ pub fn retry(pack: &[u8], store: &[u8], agents: [Agent; 8], slot: usize, id: u32
     }
 }
 
-// Arrival books a new id, then starts an agent; a known id only starts one. Id 0 is turned down, known or not.
+// Arrival books a new id, then starts an agent; a known id only starts one. Id 0 is turned down, known or not, and so is an id below the
+// floor.
 pub fn arrival(
     pack: &[u8],
     store: &mut [u8],
@@ -126,6 +127,9 @@ pub fn arrival(
         Verdict::Accepted => {
             if id == 0 {
                 return agents::refused(24, 0, 0, agents);
+            }
+            if id < book::floor(store) {
+                return agents::refused(30, 0, 0, agents);
             }
             if pack::count_of(pack) <= q.workflow {
                 return agents::refused(17, 0, 0, agents);
@@ -277,6 +281,48 @@ pub fn done(pack: &[u8], store: &[u8], agents: [Agent; 8], list: Worklist, id: u
             workflow,
             instruction,
         } => unlisted(question, workflow, instruction, list),
+    }
+}
+
+// A no, as an answer.
+fn no_of(question: u8, workflow: usize, instruction: usize) -> Answer
+    ensures { λ r. ⌜ r ≡ Answer.Refused question workflow instruction ⌝ }
+{
+    Answer::Refused {
+        question,
+        workflow,
+        instruction,
+    }
+}
+
+// Retire removes the book and log rows of every id below the floor. It reads slots and worklist, and writes to the store alone.
+pub fn retire(
+    pack: &[u8],
+    store: &mut [u8],
+    agents: [Agent; 8],
+    list: Worklist,
+    floor: u32,
+) -> Answer
+    ensures { λ r. ⌜ Carried (now (pack .entry)) (record { store = now (store .entry); records = agents; list = list })
+        (Call.retire floor) r (record { store = now (store .exit); records = agents; list = list }) ⌝ }
+{
+    let v = lent_check::check_to_25(pack, store, agents, list);
+    match v {
+        Verdict::Accepted => {
+            if !retirable::all_retirable(pack, store, agents, list, floor) {
+                return no_of(28, 0, 0);
+            }
+            if !retirable::any_below(store, floor) {
+                return no_of(29, 0, 0);
+            }
+            retiring::retire_rows(store, floor);
+            Answer::Done
+        }
+        Verdict::Refused {
+            question,
+            workflow,
+            instruction,
+        } => no_of(question, workflow, instruction),
     }
 }
 

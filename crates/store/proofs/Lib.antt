@@ -4,8 +4,10 @@ pub mod Parts
 pub mod Held
 pub mod Buffer
 pub mod Merge
+pub mod Floor
 pub mod Found
 pub mod Search
 pub mod Equal
 pub mod Sound
 pub mod Order
+pub mod From

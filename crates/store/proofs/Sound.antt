@@ -11,17 +11,17 @@ use lib.Dec.{eqb, leb, ltb}
 use lib.ListN.{length, getD}
 use Rattle.words.specs.Words.{le, fields}
 use Rattle.questions.specs.Basics.{eachFrom}
-use Rattle.keys.specs.Keys.{logKey, bookKey, isForm}
+use Rattle.keys.specs.Keys.{logKey, bookKey, isBookKey, bookedId, isFloorKey, floorAt, isForm}
 use Rattle.questions.specs.Questions.{number}
 use Rattle.questions.proofs.Each.{each-at, each-all}
-use Rattle.keys.proofs.Keys.{log-is, log-no-data, book-is}
+use Rattle.keys.proofs.Keys.{log-is, log-no-data, book-is, book-no-floor}
 use Rattle.questions.proofs.Tests.{yes-no, and-left, and-right, and-both}
 use Rattle.questions.proofs.Questions.{ask-none, ask-yes}
 use Rattle.store.specs.Layout.{partsOf, capOf, storeLength, keyAt, valueAt, usedOf}
 use Rattle.store.specs.Rows.{Row, Store, pairs, keysIn, lookup, rowsOf, storeOf, putRow, putAll, newRows, countNew, alter}
 use Rattle.store.specs.Questions.{member, unlike, keysApart, ahead, rising, keysOk, blankRow, partOkAt, partOkBy, partOk}
-use Rattle.store.specs.Questions.{allIn, five, bookOk, numbersRight, question9, question10, question11, question12}
-use Rattle.store.specs.Questions.{storeRefusal}
+use Rattle.store.specs.Questions.{allIn, five, bookOk, fromFloor, bookRight, numbersRight}
+use Rattle.store.specs.Questions.{question9, question10, question11, question12, storeRefusal}
 use Rattle.store.specs.Sound.{Dimensions, Filled, KeysGood, Sound, Changed, Stored}
 use Rattle.store.proofs.Bytes.{rows-keys}
 use Rattle.store.proofs.Lists.{length-put, lookup-put-other, alter-here, alter-there}
@@ -341,11 +341,70 @@ all-members f (x ∷ ks) h =
 
 -- ---- question 12
 
--- a booked id has all five rows
-pub book-five : (ks : List ℕ) (k j : ℕ) → bookOk ks ≡ true → member k ks ≡ true → j < 5 → member (bookKey (k / 8) j) ks ≡ true
+-- 12 by its two parts, and back
+pub book-parts : (rows : List Row) → bookRight rows ≡ true →
+    (bookOk (keysIn rows) ≡ true) × (fromFloor (floorAt (λ k. lookup k rows)) (keysIn rows) ≡ true)
+unfolding bookRight
+book-parts rows b = (and-left (bookOk (keysIn rows)) _ b, and-right (bookOk (keysIn rows)) _ b)
+
+pub book-whole : (rows : List Row) → bookOk (keysIn rows) ≡ true → fromFloor (floorAt (λ k. lookup k rows)) (keysIn rows) ≡ true →
+    bookRight rows ≡ true
+unfolding bookRight
+book-whole rows b f = and-both (bookOk (keysIn rows)) _ b f
+
+-- the same of a store
+pub twelve-parts : (xs : List ℕ) → question12 xs ≡ true →
+    (bookOk (keysIn (rowsOf xs (partsOf xs))) ≡ true)
+    × (fromFloor (floorAt (λ k. lookup k (rowsOf xs (partsOf xs)))) (keysIn (rowsOf xs (partsOf xs))) ≡ true)
+unfolding question12
+twelve-parts xs q = book-parts (rowsOf xs (partsOf xs)) q
+
+-- what is asked of each key but the floor's is asked of one that isn't it
+past-floor : (f : ℕ → Bool) (ks : List ℕ) (k : ℕ) → allIn (λ i. isFloorKey i || f i) ks ≡ true → isFloorKey k ≡ false →
+    member k ks ≡ true → f k ≡ true
+past-floor f ks k a n m =
+    ap (λ (b : Bool). b || f k) (sym n) ∙ in-all (λ i. isFloorKey i || f i) ks k a m
+
+-- and back
+each-past : (f : ℕ → Bool) (ks : List ℕ) → ((k : ℕ) → isFloorKey k ≡ false → member k ks ≡ true → f k ≡ true) →
+    allIn (λ i. isFloorKey i || f i) ks ≡ true
+each-past f ks h = all-members (λ i. isFloorKey i || f i) ks (λ k m. go k m (isFloorKey k) refl)
+  where
+    go : (k : ℕ) → member k ks ≡ true → (t : Bool) → isFloorKey k ≡ t → (isFloorKey k || f k) ≡ true
+    go k m true e = rw e refl
+    go k m false e = rw e (h k e m)
+
+-- a booked id has all five rows: of a key that isn't the floor's
+pub key-five : (ks : List ℕ) (k j : ℕ) → bookOk ks ≡ true → isFloorKey k ≡ false → member k ks ≡ true → j < 5 →
+    member (bookKey (k / 8) j) ks ≡ true
 unfolding bookOk five
-book-five ks k j b m h =
-    each-at (λ i. member (bookKey (k / 8) i) ks) 5 0 (in-all (λ i. five ks (i / 8)) ks k b m) j (omega arith) (omega arith)
+key-five ks k j b n m h =
+    each-at (λ i. member (bookKey (k / 8) i) ks) 5 0 (past-floor (λ i. five ks (i / 8)) ks k b n m) j (omega arith) (omega arith)
+
+-- of a book key
+pub book-five : (ks : List ℕ) (k j : ℕ) → bookOk ks ≡ true → isBookKey k ≡ true → member k ks ≡ true → j < 5 →
+    member (bookKey (k / 8) j) ks ≡ true
+book-five ks k j b o m h = key-five ks k j b (book-no-floor k o) m h
+
+-- and isn't below the floor
+pub key-above : (floor : ℕ) (ks : List ℕ) (k : ℕ) → fromFloor floor ks ≡ true → isFloorKey k ≡ false → member k ks ≡ true →
+    floor ≤ bookedId k
+unfolding fromFloor
+key-above floor ks k b n m = leb-true floor (bookedId k) (past-floor (λ i. leb floor (bookedId i)) ks k b n m)
+
+pub book-above : (floor : ℕ) (ks : List ℕ) (k : ℕ) → fromFloor floor ks ≡ true → isBookKey k ≡ true → member k ks ≡ true →
+    floor ≤ bookedId k
+book-above floor ks k b o m = key-above floor ks k b (book-no-floor k o) m
+
+-- and back, by each key that isn't the floor's
+pub all-five : (ks : List ℕ) → ((k : ℕ) → isFloorKey k ≡ false → member k ks ≡ true → five ks (bookedId k) ≡ true) → bookOk ks ≡ true
+unfolding bookOk
+all-five ks h = each-past (λ k. five ks (bookedId k)) ks h
+
+pub all-above : (floor : ℕ) (ks : List ℕ) → ((k : ℕ) → isFloorKey k ≡ false → member k ks ≡ true → floor ≤ bookedId k) →
+    fromFloor floor ks ≡ true
+unfolding fromFloor
+all-above floor ks h = each-past (λ k. leb floor (bookedId k)) ks (λ k n m. le-leb floor (bookedId k) (h k n m))
 
 -- and back
 pub five-all : (ks : List ℕ) (id : ℕ) → ((j : ℕ) → j < 5 → member (bookKey id j) ks ≡ true) → five ks id ≡ true

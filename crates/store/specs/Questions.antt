@@ -8,9 +8,9 @@ use lib.ListN.{length}
 use Rattle.words.specs.Words.{le, fields}
 use Rattle.questions.specs.Basics.{eachFrom, each}
 use Rattle.questions.specs.Questions.{No, number, ask}
-use Rattle.keys.specs.Keys.{bookKey, bookedId, isForm}
+use Rattle.keys.specs.Keys.{bookKey, bookedId, isFloorKey, floorAt, isForm}
 use Rattle.store.specs.Layout.{partsOf, capOf, storeLength, keyAt, valueAt, usedOf}
-use Rattle.store.specs.Rows.{keysIn, rowsOf}
+use Rattle.store.specs.Rows.{Row, keysIn, rowsOf, lookup}
 
 -- P is 1 to 8, C is 5 to 256
 unfoldable pub numbersRight : (P C : ℕ) → Bool
@@ -94,13 +94,22 @@ allIn f (k ∷ ks) = f k && allIn f ks
 unfoldable pub five : (ks : List ℕ) (id : ℕ) → Bool
 five ks id = each 5 (λ j. member (bookKey id j) ks)
 
--- each id that has a key among ks has all five there
+-- each id that has a key among ks has all five there; the floor's key, which is of no id, is passed over
 unfoldable pub bookOk : (ks : List ℕ) → Bool
-bookOk ks = allIn (λ k. five ks (bookedId k)) ks
+bookOk ks = allIn (λ k. isFloorKey k || five ks (bookedId k)) ks
 
--- 12. Has each booked id all five rows? An id is booked as soon as it has any row in the book, which is partition P.
+-- no id that has a key among ks is below the floor
+unfoldable pub fromFloor : (floor : ℕ) (ks : List ℕ) → Bool
+fromFloor floor ks = allIn (λ k. isFloorKey k || leb floor (bookedId k)) ks
+
+-- what 12 asks of the rows of a book, in whatever order they stand
+unfoldable pub bookRight : List Row → Bool
+bookRight rows = bookOk (keysIn rows) && fromFloor (floorAt (λ k. lookup k rows)) (keysIn rows)
+
+-- 12. Has each booked id all five rows, and is none below the floor? An id is booked as soon as it has any row in the book, which is
+-- partition P.
 unfoldable pub question12 : (store : List ℕ) → Bool
-question12 store = bookOk (keysIn (rowsOf store (partsOf store)))
+question12 store = bookRight (rowsOf store (partsOf store))
 
 -- the first no among 9 to 12
 unfoldable pub storeRefusal : (store : List ℕ) → Option No

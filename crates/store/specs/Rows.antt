@@ -61,6 +61,11 @@ unfoldable pub putAll : (ps : List Row) → List Row → List Row
 putAll [] rs = rs
 putAll (r ∷ ps) rs = putAll ps (putRow (r .0) (r .1) rs)
 
+-- the rows with keys from `low` on
+unfoldable pub rowsFrom : (low : ℕ) → List Row → List Row
+rowsFrom low [] = []
+rowsFrom low (r ∷ rs) = if ltb (r .0) low then rowsFrom low rs else r ∷ rowsFrom low rs
+
 -- how many rows a put adds, by what stood at its key
 unfoldable pub newRows : Option ℕ → ℕ
 newRows none = 1

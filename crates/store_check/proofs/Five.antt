@@ -1,7 +1,8 @@
 -- The book by rising key: the five rows of an id stand side by side, so the fifth key is the last of the first one's five; all else is
--- forced, since each is a book key.
-use mathlib.Core.Bool.{Bool, true, false, _&&_}
+-- forced, since each but the last is a book key.
+use mathlib.Core.Bool.{Bool, true, false, _&&_, _||_, or-true}
 use mathlib.Core.List.{List, [], _∷_}
+use mathlib.Core.Logic.{⊎-elim}
 use mathlib.Core.Path.{_≡_, refl, sym, ap, ap₂, subst, _∙_, fun-ext}
 use Prim.Native.Nat.{ℕ, zero, suc, _+_, _≤_, _<_}
 use native.Mathlib.Nat.{add-zero}
@@ -12,11 +13,11 @@ use lib.ListN.{length, getD}
 use Rattle.words.specs.Words.{le, fields}
 use Rattle.words.proofs.Laws.{length-fields}
 use Rattle.questions.specs.Basics.{each}
-use Rattle.keys.specs.Keys.{bookKey, isBookKey, bookedId, bookRow, lastOfFive, isForm}
-use Rattle.keys.proofs.Keys.{book-again}
+use Rattle.keys.specs.Keys.{bookKey, isBookKey, bookedId, bookRow, lastOfFive, isFloorKey, isForm}
+use Rattle.keys.proofs.Keys.{book-again, form-book, form-floor, book-no-floor}
 use Rattle.questions.proofs.Tests.{no-yes, and-left, and-right}
 use Rattle.store.specs.Questions.{member, ahead, rising, keysOk, allIn, five, bookOk}
-use Rattle.store.proofs.Sound.{keys-rise, apart-forms, keys-apart, keys-rising, all-at, in-all, book-five, five-all}
+use Rattle.store.proofs.Sound.{keys-rise, apart-forms, keys-apart, keys-rising, all-at, in-all, key-five, five-all}
 use Rattle.store_check.proofs.Steps.{member-behind, member-in}
 
 -- ---- members of keys that rise
@@ -37,7 +38,7 @@ rising-next : (k x : ℕ) (ks : List ℕ) → rising (k ∷ x ∷ ks) ≡ true �
 unfolding rising ahead
 rising-next k x ks u = ltb-true k x (and-left (ltb k x) _ u)
 
-forms : (ks : List ℕ) → keysOk true ks ≡ true → allIn (isForm true) ks ≡ true
+pub forms : (ks : List ℕ) → keysOk true ks ≡ true → allIn (isForm true) ks ≡ true
 forms ks g = apart-forms true ks (keys-apart true ks g)
 
 keys-behind : (k : ℕ) (ks : List ℕ) → keysOk true (k ∷ ks) ≡ true → keysOk true ks ≡ true
@@ -47,8 +48,16 @@ keys-behind k ks g =
     (rising-behind k ks (keys-rising true (k ∷ ks) g))
 
 row-low : (k : ℕ) → isForm true k ≡ true → bookRow k ≤ 4
-unfolding isForm
-row-low k f = book-again k f .1
+row-low k f = ⊎-elim (λ b. book-again k b .1) (λ z. omega (arith, z)) (form-book k f)
+
+-- a key that another follows is a book key: the floor's is the greatest
+followed : (k x : ℕ) (ks : List ℕ) → keysOk true (k ∷ x ∷ ks) ≡ true → isBookKey k ≡ true
+unfolding allIn
+followed k x ks g =
+    let l = rising-next k x ks (keys-rising true (k ∷ x ∷ ks) g) in
+    let f = forms (k ∷ x ∷ ks) g in
+    let h = form-floor x (and-left (isForm true x) _ (and-right (isForm true k) _ f)) in
+    ⊎-elim (λ b. b) (λ z. absurd (omega arith)) (form-book k (and-left (isForm true k) _ f))
 
 -- the keys behind a key are greater
 greater : (k x : ℕ) (ks : List ℕ) → rising (k ∷ ks) ≡ true → member x ks ≡ true → k < x
@@ -59,7 +68,7 @@ greater k x (y ∷ ks) u m = go (greater y x ks (rising-behind k (y ∷ ks) u)) 
     go ih true e = omega (arith, rising-next k y ks u, eqb-true y x e)
     go ih false e = omega (arith, rising-next k y ks u, ih (behind y x ks (eqb-false y x e) m))
 
-least : (k x : ℕ) (ks : List ℕ) → rising (k ∷ ks) ≡ true → member x (k ∷ ks) ≡ true → k ≤ x
+pub least : (k x : ℕ) (ks : List ℕ) → rising (k ∷ ks) ≡ true → member x (k ∷ ks) ≡ true → k ≤ x
 least k x ks u m = go (eqb k x) refl
   where
     go : (b : Bool) → eqb k x ≡ b → k ≤ x
@@ -82,14 +91,14 @@ side (suc m) k (x ∷ ks) u h =
 
 -- ---- a book that has all five rows of the first key's id
 
-module _ (k : ℕ) (ks : List ℕ) (u : rising (k ∷ ks) ≡ true) (b : bookOk (k ∷ ks) ≡ true) where
+module _ (k : ℕ) (ks : List ℕ) (n : isFloorKey k ≡ false) (u : rising (k ∷ ks) ≡ true) (b : bookOk (k ∷ ks) ≡ true) where
   first-is : bookRow k ≡ 0
-  first-is = omega (arith, least k (bookKey (bookedId k) 0) ks u (book-five (k ∷ ks) k 0 b (here k ks) (omega arith)))
+  first-is = omega (arith, least k (bookKey (bookedId k) 0) ks u (key-five (k ∷ ks) k 0 b n (here k ks) (omega arith)))
 
   fifth-is : (4 < length (k ∷ ks)) × (getD (k ∷ ks) 4 0 ≡ lastOfFive k)
   fifth-is =
       side 4 k ks u
-      (λ j l. subst (λ (y : ℕ). member y (k ∷ ks) ≡ true) (omega (arith, first-is)) (book-five (k ∷ ks) k j b (here k ks) (omega arith)))
+      (λ j l. subst (λ (y : ℕ). member y (k ∷ ks) ≡ true) (omega (arith, first-is)) (key-five (k ∷ ks) k j b n (here k ks) (omega arith)))
 
 all-same : (f g : ℕ → Bool) (ks : List ℕ) → ((k : ℕ) → member k ks ≡ true → f k ≡ g k) → allIn f ks ≡ allIn g ks
 unfolding allIn
@@ -149,8 +158,11 @@ module _ (k k1 k2 k3 k4 : ℕ) (ks : List ℕ) (g : keysOk true (k ∷ k1 ∷ k2
     place (suc (suc (suc (suc zero)))) h = omega (arith, first)
     place (suc (suc (suc (suc (suc j))))) h = absurd (omega arith)
 
-    own : (x : ℕ) → bookedId x ≡ bookedId k → five all (bookedId x) ≡ true
-    own x q = rw q (five-all all (bookedId k) (λ j h. member-in (bookKey (bookedId k) j) all j (omega arith) (place j h)))
+    own : (x : ℕ) → bookedId x ≡ bookedId k → (isFloorKey x || five all (bookedId x)) ≡ true
+    own x q =
+        ap (λ (b : Bool). isFloorKey x || b)
+        (ap (five all) q ∙ five-all all (bookedId k) (λ j h. member-in (bookKey (bookedId k) j) all j (omega arith) (place j h)))
+        ∙ or-true (isFloorKey x)
 
     -- a key behind is of another id, whose rows are behind
     past : (x : ℕ) → k4 < x → member x all ≡ member x ks
@@ -176,7 +188,8 @@ module _ (k k1 k2 k3 k4 : ℕ) (ks : List ℕ) (g : keysOk true (k ∷ k1 ∷ k2
         let z = first in
         let b = between in
         rw (own k refl, own k1 (omega arith), own k2 (omega arith), own k3 (omega arith), own k4 (omega arith))
-        (all-same (λ (x : ℕ). five all (bookedId x)) (λ (x : ℕ). five ks (bookedId x)) ks later)
+        (all-same (λ (x : ℕ). isFloorKey x || five all (bookedId x)) (λ (x : ℕ). isFloorKey x || five ks (bookedId x)) ks
+        (λ x m. ap (λ (b : Bool). isFloorKey x || b) (later x m)))
 
   -- The first five keys are those of one id, and the rest have all five rows of each of theirs.
   five-first : bookOk all ≡ (eqb k4 (lastOfFive k) && bookOk ks)
@@ -184,24 +197,44 @@ module _ (k k1 k2 k3 k4 : ℕ) (ks : List ℕ) (g : keysOk true (k ∷ k1 ∷ k2
     where
       go : (b : Bool) → eqb k4 (lastOfFive k) ≡ b → (t : Bool) → bookOk all ≡ t → bookOk all ≡ (eqb k4 (lastOfFive k) && bookOk ks)
       go true eb t et = rw eb (whole (eqb-true k4 (lastOfFive k) eb))
-      go false eb true et = absurd (eqb-false k4 (lastOfFive k) eb (fifth-is k (k1 ∷ k2 ∷ k3 ∷ k4 ∷ ks) u et .1))
+      go false eb true et =
+          let n = book-no-floor k (followed k k1 (k2 ∷ k3 ∷ k4 ∷ ks) g) in
+          absurd (eqb-false k4 (lastOfFive k) eb (fifth-is k (k1 ∷ k2 ∷ k3 ∷ k4 ∷ ks) n u et .1))
       go false eb false et = rw eb et
 
--- Of fewer than five keys each is one of an id that lacks a row.
-five-few : (ks : List ℕ) → rising ks ≡ true → length ks < 5 → bookOk ks ≡ eqb (length ks) 0
-five-few [] u h = unfold bookOk allIn in refl
-five-few (k ∷ ks) u h = go (bookOk (k ∷ ks)) refl ∙ sym (ne-eqb (suc (length ks)) 0 (λ e. omega arith))
+-- Of fewer than five keys each but the floor's is one of an id that lacks a row.
+lacks : (k : ℕ) (ks : List ℕ) → isFloorKey k ≡ false → rising (k ∷ ks) ≡ true → length ks < 4 → bookOk (k ∷ ks) ≡ false
+lacks k ks n u h = go (bookOk (k ∷ ks)) refl
   where
     go : (t : Bool) → bookOk (k ∷ ks) ≡ t → bookOk (k ∷ ks) ≡ false
-    go true e = absurd (omega (arith, fifth-is k ks u e .0))
+    go true e = absurd (omega (arith, fifth-is k ks n u e .0))
     go false e = e
+
+five-one : (k : ℕ) → bookOk (k ∷ []) ≡ isFloorKey k
+five-one k = go (isFloorKey k) refl
+  where
+    go : (t : Bool) → isFloorKey k ≡ t → bookOk (k ∷ []) ≡ isFloorKey k
+    go true e = unfold bookOk allIn in rw e refl
+    go false e = lacks k [] e (unfold rising ahead in refl) (omega arith) ∙ sym e
+
+five-few : (ks : List ℕ) → keysOk true ks ≡ true → (length ks ≡ 1 → ⊥) → length ks < 5 → bookOk ks ≡ eqb (length ks) 0
+five-few [] g n h = unfold bookOk allIn in refl
+five-few (k ∷ []) g n h = absurd (n refl)
+five-few (k ∷ x ∷ ks) g n h =
+    lacks k (x ∷ ks) (book-no-floor k (followed k x ks g)) (keys-rising true (k ∷ x ∷ ks) g) (omega arith)
+    ∙ sym (ne-eqb (suc (suc (length ks))) 0 (λ e. omega arith))
 
 -- ---- keys still to be read
 
-pub book-few : (xs : List ℕ) (at m : ℕ) → keysOk true (fields 8 xs at m) ≡ true → m < 5 → bookOk (fields 8 xs at m) ≡ eqb m 0
-book-few xs at m g h =
-    five-few (fields 8 xs at m) (keys-rising true (fields 8 xs at m) g) (omega (arith, length-fields 8 xs at m))
-    ∙ ap (λ (n : ℕ). eqb n 0) (length-fields 8 xs at m)
+pub book-few : (xs : List ℕ) (at m : ℕ) → keysOk true (fields 8 xs at m) ≡ true → (m ≡ 1 → ⊥) → m < 5 → bookOk (fields 8 xs at m) ≡ eqb m 0
+book-few xs at m g n h =
+    let e = length-fields 8 xs at m in
+    five-few (fields 8 xs at m) g (λ q. n (sym e ∙ q)) (omega (arith, e)) ∙ ap (λ (n : ℕ). eqb n 0) e
+
+-- one is left, which was read
+pub book-one : (xs : List ℕ) (at m k : ℕ) → m ≡ 1 → k ≡ le 8 xs at → bookOk (fields 8 xs at m) ≡ isFloorKey k
+unfolding fields
+book-one xs at m k e q = rw (e, q) (five-one (le 8 xs at))
 
 -- at least five are left
 module _ (xs : List ℕ) (at m n : ℕ) (e : m ≡ suc (suc (suc (suc (suc n))))) (g : keysOk true (fields 8 xs at m) ≡ true) where
@@ -225,8 +258,7 @@ module _ (xs : List ℕ) (at m n : ℕ) (e : m ≡ suc (suc (suc (suc (suc n))))
 
   -- by the key that was read
   pub book-key : (k : ℕ) → k ≡ le 8 xs at → isBookKey k ≡ true
-  unfolding allIn isForm
-  book-key k q = rw q (and-left (isForm true (le 8 xs at)) _ (forms _ good))
+  book-key k q = rw q (followed (le 8 xs at) (le 8 xs (at + 8)) (le 8 xs (at + 16) ∷ le 8 xs (at + 24) ∷ le 8 xs (at + 32) ∷ rest) good)
 
   -- by the keys that were read
   module _ (k k4 : ℕ) (q : k ≡ le 8 xs at) (q4 : k4 ≡ le 8 xs (at + 32)) where

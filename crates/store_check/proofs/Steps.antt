@@ -14,10 +14,11 @@ use Rattle.questions.specs.Basics.{if_then_else_, eachFrom}
 use Rattle.questions.proofs.Each.{each-at}
 use Rattle.questions.proofs.Tests.{and-left, and-false}
 use Rattle.store.specs.Layout.{partsOf, capOf, keyAt, valueAt, usedOf}
-use Rattle.store.specs.Rows.{indexOf, keysIn, rowsOf}
-use Rattle.store.specs.Questions.{member, keysApart, keysOk, blankRow, partOkAt, partOkBy, question11InAnyOrder, allIn, bookOk, question12}
+use Rattle.store.specs.Rows.{pairs, indexOf, keysIn, rowsOf}
+use Rattle.store.specs.Questions.{member, keysApart, keysOk, blankRow, partOkAt, partOkBy, allIn, bookRight}
+use Rattle.store.specs.Questions.{question11InAnyOrder, question12}
 use Rattle.store.specs.Sound.{Dimensions, Formed, KeysGood, Sound}
-use Rattle.store.proofs.Bytes.{count-is, rows-keys, keys-within, values-within}
+use Rattle.store.proofs.Bytes.{count-is, rows-keys, keys-within, values-within, used-le}
 use Rattle.store.proofs.Sound.{part-filled}
 
 -- ---- keys still to be read
@@ -145,16 +146,25 @@ module _ (xs : List ℕ) (p cap n k v : ℕ) (ec : cap ≡ capOf xs) (en : n ≡
 -- ---- the book
 
 module _ (xs : List ℕ) (p n from : ℕ) (ep : p ≡ partsOf xs) (en : n ≡ length (rowsOf xs p)) (ef : from ≡ keyAt xs p 0) where
-  book-rows : fields 8 xs from n ≡ keysIn (rowsOf xs (partsOf xs))
-  book-rows = ap₂ (fields 8 xs) ef (en ∙ count-is xs p) ∙ sym (rows-keys xs p) ∙ ap (λ (q : ℕ). keysIn (rowsOf xs q)) ep
-
-  pub book-is : bookOk (fields 8 xs from n) ≡ question12 xs
-  unfolding question12
-  book-is = ap bookOk book-rows
+  pub book-is : (to : ℕ) → to ≡ valueAt xs p 0 → bookRight (pairs (fields 8 xs from n) (fields 4 xs to n)) ≡ question12 xs
+  unfolding question12 rowsOf
+  book-is to et = let u : n ≡ usedOf xs p = en ∙ count-is xs p in rw (ef, et, u, ep) refl
 
   pub book-keys : Sound xs → keysOk true (fields 8 xs from n) ≡ true
   unfolding KeysGood
-  book-keys s = ap₂ keysOk (sym (eq-eqb (partsOf xs) (partsOf xs) refl)) book-rows ∙ s .keys (partsOf xs) (omega arith)
+  book-keys s =
+      ap₂ keysOk (sym (eq-eqb (partsOf xs) (partsOf xs) refl))
+      (ap₂ (fields 8 xs) ef (en ∙ count-is xs p) ∙ sym (rows-keys xs p) ∙ ap (λ (q : ℕ). keysIn (rowsOf xs q)) ep)
+      ∙ s .keys (partsOf xs) (omega arith)
+
+  -- keys and values lie within the store
+  pub book-within : Formed xs → (from + 8 * n ≤ length xs) × ((to : ℕ) → to ≡ valueAt xs p 0 → to + 4 * n ≤ length xs)
+  book-within f =
+      let l : p ≤ partsOf xs = omega (arith, ep) in
+      let fit : n ≤ capOf xs = omega (arith, en, used-le xs f p l) in (
+        omega (arith, ef, keys-within xs (f .shape) p l n fit),
+        λ to et. omega (arith, et, values-within xs (f .shape) p l n fit),
+      )
 
 -- the rows of question 11, whatever their order
 pub formed-of : (xs : List ℕ) → Dimensions xs → question11InAnyOrder xs ≡ true → Formed xs

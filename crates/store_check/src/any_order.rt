@@ -7,16 +7,17 @@ use store::head::key_place;
 use store::head::partition_count;
 use store::head::used_count;
 use store::head::value_place;
-ghost use mathlib.Core.Bool.{true};
+ghost use mathlib.Core.Bool.{true, _||_};
 ghost use mathlib.Core.Path.{_≡_};
 ghost use Prim.Native.Nat.{_+_, _-_, _*_, _%_, _≤_};
 ghost use lib.Dec.{eqb};
 ghost use lib.ListN.{length, getD};
 ghost use Rattle.words.specs.Words.{fields};
 ghost use Rattle.questions.specs.Verdicts.{verdictOf};
-ghost use Rattle.keys.specs.Keys.{bookedId};
-ghost use Rattle.store.specs.Rows.{indexOf};
-ghost use Rattle.store.specs.Questions.{member, keysApart, partOkAt, allIn, five, bookOk, question11InAnyOrder, question12, orderRefusal};
+ghost use Rattle.keys.specs.Keys.{bookedId, isFloorKey, floorAt};
+ghost use Rattle.store.specs.Rows.{indexOf, pairs, lookup};
+ghost use Rattle.store.specs.Questions.{member, keysApart, partOkAt, allIn, five, bookOk, fromFloor};
+ghost use Rattle.store.specs.Questions.{question11InAnyOrder, question12, orderRefusal};
 ghost use Rattle.store.specs.Sound.{Dimensions, Formed};
 
 // The place of `key` among the `count` keys from byte `keys_at` on, in whatever order they stand, or `count`. All may have to be read.
@@ -182,7 +183,19 @@ fn first_of(row: usize, number: usize) -> usize
     if number < row { row - number } else { 0 }
 }
 
-// Has each id of the `used` keys from byte `keys_at` on all five rows, wherever they stand?
+// Is `key`, in row `row` of the `used` keys from byte `keys_at` on, the floor's, or of an id that has all five rows, wherever they stand?
+fn key_whole(store: &[u8], keys_at: usize, used: usize, row: usize, key: u64) -> bool
+    requires { ⌜ («keys_at» + 8 * used ≤ length (now store)) × (row ≤ used) ⌝ }
+    ensures { λ r. ⌜ r ≡ (isFloorKey key || five (fields 8 (now (store .entry)) «keys_at» used) (bookedId key)) ⌝ }
+{
+    if keys::is_floor(key) {
+        return true;
+    }
+    let first = first_of(row, keys::book_row(key) as usize);
+    five_rows(store, keys_at, used, first, key)
+}
+
+// Has each id of the `used` keys from byte `keys_at` on all five rows?
 fn book_whole(store: &[u8], keys_at: usize, used: usize) -> bool
     requires { ⌜ «keys_at» + 8 * used ≤ length (now store) ⌝ }
     ensures { λ r. ⌜ r ≡ bookOk (fields 8 (now (store .entry)) «keys_at» used) ⌝ }
@@ -191,8 +204,38 @@ fn book_whole(store: &[u8], keys_at: usize, used: usize) -> bool
     let mut row = 0;
     while row < used {
         let key = words::read64(store, key_at);
-        let first = first_of(row, keys::book_row(key) as usize);
-        if !five_rows(store, keys_at, used, first, key) {
+        if !key_whole(store, keys_at, used, row, key) {
+            return false;
+        }
+        key_at += 8;
+        row += 1;
+    }
+    true
+}
+
+// The floor of a book whose `used` keys stand from byte `keys_at` on, their values from byte `values_at` on.
+fn floor_of(store: &[u8], keys_at: usize, values_at: usize, used: usize) -> u32
+    requires { ⌜ («keys_at» + 8 * used ≤ length (now store)) × («values_at» + 4 * used ≤ length (now store)) ⌝ }
+    ensures { λ r. ⌜ r ≡ floorAt (λ k. lookup k
+        (pairs (fields 8 (now (store .entry)) «keys_at» used) (fields 4 (now (store .entry)) «values_at» used))) ⌝ }
+{
+    let row = index_of(store, keys_at, used, keys::floor_key());
+    if row < used {
+        return words::read32(store, values_at + 4 * row);
+    }
+    0
+}
+
+// Is no id of the `used` keys from byte `keys_at` on below `floor`? The floor's own key is passed over: the number that stands in the place
+// of its id has more than 32 bits.
+fn none_below(store: &[u8], keys_at: usize, used: usize, floor: u32) -> bool
+    requires { ⌜ «keys_at» + 8 * used ≤ length (now store) ⌝ }
+    ensures { λ r. ⌜ r ≡ fromFloor floor (fields 8 (now (store .entry)) «keys_at» used) ⌝ }
+{
+    let mut key_at = keys_at;
+    let mut row = 0;
+    while row < used {
+        if keys::booked_id(words::read64(store, key_at)) < floor as u64 {
             return false;
         }
         key_at += 8;
@@ -209,7 +252,11 @@ fn check_book(store: &[u8]) -> bool
     let book = partition_count(store);
     let used = used_count(store, book);
     let keys_at = key_place(store, book, 0);
-    book_whole(store, keys_at, used)
+    if !book_whole(store, keys_at, used) {
+        return false;
+    }
+    let floor = floor_of(store, keys_at, value_place(store, book, 0), used);
+    none_below(store, keys_at, used, floor)
 }
 
 // The first no among questions 9 to 12, of 11 all but the rising keys.

@@ -20,7 +20,9 @@ ghost use Rattle.words.specs.Words.{fields};
 ghost use Rattle.questions.specs.Basics.{eachFrom};
 ghost use Rattle.questions.specs.Questions.{number, ask};
 ghost use Rattle.questions.specs.Verdicts.{verdictOf};
-ghost use Rattle.store.specs.Questions.{keysOk, blankRow, partOkAt, bookOk};
+ghost use Rattle.keys.specs.Keys.{floorAt};
+ghost use Rattle.store.specs.Rows.{pairs, lookup};
+ghost use Rattle.store.specs.Questions.{keysOk, blankRow, partOkAt, bookOk, fromFloor, bookRight};
 ghost use Rattle.store.specs.Questions.{question9, question10, question11, question12, storeRefusal};
 ghost use Rattle.store.specs.Sound.{Dimensions, Sound};
 
@@ -140,9 +142,9 @@ fn check_partitions(store: &[u8]) -> bool
     true
 }
 
-// Question 12 of a book, wherever it lies: its `used` keys stand from byte `keys_at` on, and question 11 passes them. Has each booked id
-// all five rows? Rising keys have them side by side, so that the fifth key is the last of the first one's five.
-fn book_ok(store: &[u8], keys_at: usize, used: usize) -> bool
+// Has each booked id all five rows, of a book whose `used` keys stand from byte `keys_at` on and pass question 11? Rising keys have them
+// side by side, so that the fifth key is the last of the first one's five. The floor's key comes last.
+fn five_each(store: &[u8], keys_at: usize, used: usize) -> bool
     requires { ⌜ («keys_at» + 8 * used ≤ length (now store)) × (keysOk true (fields 8 (now store) «keys_at» used) ≡ true) ⌝ }
     ensures { λ r. ⌜ r ≡ bookOk (fields 8 (now (store .entry)) «keys_at» used) ⌝ }
 {
@@ -156,7 +158,54 @@ fn book_ok(store: &[u8], keys_at: usize, used: usize) -> bool
         key_at += 40;
         left -= 5;
     }
+    if left == 1 {
+        return keys::is_floor(words::read64(store, key_at));
+    }
     left == 0
+}
+
+// The floor of such a book: no form of the book has a greater key, so its row is the last.
+fn floor_of(store: &[u8], keys_at: usize, values_at: usize, used: usize) -> u32
+    requires { ⌜ («keys_at» + 8 * used ≤ length (now store)) × («values_at» + 4 * used ≤ length (now store))
+        × (keysOk true (fields 8 (now store) «keys_at» used) ≡ true) ⌝ }
+    ensures { λ r. ⌜ r ≡ floorAt (λ k. lookup k
+        (pairs (fields 8 (now (store .entry)) «keys_at» used) (fields 4 (now (store .entry)) «values_at» used))) ⌝ }
+{
+    if used == 0 {
+        return 0;
+    }
+    let last = used - 1;
+    if keys::is_floor(words::read64(store, keys_at + 8 * last)) {
+        return words::read32(store, values_at + 4 * last);
+    }
+    0
+}
+
+// Is no booked id below `floor`? Keys rise, so the first is looked at and no other.
+fn from_floor(store: &[u8], keys_at: usize, used: usize, floor: u32) -> bool
+    requires { ⌜ («keys_at» + 8 * used ≤ length (now store)) × (keysOk true (fields 8 (now store) «keys_at» used) ≡ true) ⌝ }
+    ensures { λ r. ⌜ r ≡ fromFloor floor (fields 8 (now (store .entry)) «keys_at» used) ⌝ }
+{
+    if used == 0 {
+        return true;
+    }
+    let first = words::read64(store, keys_at);
+    floor as u64 <= keys::booked_id(first)
+}
+
+// Question 12 of a book, wherever it lies: its `used` keys stand from byte `keys_at` on, their values from byte `values_at` on, and
+// question 11 passes them.
+fn book_ok(store: &[u8], keys_at: usize, values_at: usize, used: usize) -> bool
+    requires { ⌜ («keys_at» + 8 * used ≤ length (now store)) × («values_at» + 4 * used ≤ length (now store))
+        × (keysOk true (fields 8 (now store) «keys_at» used) ≡ true) ⌝ }
+    ensures { λ r. ⌜ r
+        ≡ bookRight (pairs (fields 8 (now (store .entry)) «keys_at» used) (fields 4 (now (store .entry)) «values_at» used)) ⌝ }
+{
+    if !five_each(store, keys_at, used) {
+        return false;
+    }
+    let floor = floor_of(store, keys_at, values_at, used);
+    from_floor(store, keys_at, used, floor)
 }
 
 // Question 12.
@@ -167,7 +216,8 @@ fn check_book(store: &[u8]) -> bool
     let book = partition_count(store);
     let used = used_count(store, book);
     let keys_at = key_place(store, book, 0);
-    book_ok(store, keys_at, used)
+    let values_at = value_place(store, book, 0);
+    book_ok(store, keys_at, values_at, used)
 }
 
 // Questions 9 to 12: the first no among them.

@@ -25,9 +25,9 @@ use Rattle.code.proofs.Decoded.{decoded-begin, instruction-at}
 use Rattle.pack.specs.Layout.{sizeOf}
 use Rattle.pack.specs.Meaning.{packOf}
 use Rattle.pack.proofs.Laws.{workflow-at}
-use Rattle.store.specs.Rows.{Row, rowsOf, storeOf, keysIn}
+use Rattle.store.specs.Rows.{Row, rowsOf, storeOf}
 use Rattle.store.specs.Layout.{partsOf}
-use Rattle.store.specs.Questions.{bookOk}
+use Rattle.store.specs.Questions.{bookRight}
 use Rattle.store.specs.Questions as StoreQuestions
 use Rattle.store.proofs.Sound.{store-ok, store-passes}
 use Rattle.agents.specs.declared.Agent.{Agent}
@@ -142,7 +142,7 @@ module _ (pack store : List ℕ) (a : Agent) (h : a .id < 2 ^ 32) (t : Turnable 
                 λ n.
                 let f = store-ok store n in
                 store-passes store′ (y .sound (f .0))
-                (subst (λ (rows : List Row). bookOk (keysIn rows) ≡ true) (sym (y .book-rows)) (f .1));
+                (subst (λ (rows : List Row). bookRight rows ≡ true) (sym (y .book-rows)) (f .1));
             holds = refl;
             only = only-bytes store store′ (contentsOf (storeOf store′)) (y .parts) refl;
             bytes = λ n. same-bytes store store′ p lies (held a) (code pack store a h t) begin onto b logs through;

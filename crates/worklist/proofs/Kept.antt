@@ -90,6 +90,15 @@ can-list-more l id h = rw (lt-ltb (length (worklistOf l)) 16 (omega (arith, leng
     go true = refl
     go false = refl
 
+-- and of a full list
+pub can-list-full : (l : Worklist) (id : ℕ) → 16 ≤ l .count → Rules.canList id (worklistOf l) ≡ Rules.listed id (worklistOf l)
+unfolding Rules.canList
+can-list-full l id h = rw (le-ltb (length (worklistOf l)) 16 (omega (arith, length-worklist l))) (go (Rules.listed id (worklistOf l)))
+  where
+    go : (b : Bool) → if_then_else_ b true false ≡ b
+    go true = refl
+    go false = refl
+
 -- ── by the first place with an id ──
 
 module _ (l : Worklist) (id p : ℕ) (found : p ≡ firstFrom (hasId id) (l .places) (l .count - 0) 0) where
@@ -116,19 +125,13 @@ module _ (l : Worklist) (id p : ℕ) (found : p ≡ firstFrom (hasId id) (l .pla
   not-listed : l .count ≤ p → Rules.listed id (worklistOf l) ≡ false
   not-listed h = ap (Rules.listed id) (sym (rest-all es (l .count))) ∙ listed-no id es (l .count) 0 (omega (arith, is-first))
 
-  -- 26, of a full list
-  pub can-list-full : 16 ≤ l .count → Rules.canList id (worklistOf l) ≡ ltb p (l .count)
-  unfolding Rules.canList
-  can-list-full h = go (decLt p (l .count))
+  -- an id is listed where its first place is among those of the list
+  pub listed-is : Rules.listed id (worklistOf l) ≡ ltb p (l .count)
+  listed-is = go (decLt p (l .count))
     where
-      go : Dec (p < l .count) → if_then_else_ (Rules.listed id (worklistOf l)) true (ltb (length (worklistOf l)) 16) ≡ ltb p (l .count)
-      go (yes e) = rw (is-listed e, lt-ltb p (l .count) e) refl
-      go (no e) =
-          rw (
-            not-listed (omega arith),
-            le-ltb p (l .count) (omega arith),
-            le-ltb (length (worklistOf l)) 16 (omega (arith, length-worklist l)),
-          ) refl
+      go : Dec (p < l .count) → Rules.listed id (worklistOf l) ≡ ltb p (l .count)
+      go (yes e) = is-listed e ∙ sym (lt-ltb p (l .count) e)
+      go (no e) = not-listed (omega arith) ∙ sym (le-ltb p (l .count) (omega arith))
 
   -- 26, of a new id
   pub room-for-new : l .count ≤ p → Rules.canList id (worklistOf l) ≡ true → l .count < 16

@@ -101,6 +101,16 @@ pub fn is_right(l: Worklist) -> bool
     true
 }
 
+// Is this id listed, waiting or taken?
+pub fn is_listed(l: Worklist, id: u32) -> bool
+    requires { ⌜ Rules.listRight (worklistOf l) ≡ true ⌝ }
+    ensures { λ r. ⌜ r ≡ Rules.listed id (worklistOf l) ⌝ }
+{
+    let places = l.places;
+    let count = l.count as usize;
+    place_from(places, count, 0, id) < count
+}
+
 // Question 26.
 pub fn can_list(l: Worklist, id: u32) -> bool
     requires { ⌜ Rules.listRight (worklistOf l) ≡ true ⌝ }
@@ -109,9 +119,7 @@ pub fn can_list(l: Worklist, id: u32) -> bool
     if l.count < 16 {
         return true;
     }
-    let places = l.places;
-    let count = l.count as usize;
-    place_from(places, count, 0, id) < count
+    is_listed(l, id)
 }
 
 // Add: a new id goes to the end, waiting; a listed one changes nothing.

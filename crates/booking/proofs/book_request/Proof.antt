@@ -9,11 +9,10 @@ use Rattle.contents.specs.Contents.{contentsOf, argumentsOf, valueIn, bookOf, b
 use Rattle.keys.specs.Keys.{bookKey}
 use Rattle.store.specs.Rows.{rowsOf}
 use Rattle.store.specs.Sound.{Sound}
-use Rattle.store.specs.Questions as StoreQuestions
 use Rattle.store.specs.Layout.{partsOf}
 use Rattle.store.proofs.Bytes.{used-le}
 use Rattle.store.proofs.Search.{at-row, no-lookup}
-use Rattle.store.proofs.Sound.{store-ok}
+use Rattle.store.proofs.Sound.{store-ok, twelve-parts}
 use Rattle.agents.specs.Requests.{asked}
 use Rattle.booking.specs.Booking.{withRequest}
 use Rattle.booking.proofs.Booking.{booked-18, booked-19, booked-known, booked-new, wrote-request, length-after, book-keys}
@@ -22,7 +21,7 @@ use Rattle.booking.proofs.book_request.Statement.{statement}
 use Rattle.booking.proofs.book_request.Tie as tie
 
 sounds : (c : tie.Start) → Sound (c .args .store .now)
-sounds c = store-ok _ (c .pre) .0
+sounds c = store-ok _ (c .pre .0) .0
 
 -- From a place of the proof back: to the answer of the search, where the row is found and where it is not, and to the start.
 abbrev hit : tie.After-partition-count → tie.After-found
@@ -65,7 +64,6 @@ more : (c : tie.After-used-count) →
     let a = start (miss (counted c) .before .before) .args in
     let rows = bookRows (a .store .now) in
     (length (withRequest (a .id) (asked (a .q)) rows) ≡ length rows + 5) × (c .used-count .result ≡ length rows)
-unfolding StoreQuestions.question12
 more c =
     let p = counted c in
     let f = miss p in
@@ -73,7 +71,7 @@ more c =
     let st = start br in
     let a = st .args in (
       length-after (a .id) (a .q .workflow) (a .q .a0) (a .q .a1) (a .q .a2) (a .q .a3) (bookRows (a .store .now))
-          (store-ok _ (st .pre) .1) (br .booked-row .ensures .1) (book-keys _ (sounds st))
+          (twelve-parts _ (store-ok _ (st .pre .0) .1) .0) (br .booked-row .ensures .1) (book-keys _ (sounds st))
           (no-lookup (bookKey (a .id) 0) _ _ (sym (br .booked-row .ensures .0) ∙ f .found2 .given .1)),
       c .used-count .ensures ∙ ap (λ (q : ℕ). length (rowsOf (a .store .now) q)) (p .partition-count2 .ensures),
     )
@@ -158,6 +156,7 @@ book-request-spec =
     let new = sym (br .booked-row .ensures .0) ∙ f .found2 .given .1 in
     booked-new _ (a .id) _ _ _ (found-none (bookRows (a .store .now)) (a .id) _ (br .booked-row .ensures .1) new)
     (omega (arith, more u .1, w .before .before .if2 .left, u .before .before .capacity .ensures))
-    (wrote-request _ _ (a .id) (a .q .workflow) (a .q .a0) (a .q .a1) (a .q .a2) (a .q .a3) (st .pre) (br .booked-row .ensures .1)
+    (wrote-request _ _ (a .id) (a .q .workflow) (a .q .a0) (a .q .a1) (a .q .a2) (a .q .a3) (st .pre .0)
+    (br .booked-row .ensures .1) (st .pre .1)
     (no-lookup (bookKey (a .id) 0) _ _ new) (w .write-request .ensures))
     (c .accepted2 .ensures)))

@@ -11,8 +11,10 @@ of-form-spec =
     tie.close
     (tie.spec
     (λ c κs. search needs)
-    (λ c. rw (c .before .if1 .taken) (c .is-book .ensures))
+    (λ c. rw (c .before .before .if1 .taken, sym (c .before .is-book .ensures) ∙ c .if2 .taken) refl)
     (λ c κs. search needs)
-    (λ c. rw (c .before .before .if1 .left, sym (c .before .is-data .ensures) ∙ c .if2 .taken) refl)
+    (λ c. let b = c .before .before in rw (b .before .if1 .taken, sym (b .is-book .ensures) ∙ c .before .if2 .left) (c .is-floor .ensures))
     (λ c κs. search needs)
-    (λ c. rw (c .before .before .before .if1 .left, sym (c .before .before .is-data .ensures) ∙ c .before .if2 .left) (c .is-log .ensures)))
+    (λ c. rw (c .before .before .if1 .left, sym (c .before .is-data .ensures) ∙ c .if3 .taken) refl)
+    (λ c κs. search needs)
+    (λ c. rw (c .before .before .before .if1 .left, sym (c .before .before .is-data .ensures) ∙ c .before .if3 .left) (c .is-log .ensures)))

@@ -12,9 +12,11 @@ use Rattle.contents.specs.Contents.{contentsOf}
 use Rattle.booking.specs.Booking.{bookRefusal}
 use Rattle.agents.specs.Requests.{asked}
 use Rattle.runtime.proofs.Arriving.{arrives, as-booked, is-unbooked}
-use Rattle.runtime.proofs.Rules.{zero-no, workflow-no, booking-left}
+use Rattle.runtime.proofs.Rules.{zero-no, floor-no, workflow-no, booking-left}
 use Rattle.pack.proofs.Laws.{accepted-laid, length-pack}
+use Rattle.rules.specs.Store.{floorOf}
 use Rattle.rules.specs.Calls as Calls
+use Rattle.store.proofs.Sound.{store-ok}
 use Rattle.agents.specs.declared.Outcome.{Outcome}
 use Rattle.agents.specs.Slots.{recordOf, Tidy}
 use Rattle.agents.specs.Answers as Answers
@@ -55,11 +57,16 @@ tidied c =
     (lent-14 _ _ (lent-yes c noWorklist))
 
 -- that yes, from behind 17
-abbrev yes-16 : tie.Else2 → tie.After-enum-told
-yes-16 c = c .before .before .before .before
+abbrev yes-16 : tie.Else3 → tie.After-enum-told
+yes-16 c = c .before .before .before .before .before .before .before
+
+-- what 30 asks: the floor that was read is the store's
+floor-is : (c : tie.After-floor) → c .floor .result ≡ floorOf (contentsOf (storeOf (start (c .before .before .before) .args .store .now)))
+unfolding contentsOf
+floor-is c = c .floor .ensures
 
 -- behind 17 only 18 and 19 are left
-later : (c : tie.Else2) (list : Worklist) →
+later : (c : tie.Else3) (list : Worklist) →
     let a = start (yes-16 c) .args in
     refusalFor (a .pack .now) (record { store = a .store .now; records = a .agents; list = list })
     (Calls.arrival (a .slot) (a .id) (a .q .workflow) (asked (a .q) .arguments))
@@ -67,11 +74,13 @@ later : (c : tie.Else2) (list : Worklist) →
 unfolding bookRefusal
 later c list =
     let m = c .before .before in
+    let f = m .before .before in
     let t = yes-16 c in
     let s = start t .args in
     arrival-left _ _ (s .slot) (s .id) (s .q .workflow) _ (begun t list)
-    ∙ booking-left (s .id) (s .q .workflow) (length (packOf (s .pack .now))) _ (m .before .if1 .left)
-    (omega (arith, c .if2 .left, m .count-of .ensures, length-pack (s .pack .now)))
+    ∙ booking-left (s .id) _ (s .q .workflow) (length (packOf (s .pack .now))) _ (f .before .before .if1 .left)
+    (omega (arith, m .before .if2 .left, floor-is f))
+    (omega (arith, c .if3 .left, m .count-of .ensures, length-pack (s .pack .now)))
 
 pub arrival-spec : {M : Type 1} → statement M
 unfolding stateOf recordOf Calls.rule Answers.answerOf
@@ -88,21 +97,40 @@ arrival-spec =
     λ list.
     is-refused _ _ _ _ 24 0 0
     (arrival-left _ _ (s .slot) (s .id) (s .q .workflow) _ (begun t list)
-    ∙ zero-no (s .id) (s .q .workflow) (length (packOf (s .pack .now))) _ (c .before .if1 .taken)) (c .refused .ensures))
-    (λ c κs. omega (arith, accepted-laid _ (lent-pack _ _ (lent-yes (c .before) noWorklist)) .whole))
+    ∙ zero-no (s .id) _ (s .q .workflow) (length (packOf (s .pack .now))) _ (c .before .if1 .taken)) (c .refused .ensures))
+    (λ c κs. store-ok _ (lent-store _ _ (lent-yes (c .before .before) noWorklist)) .0)
+    (λ c κs. search needs)
+    (λ c. search needs)
+    (λ c.
+    let f = c .before .before in
+    let t = f .before .before .before in
+    let s = start t .args in
+    λ list.
+    is-refused _ _ _ _ 30 0 0
+    (arrival-left _ _ (s .slot) (s .id) (s .q .workflow) _ (begun t list)
+    ∙ floor-no (s .id) _ (s .q .workflow) (length (packOf (s .pack .now))) _ (f .before .before .if1 .left)
+    (omega (arith, c .before .if2 .taken, floor-is f))) (c .refused2 .ensures))
+    (λ c κs. omega (arith, accepted-laid _ (lent-pack _ _ (lent-yes (c .before .before .before .before) noWorklist)) .whole))
     (λ c κs. search needs)
     (λ c. search needs)
     (λ c.
     let m = c .before .before .before in
-    let t = m .before .before in
+    let f = m .before .before in
+    let t = f .before .before .before in
     let s = start t .args in
     λ list.
     is-refused _ _ _ _ 17 0 0
     (arrival-left _ _ (s .slot) (s .id) (s .q .workflow) _ (begun t list)
-    ∙ workflow-no (s .id) (s .q .workflow) (length (packOf (s .pack .now))) _ (m .before .if1 .left)
-    (omega (arith, c .before .if2 .taken, m .count-of .ensures, length-pack (s .pack .now))))
-    (c .refused2 .ensures))
-    (λ c κs. lent-store _ _ (lent-yes (c .before .before .before .before .before) noWorklist))
+    ∙ workflow-no (s .id) _ (s .q .workflow) (length (packOf (s .pack .now))) _ (f .before .before .if1 .left)
+    (omega (arith, m .before .if2 .left, floor-is f))
+    (omega (arith, c .before .if3 .taken, m .count-of .ensures, length-pack (s .pack .now))))
+    (c .refused3 .ensures))
+    (λ c κs.
+    let e = c .before in
+    let f = e .before .before .before .before in (
+      lent-store _ _ (lent-yes (f .before .before .before) noWorklist),
+      omega (arith, e .before .before .before .if2 .left, f .floor .ensures),
+    ))
     (λ c. search needs)
     (λ c κs. search needs)
     (λ c κs. let k = c .before .before .before .before .before in omega (arith, below (yes-16 (k .before .before))))
@@ -136,7 +164,7 @@ arrival-spec =
     let s = start (yes-16 e) .args in
     λ list.
     is-unbooked _ _ _ _ _ (s .id) (asked (s .q)) (k .book-request .result) (k .book-request .ensures) (later e list)
-    _ _ _ (b .b .given .1) (c .refused3 .ensures))
+    _ _ _ (b .b .given .1) (c .refused4 .ensures))
     (λ c. search needs)
     (λ c.
     let v = c .before .before in
@@ -144,4 +172,4 @@ arrival-spec =
     λ list.
     is-refused _ _ _ _ _ _ _
     (arrival-stops _ _ _ _ _ _ _ (refused-some (k .check-to-16 .result) _ _ _ _ (k .check-to-16 .ensures list) (v .v .given .1)))
-    (c .refused4 .ensures)))
+    (c .refused5 .ensures)))

@@ -1,11 +1,7 @@
 -- `store_check::check_book` meets its contract.
 use borrow.Author.Needs.{needs}
 use mathlib.Core.Path.{_∙_}
-use Prim.Native.Nat.{_≤_}
-use native.Mathlib.Omega.{arith}
-use Rattle.store.specs.Layout.{partsOf}
-use Rattle.store.proofs.Bytes.{keys-within, used-le}
-use Rattle.store_check.proofs.Steps.{book-is, book-keys}
+use Rattle.store_check.proofs.Steps.{book-is, book-keys, book-within}
 use Rattle.store_check.proofs.check_book.Statement.{statement}
 use Rattle.store_check.proofs.check_book.Tie as tie
 
@@ -16,15 +12,18 @@ check-book-spec =
     (λ c κs. search needs)
     (λ c κs. search needs)
     (λ c κs. search needs)
-    (λ c κs. let u = c .before in
-    let k = u .before in
-    let st = k .before .before in
-    let xs = st .args .store .now in
-    let p = k .partition-count .result in
-    let l : p ≤ partsOf xs = omega (arith, k .partition-count .ensures) in (
-      omega (arith, keys-within xs (st .pre .formed .shape) p l (u .used-count .result) (omega (arith, used-le xs (st .pre .formed) p l))),
-      book-keys xs _ _ _ (k .partition-count .ensures) (u .used-count .ensures) (c .key-place .ensures) (st .pre),
+    (λ c κs. search needs)
+    (λ c κs. let k = c .before in
+    let u = k .before in
+    let p = u .before in
+    let st = p .before .before in
+    let within = book-within _ _ _ _ (p .partition-count .ensures) (u .used-count .ensures) (k .key-place .ensures) (st .pre .formed) in (
+      within .0,
+      within .1 _ (c .value-place .ensures),
+      book-keys _ _ _ _ (p .partition-count .ensures) (u .used-count .ensures) (k .key-place .ensures) (st .pre),
     ))
-    (λ c. let u = c .before .before in
-    let k = u .before in
-    c .book-ok .ensures ∙ book-is _ _ _ _ (k .partition-count .ensures) (u .used-count .ensures) (c .before .key-place .ensures)))
+    (λ c. let v = c .before in
+    let k = v .before in
+    let u = k .before in
+    c .book-ok .ensures
+    ∙ book-is _ _ _ _ (u .before .partition-count .ensures) (u .used-count .ensures) (k .key-place .ensures) _ (v .value-place .ensures)))

@@ -2,7 +2,7 @@
 use borrow.Author.Needs.{needs}
 use mathlib.Core.Logic.{inl, inr}
 use native.Mathlib.Omega.{arith}
-use Rattle.cases.proofs.Made.{on-exported, on-order, on-listed, on-restart}
+use Rattle.cases.proofs.Made.{on-exported, on-order, on-listed, on-retire, on-restart}
 use Rattle.cases.proofs.call.store_call.Statement.{statement}
 use Rattle.cases.proofs.call.store_call.Tie as tie
 
@@ -38,17 +38,7 @@ store-call-spec =
     let p = e .before .before .before .before .before .before .before .pre in
     on-restart _ _ _ _ _ _ _ (p .1) (p .2) (p .3) _ _ _ _ (e .before .if1 .left) (e .if2 .left) (inl (i .if3 .taken))
     (x .sarthule-restart .ensures))
-    (λ c κs. search needs)
     (λ c. search needs)
-    (λ c. search needs)
-    (λ c. search needs)
-    (λ c.
-    let x = c .before .before .before .before .before .before in
-    let i = x .before .before .before .before in
-    let e = i .before .before in
-    let p = e .before .before .before .before .before .before .before .pre in
-    on-restart _ _ _ _ _ _ _ (p .1) (p .2) (p .3) _ _ _ _ (e .before .if1 .left) (e .if2 .left) (inr (i .if4 .taken))
-    (x .sarthule-restart2 .ensures))
     (λ c κs. search needs)
     (λ c. search needs)
     (λ c. search needs)
@@ -58,5 +48,27 @@ store-call-spec =
     let x = c .before .before .before .before in
     let i = x .before .before .before .before .before in
     let p = i .before .before .before .before .before .before .before .before .before .pre in
-    on-listed _ _ _ _ _ _ _ (p .1) (p .2) (p .3) _ _ _ (omega (arith, i .before .if3 .left)) (omega (arith, i .if4 .left))
+    on-retire _ _ _ _ _ _ _ (p .1) (p .2) (p .3) _ _ _ (i .if4 .taken) (x .sarthule-retire .ensures))
+    (λ c κs. search needs)
+    (λ c. search needs)
+    (λ c. search needs)
+    (λ c. search needs)
+    (λ c.
+    let x = c .before .before .before .before .before .before in
+    let i = x .before .before .before .before in
+    let e = i .before .before .before in
+    let p = e .before .before .before .before .before .before .before .pre in
+    on-restart _ _ _ _ _ _ _ (p .1) (p .2) (p .3) _ _ _ _ (e .before .if1 .left) (e .if2 .left) (inr (i .if5 .taken))
+    (x .sarthule-restart2 .ensures))
+    (λ c κs. search needs)
+    (λ c. search needs)
+    (λ c. search needs)
+    (λ c. search needs)
+    (λ c. search needs)
+    (λ c.
+    let x = c .before .before .before .before in
+    let i = x .before .before .before .before .before in
+    let p = i .before .before .before .before .before .before .before .before .before .before .pre in
+    on-listed _ _ _ _ _ _ _ (p .1) (p .2) (p .3) _ _ _ (omega (arith, i .before .before .if3 .left))
+    (omega (arith, i .before .if4 .left, i .if5 .left))
     (x .list-call .ensures)))

@@ -1,11 +1,10 @@
--- `store_check::any_order::check_book` meets its contract.
+-- `store_check::any_order::check_book` meets its contract: the two parts of question 12.
 use borrow.Author.Needs.{needs}
-use mathlib.Core.Path.{_∙_}
-use Prim.Native.Nat.{_≤_}
-use native.Mathlib.Omega.{arith}
-use Rattle.store.specs.Layout.{partsOf}
-use Rattle.store.proofs.Bytes.{keys-within, used-le}
-use Rattle.store_check.proofs.Steps.{book-is}
+use mathlib.Core.Path.{refl, sym, _∙_}
+use borrow.Author.Tests.{not-true, not-false}
+use Rattle.store.specs.Layout.{valueAt}
+use Rattle.store_check.proofs.Steps.{book-is, book-within}
+use Rattle.store_check.proofs.Floor.{right-no, right-is}
 use Rattle.store_check.proofs.any_order.check_book.Statement.{statement}
 use Rattle.store_check.proofs.any_order.check_book.Tie as tie
 
@@ -16,15 +15,33 @@ check-book-spec =
     (λ c κs. search needs)
     (λ c κs. search needs)
     (λ c κs. search needs)
-    (λ c κs. let k = c .before .before in
-    let st = k .before .before in
-    let xs = st .args .store .now in
-    let l : k .partition-count .result ≤ partsOf xs = omega (arith, k .partition-count .ensures) in
-    omega (
-      arith,
-      keys-within xs (st .pre .shape) (k .partition-count .result) l (c .before .used-count .result)
-          (omega (arith, used-le xs (st .pre) (k .partition-count .result) l)),
-    ))
-    (λ c. let u = c .before .before in
-    let k = u .before in
-    c .book-whole .ensures ∙ book-is _ _ _ _ (k .partition-count .ensures) (u .used-count .ensures) (c .before .key-place .ensures)))
+    (λ c κs. let u = c .before in
+    let p = u .before in
+    book-within _ _ _ _ (p .partition-count .ensures) (u .used-count .ensures) (c .key-place .ensures) (p .before .before .pre) .0)
+    (λ c. let b = c .before in
+    let k = b .before in
+    let u = k .before in
+    let p = u .before in
+    let xs = p .before .before .args .store .now in
+    let to = valueAt xs (p .partition-count .result) 0 in
+    sym (sym (book-is _ _ _ _ (p .partition-count .ensures) (u .used-count .ensures) (k .key-place .ensures) to refl)
+    ∙ right-no _ _ _ _ (sym (b .book-whole .ensures) ∙ not-true _ (c .if1 .taken))))
+    (λ c κs. search needs)
+    (λ c κs. let k = c .before .before .before in
+    let u = k .before in
+    let p = u .before in
+    let st = p .before .before in
+    let within = book-within _ _ _ _ (p .partition-count .ensures) (u .used-count .ensures) (k .key-place .ensures) (st .pre) in
+    (within .0, within .1 _ (c .value-place .ensures)))
+    (λ c κs. let k = c .before .before .before .before in
+    let u = k .before in
+    let p = u .before in
+    book-within _ _ _ _ (p .partition-count .ensures) (u .used-count .ensures) (k .key-place .ensures) (p .before .before .pre) .0)
+    (λ c. let f = c .before in
+    let v = f .before in
+    let b = v .before .before in
+    let k = b .before in
+    let u = k .before in
+    c .none-below .ensures
+    ∙ sym (right-is _ _ _ _ (sym (b .book-whole .ensures) ∙ not-false _ (v .before .if1 .left)) _ (f .floor-of .ensures))
+    ∙ book-is _ _ _ _ (u .before .partition-count .ensures) (u .used-count .ensures) (k .key-place .ensures) _ (v .value-place .ensures)))

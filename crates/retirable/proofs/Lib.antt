@@ -1,0 +1,3 @@
+mod One
+mod Walk
+mod First

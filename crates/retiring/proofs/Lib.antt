@@ -1,0 +1,4 @@
+pub mod Counts
+pub mod Book
+pub mod Logs
+pub mod Made
