@@ -39,6 +39,10 @@
  * calls led to them. An earlier library left rows in the order in which they came: such a store is put in order once, by
  * sarthule_order; until then every other call that puts question 11 refuses it with 11.
  *
+ * The floor is kept in the store as one row more of the book: stored key SARTHULE_FLOOR_KEY, value the floor. No other key of
+ * the book is as great, so it is the last used row there, and the book's used count includes it. A store without it has floor
+ * 0, as every store had before sarthule_retire first raised it.
+ *
  * Answers. A call returns one of these numbers, and writes three words into `answer` (sarthule_word reads them):
  *
  *   returned              word 0     word 1     word 2
@@ -56,17 +60,24 @@
  * own, and are looked at in that sequence: `answer` first.
  *
  * Questions. The first no is the number of the refusal; sarthule_question below has them, in the order in which they are
- * put: 25 to 27 stand behind 14, and 24 between 16 and 17.
+ * put: 25 to 29 stand behind 14, and 24 and 30 between 16 and 17.
  *
  * The check puts 1 to 8. Open and figures put 1 to 8 and 17. Create puts 9 and 10. Order puts 9 to 12, of 11 all but the rising keys.
- * Add puts 1 to 14, 25, 26 and 20; take and done put 1 to 14, 25 and 27; sarthule_reply puts 1 to 13 and 20. Restart puts none.
- * Arrival, retry, turn and crash put 1 to 21 and 24, save those marked for calls that they aren't; none of them gets the list.
+ * Add puts 1 to 14, 25, 26 and 20; take and done put 1 to 14, 25 and 27; retire puts 1 to 14, 25, 28 and 29; sarthule_reply
+ * puts 1 to 13 and 20. Restart puts none. Arrival, retry, turn and crash put 1 to 21, 24 and 30, save those marked for calls
+ * that they aren't; none of them gets the list.
  *
  * The worklist. An id that is booked may be put on the list (add), so that a terminal is told it is accepted, and be finished
  * later: a worker takes the first id that waits (take), starts an agent for it (retry), and when it has replied takes it off
  * the list (done). Done is refused until the id is logged through: starting from the booked request, with each block's result
  * taken from its log row, the log leads to RETURN. So no listed request vanishes before its reply can be worked out from the
- * log (sarthule_reply). A restart, where all agents are gone, has all entries waiting again.
+ * log (sarthule_reply), which it can until it is retired. A restart, where all agents are gone, has all entries waiting again.
+ *
+ * Retiring. A book has room for C / 5 requests, and each leaves its log rows. Retiring removes the book and log rows of every
+ * id below a floor, and these rows may be used again; what the retired requests did to the data stays. The floor stays in the
+ * store and only rises, and an arrival of a smaller id is refused with 30 from then on, so that a late repeat does not act
+ * again. New requests therefore need ids that rise, and a host retires only what no terminal will ask for any more: a retired
+ * request has no reply.
  */
 #ifndef SARTHULE_H
 #define SARTHULE_H
@@ -87,6 +98,7 @@ extern "C" {
 #define SARTHULE_OPEN_BYTES 28
 #define SARTHULE_FIGURES_BYTES 48
 #define SARTHULE_STORE_BYTES(P, C) (3 + 2 * ((size_t)(P) + 1) + 12 * (size_t)(C) * ((size_t)(P) + 1))
+#define SARTHULE_FLOOR_KEY ((uint64_t)1 << 40)
 
 #define SARTHULE_DONE 0u
 #define SARTHULE_MOVED 1u
@@ -125,15 +137,18 @@ static inline const char *sarthule_question(uint32_t number)
     case 10: return "Is the store's length right?";
     case 11: return "Is each used count at most C, each used key of a form of its partition and unlike the others there, "
                     "each unused row zero, and are the used keys rising?";
-    case 12: return "Has each booked id all five rows?";
+    case 12: return "Has each booked id all five rows, and is none below the floor?";
     case 13: return "Is each booked workflow below m, each BEGIN's partition below P?";
     case 14: return "Is each slot empty or sound?";
-    case 25: return "Has the list at most 16 ids, none twice, each waiting or taken (add, take, done)?";
+    case 25: return "Has the list at most 16 ids, none twice, each waiting or taken (add, take, done, retire)?";
     case 26: return "If the id isn't listed, are fewer than 16 listed (add)?";
     case 27: return "Is an id waiting (take), or the id taken and logged through (done)?";
+    case 28: return "Is each smaller booked id logged through, in no slot and not on the worklist (retire)?";
+    case 29: return "Is a smaller id booked (retire)?";
     case 15: return "Is the slot 0 to 7?";
     case 16: return "Is it empty (arrival, retry) or in use (turn, crash)?";
     case 24: return "Is the id other than 0 (arrival)?";
+    case 30: return "Is the id not below the floor (arrival)?";
     case 17: return "Is the workflow below m (arrival, opening, figures)?";
     case 18: return "If the id is known, are workflow and arguments those booked (arrival)?";
     case 19: return "If it is new, are five book rows free (arrival)?";
@@ -181,7 +196,8 @@ uint32_t sarthule_order(uint8_t *store, size_t store_len, uint8_t *answer, size_
 /*
  * A request arrives: a new id is booked, with its workflow and four arguments, and an agent is started in the slot, which
  * must be empty. A known id with the same workflow and arguments only starts an agent. Done, or refused. Id 0, which a
- * handheld sends until it is paired, is never accepted: 24, also where an older store has it booked.
+ * handheld sends until it is paired, is never accepted: 24, also where an older store has it booked. An id below the floor is
+ * not accepted any more: 30, whether it was ever booked or not.
  */
 uint32_t sarthule_arrival(const uint8_t *pack, size_t pack_len, uint8_t *store, size_t store_len, uint8_t *slots,
     size_t slots_len, size_t slot, uint32_t id, uint32_t workflow, uint32_t argument0, uint32_t argument1,
@@ -189,7 +205,8 @@ uint32_t sarthule_arrival(const uint8_t *pack, size_t pack_len, uint8_t *store, 
 
 /*
  * Starts an agent for a booked id in the slot, which must be empty: after a crash, or to have a reply again. What it has
- * logged is not done a second time. Done, or refused. A 0 that an older store has booked is retried like any other id.
+ * logged is not done a second time. Done, or refused; a retired id is not booked, 20. A 0 that an older store has booked is
+ * retried like any other id.
  */
 uint32_t sarthule_retry(const uint8_t *pack, size_t pack_len, const uint8_t *store, size_t store_len, uint8_t *slots,
     size_t slots_len, size_t slot, uint32_t id, uint8_t *answer, size_t answer_len);
@@ -234,6 +251,18 @@ uint32_t sarthule_take(const uint8_t *pack, size_t pack_len, const uint8_t *stor
  */
 uint32_t sarthule_done(const uint8_t *pack, size_t pack_len, const uint8_t *store, size_t store_len, const uint8_t *slots,
     size_t slots_len, uint8_t *list, size_t list_len, uint32_t id, uint8_t *answer, size_t answer_len);
+
+/*
+ * Retires every request with an id below the floor: its book rows and its log rows in every partition are removed, and log rows
+ * of smaller ids that are not booked too, so that these rows are free again. Data rows stay. The floor is kept in the store, in
+ * a row of the book that the first retire adds and each later one overwrites: a book that was full then has five rows free for
+ * each retired request, less the one of the first retire. Done, or refused; 28 where a smaller booked id is not logged through,
+ * or is in a slot in use or on the list, waiting or taken; 29 where none is booked, which a floor 0 meets, and one that is not
+ * above the last. So a floor of 1 more than the greatest booked id retires all, and 4294967295, the greatest id, is never
+ * retired. Slots and list are only read.
+ */
+uint32_t sarthule_retire(const uint8_t *pack, size_t pack_len, uint8_t *store, size_t store_len, const uint8_t *slots,
+    size_t slots_len, const uint8_t *list, size_t list_len, uint32_t floor, uint8_t *answer, size_t answer_len);
 
 /*
  * The reply of a booked id, worked out from the log alone: what every agent of it replies, and what a retry would have it reply

@@ -246,6 +246,36 @@ pub fn nearly_empty() -> State {
     State { store: filled(8, 0, |store| book_all(store, 2..=2)), ..full() }
 }
 
+/// How far apart the ids are that may be retired; log rows of ids between them are not booked.
+pub const APART: u32 = 1_000;
+/// How many requests a book of C = 256 has room for.
+pub const BOOKED: u32 = 51;
+
+/// P = 8 and C = 256, as full as it goes: 51 requests in the book, each with a block in every partition and logged through; of the
+/// other rows of a partition 77 are log rows of ids between them, and 128 data rows. The greatest id stands at its first block in slot
+/// 0. The worklist is as long as it goes and has that id and 15 greater ones.
+pub fn retirable() -> State {
+    let ids = || (1..=BOOKED).map(|number| APART * number);
+    let mut code: Vec<(u8, u32)> = (0..8).flat_map(|partition| [(0x60, partition), (0x70, 0)]).collect();
+    code.push((0xB0, 0));
+    let mut store = Store::lay_out(fresh(8, 256).expect("numbers in range")).expect("a fresh store");
+    for partition in 0..8 {
+        for id in ids() {
+            store.put(partition, Key::Log { id, step: partition as u16 }.stored(), id);
+        }
+        for other in 0..77 {
+            store.put(partition, Key::Log { id: 650 * other + 1, step: 0 }.stored(), other);
+        }
+        (0..128).for_each(|key| _ = store.put(partition, Key::Data(key).stored(), key));
+    }
+    ids().for_each(|id| store.book(&Request { id, workflow: 0, arguments: [id, 2, 3, 4] }));
+    let last = APART * BOOKED;
+    let mut slots = ALL_EMPTY;
+    slots[0] = Agent::started(last, [last, 2, 3, 4]);
+    let entries: Vec<_> = (last..last + 16).map(|id| (id, WAITING)).collect();
+    State { pack: encode(&[code]), store: store.bytes().to_vec(), slots, list: Worklist::of(&entries) }
+}
+
 /// How the rows of a store that is put in order stand before.
 #[derive(Clone, Copy)]
 pub enum Standing {

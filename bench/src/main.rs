@@ -14,7 +14,7 @@ mod inputs;
 mod sides;
 
 use inputs::{at_block, at_full, far_jumps, first_id_alone, full, nearly_empty, nearly_full, pack, schedule, standing};
-use inputs::{turning_pack, with_worklist, Keys, Standing, State, LATEST};
+use inputs::{retirable, turning_pack, with_worklist, Keys, Standing, State, APART, BOOKED, LATEST};
 use reference::store::Request;
 use reference::Call;
 use sides::{answer, bytes, is_list, Lent, OnPack};
@@ -138,8 +138,21 @@ fn cases_of_worklist() -> Vec<Case> {
     ]
 }
 
-/// The main cases, then how each grows, then those of rows by rising key, of where a search ends, of figures and of the
-/// worklist.
+/// Retires on a full store, of one request, of half of them and of all but the last, each with the log rows of the ids between them,
+/// beside a crash on the same state, which puts the same questions 1 to 14.
+fn cases_of_retire() -> Vec<Case> {
+    let at = |what: &str, call| one(&format!("{what} P=8 C=256"), retirable, call);
+    let retire = |requests: u32| {
+        let floor = APART * requests + 1;
+        at(&format!("retire {requests}"), Call::Retire { floor })
+    };
+    let mut all = vec![at("crash at retires", CRASH)];
+    all.extend([1, BOOKED / 2, BOOKED - 1].map(retire));
+    all
+}
+
+/// The main cases, then how each grows, then those of rows by rising key, of where a search ends, of figures, of the worklist and of
+/// retires.
 fn cases() -> Vec<Case> {
     let at = |what: &str, call, p, c, m| {
         let total = total(&turning_pack(p, m));
@@ -163,6 +176,7 @@ fn cases() -> Vec<Case> {
     all.extend(cases_of_search());
     all.extend(cases_of_figures());
     all.extend(cases_of_worklist());
+    all.extend(cases_of_retire());
     all
 }
 

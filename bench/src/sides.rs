@@ -70,6 +70,7 @@ impl Lent {
             Call::Add { id } => sarthule::add(pack, store, slots, list, id),
             Call::Take => sarthule::take(pack, store, slots, list),
             Call::Done { id } => sarthule::done(pack, store, slots, list, id),
+            Call::Retire { floor } => sarthule::retire(pack, store, slots, list, floor),
         }
     }
 }

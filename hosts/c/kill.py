@@ -1,7 +1,7 @@
 #!/usr/bin/env python3
 """Kills the C host at random places and holds what it leaves to the stock's sums and to its worklist.
 
-kill.py STOCK FILE [ROUNDS [SEED]]: three parts, and in each some tries are killed: by SIGKILL after a random time, or by
+kill.py STOCK FILE [ROUNDS [SEED]]: five parts, and in each some tries are killed: by SIGKILL after a random time, or by
 the host itself at a place between two calls or two steps of a save (STOCK_DIES).
 
 1. `move`. First one of amount 0 under id 1, and one under id 0, which must be refused with 24 and its words. Then moves of
@@ -12,6 +12,10 @@ the host itself at a place between two calls or two steps of a save (STOCK_DIES)
    killed `work` leaves its id listed until it is logged through, and the next `work` finishes it first. What is taken may
    have no agent yet, or one, or none any more: kills must have left all three.
 3. `accept` and `work` in a random sequence, ROUNDS tries at random times and places. At the end the list must be empty.
+4. `retire`, killed at each place in turn: the file is the one before or the one after. On an older file it may also be
+   the one before, put in order.
+5. `move .. --keep 5` on a store of 64 rows, whose book has room for twelve moves, ROUNDS tries at random times and places.
+   The floor never falls, and at the end each retired move is refused with 30.
 
 Every fourth of the random tries is given an older file, the same rows in a random order, so that some are killed while it
 is put in order.
@@ -22,8 +26,8 @@ of the file's bytes here must come to the same requests under way and the same s
 other than 0 under way, since the check would be empty otherwise. The list must be right, each listed id booked, and each
 request that has a slip listed or logged through (W-208).
 
-In parts 2 and 3 the store must end with the very bytes of a plain run: the same requests, each by a `move` that nobody
-killed. So each accepted request is counted once, and each id has exactly its log rows.
+In parts 2, 3 and 5 the store must end with the very bytes of a plain run: the same requests, each by a `move` that nobody
+killed. So each accepted request is counted once, and each id has exactly its log rows, if it isn't retired.
 """
 import os
 import random
@@ -39,7 +43,7 @@ stock, path = sys.argv[1], sys.argv[2]
 content, stand = (partial(act, path) for act in (store.content, store.stand))
 rounds = int(sys.argv[3]) if len(sys.argv) > 3 else 200
 random.seed(int(sys.argv[4]) if len(sys.argv) > 4 else 1)
-IDS, SHELVES, MOST_LISTED = 48, 40, 16
+IDS, SHELVES, MOST_LISTED, KEPT = 48, 40, 16, 5
 
 
 def host(*words):
@@ -71,7 +75,9 @@ def amount_under_way():
     requests, total, amounts = store.sums(content())
     together = (total + amounts) % 2**32
     assert together == 0, f"the bytes: data and amounts under way come to {together}, not to 0"
-    expected = [f"under way {ident} {amount}" for ident, amount in requests]
+    floor = store.floor(content())
+    expected = [] if floor is None else [f"floor {floor}"]
+    expected += [f"under way {ident} {amount}" for ident, amount in requests]
     expected += [f"total {total}", f"amounts under way {amounts}", f"together {together}"]
     expected += [f"list {ident} {store.MARKS[mark]}" for ident, mark in store.listed(content())]
     _, lines = shown()
@@ -210,12 +216,12 @@ def check_work(out, ids):
         assert host("reply", line.split()[1]) == line + "\n", "the log gives another reply"
 
 
-def check_as_plain(requests):
-    """The store has the bytes that a plain run of the same requests leaves."""
+def check_as_plain(requests, rows=256, keep=()):
+    """The store has the bytes that a plain run of the same requests leaves, on so many rows and with these words to retire."""
     left = content()
-    host("init", "2", "256")
+    host("init", "2", str(rows))
     for words in requests:
-        host("move", *words)
+        host("move", *words, *keep)
     assert content()[:-store.BEHIND] == left[:-store.BEHIND], "not the store of the plain run"
 
 
@@ -309,5 +315,76 @@ def worklist():
           "the store is that of the plain run")
 
 
+# ---- retiring ----
+
+
+def retire_at_each_place(before, older):
+    """Old requests are retired although the command was killed at each place before, with the rows in order or not. How many
+    kills, and how many of them left the rows that were there before."""
+    after = store.retired(before, 7)
+    kills = {older: 0, before: 0, after: 0}
+    for start, words in ((before, ["7"]), (before, ["--keep", "3"]), (older, ["--keep", "3"])):
+        place, done = 0, False
+        while not done:
+            place += 1
+            stand(start)
+            done, out = attempt(["retire", *words], place=place)
+            left = content()
+            assert left == after or (not done and left in (start, before)), f"other rows, by a kill at place {place}"
+            assert out == "" or left == after, f"{out} before it is on the disk"
+            amount_under_way()
+            kills[left] += not done
+            host("retire", "--keep", "3")
+            assert content() == after, f"a retire behind one that was killed at place {place}"
+    assert all(kills.values()), "no kill left an older file, one in order, or a retired one"
+    return sum(kills.values()), kills[older] + kills[before]
+
+
+def keep_few(length):
+    """Moves that retire all but the newest, each tried until it ends by itself. How many tries were killed, and how many left
+    the move done and the older ones not retired yet."""
+    host("init", "2", "64")
+    keep, requests, killed, between, floor = ("--keep", str(KEPT)), [], 0, 0, 0
+    for ident in range(1, IDS + 1):
+        requests.append(random_request(ident))
+        for number in range(rounds * (ident - 1) // IDS, rounds * ident // IDS):
+            if number % 4 == 3:
+                make_older()
+            done, _ = attempt_killed(["move", *requests[-1], *keep], length, 50)
+            amount_under_way()
+            killed += not done
+            between += not done and ident in logged() and len(store.booked(content())) == KEPT + 1
+            floor, last_floor = store.floor(content()) or 0, floor
+            assert floor >= last_floor, f"the floor fell from {last_floor} to {floor}"
+        assert attempt(["move", *requests[-1], *keep])[0], "without a kill the host ends by itself"
+        assert store.booked(content()) == list(range(max(1, ident - KEPT + 1), ident + 1)), "not the newest ones"
+    left = content()
+    check_as_plain(requests, 64, keep)
+    stand(left)
+    return killed, between, requests[:-KEPT]
+
+
+def retiring():
+    host("init", "2", "256")
+    for ident in range(1, 9):
+        host("move", *random_request(ident))
+    host("accept", *random_request(9))
+    before = content()
+    make_older()
+    kills, unchanged = retire_at_each_place(before, content())
+    print(f"retire killed at {kills} places: {unchanged} kills left the rows as they were, the others retired; the next one finished")
+    host("init", "2", "256")
+    killed, between, retired = keep_few(seconds_of(["move", *random_request(1), "--keep", str(KEPT)]))
+    assert between > 0, "no kill came between a move and its retire: more rounds are needed"
+    left = content()
+    for words in retired:
+        refused = subprocess.run([stock, path, "move", *words], capture_output=True, text=True)
+        assert (refused.returncode, refused.stderr) == (1, "refused 30: Is the id not below the floor (arrival)?\n"), refused
+    assert content() == left, "a late repeat changed a byte"
+    print(f"{killed} of {rounds} tries to move and retire killed, {between} between the two; {len(retired)} of {IDS} moves retired, "
+          "their late repeats refused; the store is that of the plain run")
+
+
 moves()
 worklist()
+retiring()

@@ -4,7 +4,8 @@
 older.py STOCK FILE [SEED]: each older file is made from one of the host's own by moving rows, keys and values, within their partitions.
 The first move or retry on it must put exactly the same rows in order, say so once, and go on as with the file that was in order, byte for
 byte. `show` must print the same and write nothing. A file in order must not be written by opening it, and nothing said. A store that is
-wrong in another way must be refused by its question, by each command, and its file stay as it is.
+wrong in another way must be refused by its question, by each command, and its file stay as it is. All of it once more with a floor row
+in the book (W-209), which has its place behind all others.
 """
 import random
 import sys
@@ -25,7 +26,7 @@ WORDS = {
     10: "Is the store's length right?",
     11: "Is each used count at most C, each used key of a form of its partition and unlike the others there, "
     "each unused row zero, and are the used keys rising?",
-    12: "Has each booked id all five rows?",
+    12: "Has each booked id all five rows, and is none below the floor?",
     24: "Is the id other than 0 (arrival)?",
 }
 PUT, NOT_YET = f"{path}: rows put in order\n", f"{path}: rows not in order yet\n"
@@ -79,7 +80,8 @@ def check_older(older, ordered, shown, moved):
 def check_wrong(name, data, number):
     stand(data)
     request = ("1", "6", "2", "--id", "7")
-    for words in (("move", *request), ("accept", *request), ("work",), ("retry", "8"), ("reply", "8"), ("show",)):
+    only_words = ("work",), ("retry", "8"), ("reply", "8"), ("retire", "9"), ("retire", "--keep", "1"), ("show",)
+    for words in (("move", *request), ("accept", *request), *only_words):
         assert host(*words) == (1, "", refused(number)) and content() == data, f"{name}, {words[0]}"
 
 
@@ -96,20 +98,38 @@ def row_lost(number, rows):
         del rows[7]
 
 
+def with_floor(floor):
+    """The book gets a floor row."""
+    def change(number, rows):
+        if number == 2:
+            rows.append((store.FLOOR_KEY, floor))
+    return change
+
+
+def check_changed(ordered, changes):
+    """Older files of the same contents, and what a move leaves behind them."""
+    stand(ordered)
+    shown = host("show")[1]
+    assert move(7, 1, 6, 2)[0] == 0
+    moved = content()
+    assert moved == store.in_order(moved)
+    for change in changes:
+        check_older(store.older(ordered, change), ordered, shown, moved)
+
+
 ordered = made(MOVES)
 assert ordered == store.in_order(ordered), "a host's own file is in order"
 assert made(MOVES[::-1]) == ordered and made(sorted(MOVES)) == ordered, "equal contents, equal bytes"
-shown = host("show")[1]
-assert move(7, 1, 6, 2)[0] == 0
-moved = content()
-assert moved == store.in_order(moved)
+assert host("retire", "5")[0] == 0
+retired = content()
+assert retired == store.in_order(retired) == store.retired(ordered, 5), "the floor's row is the last of the book"
 
 changes = [swap(part, first, second) for part in range(3) for first, second in ((0, 1), (-2, -1), (0, -1))]
 changes.append(lambda number, rows: rows.reverse())
 changes.append(lambda number, rows: rows.sort(key=lambda row: (row[0] >> 63 == 0, row)))
 changes += [lambda number, rows: random.shuffle(rows)] * 20
-for change in changes:
-    check_older(store.older(ordered, change), ordered, shown, moved)
+for file in (ordered, retired, store.older(ordered, with_floor(2))):
+    check_changed(file, changes)
 
 reversed_rows = store.older(ordered, lambda number, rows: rows.reverse())
 wrong = 0
@@ -122,7 +142,8 @@ for data in (ordered, reversed_rows):
         ("a used count above C", data[:3] + b"\x21\0" + data[5:], 11),
         ("a used row too few counted", data[:3] + b"\x09\0" + data[5:], 11),
         ("a row of the book lost", store.older(data, row_lost), 12),
+        ("a booked id below the floor", store.older(data, with_floor(3)), 12),
     ):
         check_wrong(name, bad, number)
         wrong += 1
-print(f"{len(changes)} older files put in order, said once each; {wrong} wrong ones refused")
+print(f"{3 * len(changes)} older files put in order, said once each; {wrong} wrong ones refused")

@@ -5,6 +5,7 @@ import struct
 
 SLOTS, LIST = 384, 132
 BEHIND = SLOTS + LIST
+FLOOR_KEY = 2**40
 MARKS = ("waiting", "taken")
 
 
@@ -34,6 +35,26 @@ def take_apart(data):
     return c, [rows[i * c:i * c + n] for i, n in enumerate(used)], data[-BEHIND:]
 
 
+def floor(data):
+    """The value of the floor's row of the book, or None where it has none."""
+    _, (*_, book), _ = take_apart(data)
+    return dict(book).get(FLOOR_KEY)
+
+
+def booked(data):
+    """The booked ids, by rising id."""
+    _, (*_, book), _ = take_apart(data)
+    return sorted({key // 8 for key, _ in book if key != FLOOR_KEY})
+
+
+def retired(data, below):
+    """The bytes of a file whose ids below a floor are retired: their book and log rows are gone, and the book has the floor's row."""
+    c, (*partitions, book), behind = take_apart(data)
+    partitions = [[row for row in rows if row[0] >= 65536 * below] for rows in partitions]
+    book = [row for row in book if row[0] >= 8 * below and row[0] != FLOOR_KEY] + [(FLOOR_KEY, below)]
+    return put_together(c, [*partitions, book], behind)
+
+
 def listed(data):
     """The worklist's entries, (id, mark) in order of entry."""
     number, *words = struct.unpack("<33I", data[-LIST:])
@@ -44,6 +65,12 @@ def agents(data):
     """The ids of the agents in the slots."""
     records = struct.iter_unpack("<12I", data[-BEHIND:-LIST])
     return [record[1] for record in records if record[0] == 1]
+
+
+def with_list(data, number, *entries):
+    """The file with another list: its number and the entries that stand there."""
+    words = [number] + [word for entry in entries for word in entry]
+    return data[:-LIST] + struct.pack(f"<{len(words)}I", *words).ljust(LIST, b"\0")
 
 
 def put_together(c, parts, behind):
@@ -60,7 +87,7 @@ def sums(data):
     _, (*partitions, book), _ = take_apart(data)
     rows = [row for partition in partitions for row in partition]
     logged = {(key // 65536, key % 65536) for key, _ in rows if key < 2**63}
-    amounts = sorted((key // 8, value) for key, value in book if key % 8 == 3)
+    amounts = sorted((key // 8, value) for key, value in book if key % 8 == 3 and key != FLOOR_KEY)
     under_way = [(ident, amount) for ident, amount in amounts if (ident, 0) in logged and (ident, 1) not in logged]
     total = sum(value for key, value in rows if key >= 2**63)
     return under_way, total % 2**32, sum(amount for _, amount in under_way) % 2**32

@@ -4,7 +4,8 @@
 sums.py STOCK FILE [SEED]: the files are made here, as moves leave them that were cut at different places: some
 requests are only booked, some are under way, some are through. `show` must name exactly those under way by rising
 id, also where the rows stand in no order, add up right and end with 0. Where a data value of any partition is one
-higher, it must say so in one line behind its sums and end with 1.
+higher, it must say so in one line behind its sums and end with 1. The book's floor row, which some have, is shown as
+the floor and is in no sum.
 """
 import random
 import sys
@@ -25,11 +26,12 @@ def moved(requests, step, sign):
     return sorted((65536 * ident + step, random.getrandbits(32)) for ident in requests) + [shelf]
 
 
-def made(booked, under_way, through):
-    """A file of three partitions, of which moves use two."""
+def made(booked, under_way, through, floor):
+    """A file of three partitions, of which moves use two; with a floor row unless it is None."""
     book = []
     for ident, amount in sorted({**booked, **under_way, **through}.items()):
         book += [(8 * ident + j, word) for j, word in enumerate((0, SHELF, SHELF, amount, 0))]
+    book += [] if floor is None else [(store.FLOOR_KEY, floor)]
     parts = [moved({**under_way, **through}, 0, -1), moved(through, 1, 1), [], book]
     return store.put_together(C, parts, bytes(store.BEHIND))
 
@@ -62,24 +64,27 @@ def random_requests():
     return booked, under_way, through
 
 
-def lines_of(under_way, total, amounts):
+def lines_of(floor, under_way, total, amounts):
     """The lines that `show` must print behind the rows."""
-    lines = [f"under way {ident} {amount}" for ident, amount in under_way]
+    lines = [] if floor is None else [f"floor {floor}"]
+    lines += [f"under way {ident} {amount}" for ident, amount in under_way]
     return lines + [f"total {total}", f"amounts under way {amounts}", f"together {(total + amounts) % 2**32}"]
 
 
 named_in_all = 0
 for _ in range(FILES):
     booked, under_way, through = random_requests()
-    data = made(booked, under_way, through)
+    # the least id is 1
+    floor = random.choice((None, 0, 1))
+    data = made(booked, under_way, through, floor)
     named, amounts = sorted(under_way.items()), sum(under_way.values()) % 2**32
     total = -amounts % 2**32
     named_in_all += len(named)
-    check(data, 0, lines_of(named, total, amounts), "")
+    check(data, 0, lines_of(floor, named, total, amounts), "")
     older = store.older(data, lambda _, rows: random.shuffle(rows))
-    check(older, 0, lines_of(named, total, amounts), NOT_YET)
+    check(older, 0, lines_of(floor, named, total, amounts), NOT_YET)
     assert store.sums(data) == store.sums(older) == (named, total, amounts), "the adding up of store.py"
     for part in range(3):
         line = f"{path}: data and amounts under way come to 1, not to 0\n"
-        check(store.older(data, one_higher(part)), 1, lines_of(named, (total + 1) % 2**32, amounts), line)
+        check(store.older(data, one_higher(part)), 1, lines_of(floor, named, (total + 1) % 2**32, amounts), line)
 print(f"{FILES} files added up, with {named_in_all} requests under way; {3 * FILES} files that come to 1 noticed")

@@ -5,62 +5,19 @@ worklist.py STOCK FILE [OTHER]: slips, the order of entry, ids that are listed a
 what a killed worker leaves, and files of an earlier host, which have no list. With OTHER, a second host, each command is
 also given to that one with the same file: it must print and end the same and leave the same bytes.
 """
-import struct
 import sys
 from functools import partial
-from subprocess import run
 
 sys.dont_write_bytecode = True
 import store
+from command import Host, refused, request, with_agent
 
-stock, path = sys.argv[1], sys.argv[2]
+path = sys.argv[2]
 content, stand, written = (partial(act, path) for act in (store.content, store.stand, store.written))
 other = sys.argv[3] if len(sys.argv) > 3 else None
-WORDS = {
-    18: "If the id is known, are workflow and arguments those booked (arrival)?",
-    20: "Is the id booked (retry, add, reply)?",
-    24: "Is the id other than 0 (arrival)?",
-    25: "Has the list at most 16 ids, none twice, each waiting or taken (add, take, done)?",
-    26: "If the id isn't listed, are fewer than 16 listed (add)?",
-}
+host = Host(sys.argv[1], path, other)
+stays = host.stays
 MOST_LISTED, WAITING, TAKEN = 16, 0, 1
-commands = 0
-
-
-def run_of(program, words):
-    done = run([program, path, *words], capture_output=True, text=True)
-    return done.returncode, done.stdout, done.stderr
-
-
-def host(*words):
-    """Exit code, output and errors of a command, which are those of the other host too, and so is the file that it leaves."""
-    global commands
-    commands += 1
-    if other and words[0] != "init":
-        before = content()
-        expected = run_of(other, words), content()
-        stand(before)
-        said = run_of(stock, words)
-        assert (said, content()) == expected, f"{words}: {said}, not {expected[0]}, or another file"
-        return said
-    return run_of(stock, words)
-
-
-def refused(number):
-    return 1, "", f"refused {number}: {WORDS[number]}\n"
-
-
-def stays(*words):
-    """A command that leaves the file's bytes as they are; what it says."""
-    before = content()
-    said = host(*words)
-    assert content() == before, f"{words} changed the file"
-    return said
-
-
-def request(ident, amount=5):
-    """FROM TO AMOUNT --id N: shelves of the id's own."""
-    return str(ident), str(1000 + ident), str(amount), "--id", str(ident)
 
 
 def accept(*ids):
@@ -79,19 +36,6 @@ def lists(*entries):
     assert store.listed(content()) == list(entries), f"{store.listed(content())}, not {entries}"
     lines = [line for line in stays("show")[1].splitlines() if line.startswith("list ")]
     assert lines == [f"list {ident} {store.MARKS[mark]}" for ident, mark in entries], lines
-
-
-def with_list(data, number, *entries):
-    """The file with another list: its number and the entries that stand there."""
-    words = [number] + [word for entry in entries for word in entry]
-    return data[:-store.LIST] + struct.pack(f"<{len(words)}I", *words).ljust(store.LIST, b"\0")
-
-
-def with_agent(data, ident):
-    """The file with an agent of a request in slot 3, as a start leaves it."""
-    record = struct.pack("<12I", 1, ident, 0, 0, ident, 1000 + ident, 5, 0, 0, 0, 0, 0)
-    at = len(data) - store.BEHIND + 3 * len(record)
-    return data[:at] + record + data[at + len(record):]
 
 
 def fresh():
@@ -152,7 +96,7 @@ def check_killed():
     fresh()
     accept(7, 3, 5)
     listed = content()
-    taken = with_list(listed, 3, (7, TAKEN), (3, WAITING), (5, WAITING))
+    taken = store.with_list(listed, 3, (7, TAKEN), (3, WAITING), (5, WAITING))
     for left in (taken, with_agent(taken, 7)):
         stand(left)
         lists((7, TAKEN), (3, WAITING), (5, WAITING))
@@ -163,7 +107,7 @@ def check_killed():
         lists((7, WAITING), (3, WAITING), (5, WAITING))
         works(7, 3, 5)
     # an agent of an id that isn't listed is finished by the next command, whatever it is
-    stand(with_agent(with_list(listed, 2, (7, WAITING), (5, TAKEN)), 3))
+    stand(with_agent(store.with_list(listed, 2, (7, WAITING), (5, TAKEN)), 3))
     assert host("accept", *request(8)) == (0, "reply 3 5\naccepted 8\n", "")
     works(7, 5, 8)
 
@@ -176,11 +120,11 @@ def check_wrong():
     seventeen = [(ident, WAITING) for ident in range(MOST_LISTED)]
     wrong = [(17, *seventeen), (2**32 - 1,), (2, (7, TAKEN), (7, WAITING)), (2, (7, 2), (3, TAKEN))]
     for number, *entries in wrong:
-        stand(with_list(right, number, *entries))
+        stand(store.with_list(right, number, *entries))
         for words in (("accept", *request(7)), ("work",)):
             assert host(*words) == refused(25), f"{words} with {number} {entries}"
         assert host("move", *request(8)) == (0, "reply 8 5\n", "")
-        assert content()[-store.LIST:] == with_list(right, number, *entries)[-store.LIST:], "a wrong list is touched"
+        assert content()[-store.LIST:] == store.with_list(right, number, *entries)[-store.LIST:], "a wrong list is touched"
     assert stays("show")[1].splitlines()[-2:] == ["list 7 2", "list 3 taken"]
     return len(wrong)
 
@@ -190,7 +134,7 @@ def check_earlier():
     fresh()
     accept(7)
     works(7)
-    now = with_list(content(), 0)
+    now = store.with_list(content(), 0)
     stand(now)
     shown, reply = stays("show"), stays("reply", "7")
     earlier = now[:-store.LIST]
@@ -216,4 +160,4 @@ check_killed()
 wrong = check_wrong()
 check_earlier()
 both = ", the same by both hosts" if other else ""
-print(f"{commands} commands with a worklist{both}; {wrong} wrong lists refused")
+print(f"{host.commands} commands with a worklist{both}; {wrong} wrong lists refused")

@@ -1,10 +1,12 @@
-//! The five calls of document 01, the one of W-203 that puts an earlier store in order, and
-//! those of W-208 on the worklist. Each puts all its questions before it changes anything.
+//! The five calls of document 01, the one of W-203 that puts an earlier store in order, those of
+//! W-208 on the worklist, and the one of W-209 that retires old requests. Each puts all its
+//! questions before it changes anything.
 
 use crate::agents::{pack_fits, slots_are_right, Agent, Slots, ALL_EMPTY, SLOTS};
 use crate::operations::{do_one, run_block};
 use crate::pack::{Operation, Pack, Workflow};
 use crate::refusal::{ask, Refusal};
+use crate::retire::ask_retire;
 use crate::store::{Key, Request, Store, BOOK_ROWS};
 use crate::worklist::{reply_from_log, Worklist};
 
@@ -46,13 +48,17 @@ pub enum Call {
     Restart,
     /// It is given the store only, neither pack nor slots.
     PutInOrder,
-    /// These three and restart are given the worklist too.
+    /// These three, restart and retire are given the worklist too.
     Add {
         id: u32,
     },
     Take,
     Done {
         id: u32,
+    },
+    /// It only reads slots and worklist.
+    Retire {
+        floor: u32,
     },
 }
 
@@ -80,6 +86,7 @@ impl Call {
             Self::Add { id } => add(pack, store, slots, list, id),
             Self::Take => take(pack, store, slots, list),
             Self::Done { id } => done(pack, store, slots, list, id),
+            Self::Retire { floor } => retire(pack, store, slots, list, floor),
         }
     }
 }
@@ -127,6 +134,7 @@ pub fn arrival(
     let mut lent = ask_all_state(pack, store, slots)?;
     let slot = ask_slot(slots, slot, false)?;
     ask(24, request.id != 0)?;
+    ask(30, request.id >= lent.store.floor())?;
     ask(17, lent.pack.workflow(request.workflow).is_some())?;
     match lent.store.request(request.id) {
         Some(booked) => ask(18, booked == request)?,
@@ -209,6 +217,21 @@ pub fn done(pack: &[u8], store: &[u8], slots: &Slots, list: &mut Worklist, id: u
     let lent = ask_all_state(pack, store, slots)?;
     let reply = reply_from_log(&lent.pack, &lent.store, id);
     list.done(id, reply.is_some())?;
+    Ok(Answer::Done)
+}
+
+/// Questions 1 to 14, 25, 28 and 29; removes the book and log rows of every id below the floor.
+pub fn retire(
+    pack: &[u8],
+    store: &mut [u8],
+    slots: &Slots,
+    list: &Worklist,
+    floor: u32,
+) -> Outcome {
+    let mut lent = ask_all_state(pack, store, slots)?;
+    ask(25, list.is_right())?;
+    ask_retire(&lent.pack, &lent.store, slots, list, floor)?;
+    crate::retire::retire(&mut lent.store, floor);
     Ok(Answer::Done)
 }
 

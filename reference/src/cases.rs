@@ -63,7 +63,8 @@ pub enum Case {
 }
 
 impl Order {
-    /// From the call byte and its seven words; words that it has no use for are not read.
+    /// From the call byte and its seven words; words that it has no use for are not read. Byte 14
+    /// is no call.
     fn read(code: u8, words: [u32; 7]) -> Option<Self> {
         let [first, second, third, a, b, c, d] = words;
         Some(match code {
@@ -93,7 +94,8 @@ impl Order {
             10 => Self::Call(Call::Add { id: first }),
             11 => Self::Call(Call::Take),
             12 => Self::Call(Call::Done { id: first }),
-            13 => Self::Reply { id: first },
+            13 => Self::Call(Call::Retire { floor: first }),
+            15 => Self::Reply { id: first },
             _ => return None,
         })
     }
@@ -117,14 +119,18 @@ impl Order {
             Self::Call(Call::Add { id }) => (10, [id, 0, 0, 0, 0, 0, 0]),
             Self::Call(Call::Take) => (11, [0; 7]),
             Self::Call(Call::Done { id }) => (12, [id, 0, 0, 0, 0, 0, 0]),
-            Self::Reply { id } => (13, [id, 0, 0, 0, 0, 0, 0]),
+            Self::Call(Call::Retire { floor }) => (13, [floor, 0, 0, 0, 0, 0, 0]),
+            Self::Reply { id } => (15, [id, 0, 0, 0, 0, 0, 0]),
         }
     }
 
     /// Whether it may stand in a case of kind 1, which has no worklist.
     fn goes_without_list(&self) -> bool {
-        use Call::{Add, Done, Take};
-        !matches!(self, Self::Call(Add { .. } | Take | Done { .. }))
+        use Call::{Add, Done, Retire, Take};
+        !matches!(
+            self,
+            Self::Call(Add { .. } | Take | Done { .. } | Retire { .. })
+        )
     }
 }
 

@@ -9,9 +9,9 @@ use crate::schedule;
 use crate::store::Store;
 
 /// The things that can be called, in the order of their call bytes.
-pub const ORDERS: [&str; 14] = [
+pub const ORDERS: [&str; 15] = [
     "check", "open", "create", "arrival", "retry", "turn", "crash", "restart", "figures", "order",
-    "add", "take", "done", "reply",
+    "add", "take", "done", "retire", "reply",
 ];
 
 #[derive(Clone, Debug, Default, PartialEq, Eq)]
@@ -181,6 +181,7 @@ fn order_index(order: &Order) -> usize {
         Order::Call(Call::Add { .. }) => 10,
         Order::Call(Call::Take) => 11,
         Order::Call(Call::Done { .. }) => 12,
-        Order::Reply { .. } => 13,
+        Order::Call(Call::Retire { .. }) => 13,
+        Order::Reply { .. } => 14,
     }
 }

@@ -1,5 +1,6 @@
 //! What W-208 promises of a list of calls: no listed request vanishes before its reply can be
-//! worked out from the log, also across restarts.
+//! worked out from the log, also across restarts. It still can be worked out later, unless the
+//! request is retired (W-209).
 
 use std::collections::BTreeMap;
 
@@ -97,11 +98,14 @@ impl Kept {
         }
     }
 
-    /// The reply of each id that was done can still be worked out, and is the same.
+    /// The reply of each id that was done can still be worked out, and is the same, unless the id
+    /// is below the floor.
     fn see_log(&mut self, pack: &Pack, store: &Store<&[u8]>) {
+        let floor = store.floor();
         let lost = self
             .done
             .iter()
+            .filter(|(id, _)| **id >= floor)
             .find(|(id, reply)| reply_from_log(pack, store, **id) != Some(**reply));
         if let Some((id, reply)) = lost {
             self.blame(format!("the log has the reply {reply} of {id} no more"));

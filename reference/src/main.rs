@@ -15,7 +15,7 @@ const USAGE: &str = "usage:
   reference run FOLDER                the schedule program on pack.bin and schedule.bin
   reference cases FILE                what each case of a file comes to
   reference generate SEED COUNT FILE  writes a file of cases
-  reference demand3 SEED COUNT        demand 3 and W-208 on generated lists of calls, W-207 on some
+  reference demand3 SEED COUNT        demand 3, W-208 and W-209 on generated lists of calls, W-207 on some
   reference coverage FILE             how often each question and answer occurs in a file
 ";
 
@@ -86,10 +86,11 @@ fn print_coverage(file: &str) -> Done {
 
 fn demand3(seed: &str, count: &str) -> Done {
     let (seed, count) = (number(seed)?, number(count)?);
-    let makers: [(&str, ListMaker); 3] = [
+    let makers: [(&str, ListMaker); 4] = [
         ("", generate::any_list),
         (" with MOVE", generate::move_list),
         (" with workers", generate::worked_list),
+        (" that retire", generate::retiring_list),
     ];
     for (sort, make) in makers {
         match watch_lists(seed, count, make) {
@@ -133,6 +134,8 @@ fn tally_text(tally: &Tally) -> String {
         format!("accepted takes {}", tally.takes),
         format!("accepted dones {}", tally.dones),
         format!("times a restart found an id taken {}", tally.waiting_again),
+        format!("accepted retires {}", tally.retires),
+        format!("requests retired {}", tally.retired),
         format!("first replies {}", tally.first_replies),
         format!("later replies {}", tally.later_replies),
         format!(

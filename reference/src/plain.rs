@@ -1,5 +1,5 @@
-//! The plain machine, and a witness that holds a list of calls to demand 3, to W-207 and to
-//! what W-208 promises of the worklist.
+//! The plain machine, and a witness that holds a list of calls to demand 3, to W-207, to what W-208
+//! promises of the worklist and to what W-209 promises of retired requests.
 
 use std::collections::BTreeMap;
 
@@ -9,6 +9,7 @@ use crate::kept::Kept;
 use crate::operations::{do_one, run_block, Registers};
 use crate::pack::{Operation, Pack};
 use crate::refusal::QUESTIONS;
+use crate::retired::Retired;
 use crate::schedule;
 use crate::store::{self, Key, Request, Store, MOST_PARTITIONS};
 use crate::sums::{is_only_move, under_way, Sums, DIVISOR};
@@ -39,6 +40,10 @@ impl<'a> Machine<'a> {
             agents: BTreeMap::new(),
             replies: Vec::new(),
         }
+    }
+
+    pub fn pack(&self) -> &Pack<'a> {
+        &self.pack
     }
 
     pub fn has_booked(&self, id: u32) -> bool {
@@ -114,6 +119,9 @@ pub struct Tally {
     pub takes: usize,
     pub dones: usize,
     pub waiting_again: usize,
+    /// Accepted calls that retire, and the requests that they retired.
+    pub retires: usize,
+    pub retired: usize,
     pub first_replies: usize,
     pub later_replies: usize,
     pub full_lives: usize,
@@ -141,6 +149,8 @@ impl Tally {
         self.takes += other.takes;
         self.dones += other.dones;
         self.waiting_again += other.waiting_again;
+        self.retires += other.retires;
+        self.retired += other.retired;
         self.first_replies += other.first_replies;
         self.later_replies += other.later_replies;
         self.full_lives += other.full_lives;
@@ -161,8 +171,8 @@ struct Life {
 }
 
 /// Watches a list of calls from its start, a fresh store with all slots and the worklist empty,
-/// feeds the plain machine, and says at the end whether demand 3 holds of the list, and W-207
-/// and W-208 after each call.
+/// feeds the plain machine, and says at the end whether demand 3 holds of the list, and W-207,
+/// W-208 and W-209 after each call.
 pub struct Witness<'a> {
     machine: Machine<'a>,
     /// Whether MOVE is the only workflow, of which alone W-207 speaks.
@@ -171,8 +181,9 @@ pub struct Witness<'a> {
     replied: BTreeMap<u32, u32>,
     first_replies: Vec<(u32, u32)>,
     kept: Kept,
+    retired: Retired,
     /// The first violation of demand 3, and the first of W-207: neither hides the other, nor
-    /// that of W-208.
+    /// that of W-208 or of W-209.
     violation: Option<String>,
     not_divisible: Option<String>,
     tally: Tally,
@@ -187,6 +198,7 @@ impl<'a> Witness<'a> {
             replied: BTreeMap::new(),
             first_replies: Vec::new(),
             kept: Kept::default(),
+            retired: Retired::default(),
             violation: None,
             not_divisible: None,
             tally: Tally::default(),
@@ -213,10 +225,11 @@ impl<'a> Witness<'a> {
             Call::Crash { .. } => self.tally.crashes += 1,
             Call::Restart => self.tally.restarts += 1,
             Call::PutInOrder => self.tally.orders += 1,
-            // They feed the machine nothing.
+            // These feed the machine nothing; it still counts what a retire removes.
             Call::Add { .. } => self.tally.adds += 1,
             Call::Take => self.tally.takes += 1,
             Call::Done { .. } => self.tally.dones += 1,
+            Call::Retire { .. } => self.tally.retires += 1,
         }
     }
 
@@ -234,6 +247,7 @@ impl<'a> Witness<'a> {
         }
         let pack = &self.machine.pack;
         self.kept.see(pack, call, (given, left), &self.replied);
+        self.retired.see(&self.machine, call, (given, left));
     }
 
     /// W-207 of what a call left, whether or not it was accepted and changed anything.
@@ -312,6 +326,7 @@ impl<'a> Witness<'a> {
 
     fn see_reply(&mut self, id: u32, value: u32) {
         self.kept.see_reply(id, value);
+        self.retired.see_reply(id);
         match self.replied.get(&id) {
             None => {
                 self.tally.first_replies += 1;
@@ -344,7 +359,13 @@ impl<'a> Witness<'a> {
             Err(refusal) => self.blame(format!("the store is refused: {}", refusal.question)),
         }
         self.tally.waiting_again = self.kept.waiting_again;
-        let found = [self.violation, self.not_divisible, self.kept.violation];
+        self.tally.retired = self.retired.requests();
+        let found = [
+            self.violation,
+            self.not_divisible,
+            self.kept.violation,
+            self.retired.violation,
+        ];
         let found: Vec<String> = found.into_iter().flatten().collect();
         match found.is_empty() {
             true => Ok(self.tally),
@@ -408,7 +429,7 @@ impl State {
     }
 }
 
-/// Demand 3, and W-207 and W-208 after each call, of a list of calls on a fresh store.
+/// Demand 3, and W-207, W-208 and W-209 after each call, of a list of calls on a fresh store.
 pub fn check_list(pack: &[u8], store: Vec<u8>, calls: &[Call]) -> Result<Tally, String> {
     let read = Pack::read(pack).map_err(|_| "a refused pack ran".to_string())?;
     let mut witness = Witness::new(read);

@@ -9,8 +9,9 @@ pub struct Refusal {
 }
 
 /// The questions in the documents' words, by number and not in the order in which they are
-/// put: 24 is asked between 16 and 17, and 25 to 27 come after 14. Question n stands at n − 1.
-pub const QUESTIONS: [&str; 27] = [
+/// put: 24 and then 30 are asked between 16 and 17, and 25 to 29 come after 14. Question n stands at
+/// n − 1.
+pub const QUESTIONS: [&str; 30] = [
     "Is there a count, 1 to 16?",
     "Are all sizes there, each 1 to 256, sum at most 2,048?",
     "Is the length 1 + 2m + 5T?",
@@ -23,7 +24,7 @@ pub const QUESTIONS: [&str; 27] = [
     "Is the store's length right?",
     "Is each used count at most C, each used key of a form of its partition and unlike the others there, \
      each unused row zero, and are the used keys rising?",
-    "Has each booked id all five rows?",
+    "Has each booked id all five rows, and is none below the floor?",
     "Is each booked workflow below m, each BEGIN's partition below P?",
     "Is each slot empty or sound?",
     "Is the slot 0 to 7?",
@@ -36,9 +37,12 @@ pub const QUESTIONS: [&str; 27] = [
     "Is the length 6 + 24g + 2e, within limits?",
     "Is each kind at most 4, each index below g for kinds 0 and 3 and 0 otherwise?",
     "Is the id other than 0 (arrival)?",
-    "Has the list at most 16 ids, none twice, each waiting or taken (add, take, done)?",
+    "Has the list at most 16 ids, none twice, each waiting or taken (add, take, done, retire)?",
     "If the id isn't listed, are fewer than 16 listed (add)?",
     "Is an id waiting (take), or the id taken and logged through (done)?",
+    "Is each smaller booked id logged through, in no slot and not on the worklist (retire)?",
+    "Is a smaller id booked (retire)?",
+    "Is the id not below the floor (arrival)?",
 ];
 
 impl Refusal {

@@ -1,7 +1,8 @@
-//! The store: its layout in bytes, create, questions 9 to 12, search, put, and what puts an
-//! earlier store in order.
+//! The store: its layout in bytes, create, questions 9 to 12, search, put, removal of rows, and
+//! what puts an earlier store in order.
 //!
-//! Used rows come first in their partition, by rising stored key (W-203).
+//! Used rows come first in their partition, by rising stored key (W-203). The book may have one
+//! row more than those of its requests, the floor (W-209).
 
 use std::collections::BTreeMap;
 
@@ -15,6 +16,9 @@ pub const MOST_ROWS: usize = 256;
 pub const BOOK_ROWS: usize = 5;
 
 const DATA: u64 = 1 << 63;
+
+/// The key of the book's extra row, whose value is the floor. No request's row has it.
+pub const FLOOR_KEY: u64 = 1 << 40;
 
 /// What a stored key of a data partition stands for.
 #[derive(Clone, Copy, Debug, PartialEq, Eq, PartialOrd, Ord)]
@@ -46,7 +50,7 @@ pub fn book_key(id: u32, j: u8) -> u64 {
     u64::from(id) * 8 + u64::from(j)
 }
 
-/// The id and j of a key of the book, `None` if it has not the book's form.
+/// The id and j of a key of a request in the book, `None` of any other key, the floor's too.
 pub fn of_book_key(stored: u64) -> Option<(u32, u8)> {
     let id = u32::try_from(stored / 8).ok()?;
     let j = (stored % 8) as u8;
@@ -246,7 +250,7 @@ impl<B: AsRef<[u8]>> Store<B> {
         }
         let keys = self.sorted_keys(partition);
         let has_form = |key: &u64| match partition == self.shape.book() {
-            true => of_book_key(*key).is_some(),
+            true => of_book_key(*key).is_some() || *key == FLOOR_KEY,
             false => Key::of_stored(*key).is_some(),
         };
         let is_zero = |row| self.key(partition, row) == 0 && self.value(partition, row) == 0;
@@ -255,11 +259,19 @@ impl<B: AsRef<[u8]>> Store<B> {
             && (used..self.shape.rows).all(is_zero)
     }
 
-    /// Question 12: keys of a right book differ, so five rows of an id are all its rows.
+    /// Question 12: keys of a right book differ, so five rows of an id are all its rows. The
+    /// floor's own row is none of a request.
     fn book_is_whole(&self) -> bool {
-        let keys = self.sorted_keys(self.shape.book());
+        let mut keys = self.sorted_keys(self.shape.book());
+        keys.retain(|key| *key != FLOOR_KEY);
+        let floor = u64::from(self.floor());
         let mut requests = keys.chunk_by(|a, b| a / 8 == b / 8);
-        requests.all(|rows| rows.len() == BOOK_ROWS)
+        requests.all(|rows| rows.len() == BOOK_ROWS && rows[0] / 8 >= floor)
+    }
+
+    /// No id below it is booked any more; 0 where the book has no row for it.
+    pub fn floor(&self) -> u32 {
+        self.find(self.shape.book(), FLOOR_KEY).unwrap_or(0)
     }
 
     /// The row of a stored key. Where the partition's keys begin is worked out once, ahead of the search (W-205).
@@ -298,7 +310,10 @@ impl<B: AsRef<[u8]>> Store<B> {
     /// The workflow numbers that stand in the book.
     pub fn booked_workflows(&self) -> impl Iterator<Item = u32> + '_ {
         let rows = self.rows(self.shape.book());
-        rows.filter_map(|(key, value)| (key % 8 == 0).then_some(value))
+        rows.filter_map(|(key, value)| match of_book_key(key) {
+            Some((_, 0)) => Some(value),
+            _ => None,
+        })
     }
 }
 
@@ -339,6 +354,19 @@ impl<B: AsRef<[u8]> + AsMut<[u8]>> Store<B> {
             let rows = self.sorted_rows(partition);
             self.write_rows(partition, &rows);
         }
+    }
+
+    /// Removes the rows of a partition whose keys `goes` says: later rows move up, and the places
+    /// that come free are zero.
+    pub fn remove(&mut self, partition: usize, goes: impl Fn(u64) -> bool) {
+        let used = self.used(partition);
+        let mut rows: Vec<_> = self.rows(partition).collect();
+        rows.retain(|(key, _)| !goes(*key));
+        let kept = rows.len();
+        rows.resize(used, (0, 0));
+        self.write_rows(partition, &rows);
+        let place = self.shape.used_at(partition);
+        write_at(self.bytes.as_mut(), place, &(kept as u16).to_le_bytes());
     }
 
     /// Books a request; the caller asked for five free rows.

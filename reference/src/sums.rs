@@ -1,7 +1,9 @@
 //! What stock control adds up while moves are under way (W-207): all data values, and the
 //! amounts booked for requests whose step 0 is logged and step 1 isn't.
 //!
-//! Only the rows that stand in the bytes are read: no slot, no pack, and not how they came there.
+//! Only the rows that stand in the bytes are read: no slot, no pack, and not how they came there. A
+//! request that is retired (W-209) has both steps logged until then: it is not under way, and what it
+//! moved stays in the data values.
 
 use crate::pack::Pack;
 use crate::store::{Key, Store};

@@ -293,7 +293,7 @@ fn the_bytes_of_a_list_come_back_and_hold_calls_on_store_and_slots_only() {
     let coverage = Coverage::of_file(&file);
     assert_eq!((coverage.lists, coverage.calls), (1, 0));
     assert_eq!((coverage.replied, coverage.question(24)), (1, 1));
-    for code in [0, 1, 2, 8, 13, 14, 255] {
+    for code in [0, 1, 2, 8, 14, 15, 16, 255] {
         file[records + 385 + 29] = code;
         assert_eq!(print_all(&file), "malformed case 0\n", "call {code}");
     }
@@ -302,6 +302,8 @@ fn the_bytes_of_a_list_come_back_and_hold_calls_on_store_and_slots_only() {
         (10, "refused 20 0 0"),
         (11, "refused 27 0 0"),
         (12, "refused 27 0 0"),
+        // Its first word is the slot of the turn that stood there.
+        (13, "refused 28 0 0"),
     ] {
         file[records + 385 + 29] = code;
         let expected = format!("case 0\nanswer done\nanswer {answer}\nanswer moved\n");
@@ -352,11 +354,11 @@ fn the_bytes_of_a_case_with_a_worklist() {
     let call = list + 10 + 384;
     assert_eq!(bytes[call..][..6], [12, 7, 8, 9, 10, 0]);
     assert_eq!(bytes.len(), call + 29);
-    for code in 0..=13 {
+    for code in (0..=13).chain([15]) {
         bytes[call] = code;
         assert!(print_all(&bytes).starts_with("case 0\nanswer "), "{code}");
     }
-    for code in [14, 255] {
+    for code in [14, 16, 255] {
         bytes[call] = code;
         assert_eq!(print_all(&bytes), "malformed case 0\n");
     }
@@ -498,7 +500,7 @@ fn numbers_out_of_range_are_malformed() {
     };
     assert_eq!(with(0, 4), "malformed case 0\n", "no such kind");
     // Calls on a worklist, which kind 1 has not, and no calls.
-    for code in [10, 11, 12, 14, 255] {
+    for code in [10, 11, 12, 13, 14, 16, 255] {
         assert_eq!(
             with(file.len() - 29, code),
             "malformed case 0\n",

@@ -38,7 +38,7 @@ fn a_small_file_covers_every_question_answer_and_call() {
         }
         assert!(coverage.done > 0 && coverage.moved > 0 && coverage.replied > 0);
         assert!(coverage.figures > 0 && coverage.taken > 0 && coverage.not_yet > 0);
-        for number in (1..=21).chain(24..=27) {
+        for number in (1..=21).chain(24..=30) {
             assert!(
                 coverage.call_refusals[number] > 0,
                 "seed {seed}, call {number}"
@@ -64,8 +64,8 @@ fn id_0_is_often_among_the_ids() {
         (_, Ok(Answer::Reply { id: 0, .. })) => replied += 1,
         _ => {}
     };
-    // As many cases without a worklist as 1,000 had before there were others.
-    for case in generate::cases(14, 1_225) {
+    // As many cases without a worklist or a floor as 1,000 had before there were others.
+    for case in generate::cases(14, 1_600) {
         match case {
             Case::Schedule { .. } => {}
             Case::Call(case) => {

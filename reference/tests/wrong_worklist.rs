@@ -169,6 +169,8 @@ impl Given {
             }
             Call::Add { .. } | Call::Take | Call::Done { .. } => {}
             Call::PutInOrder => return call.perform(&[], &mut self.store, &mut self.slots),
+            // What it does is W-209, and `tests/wrong_retire.rs`.
+            Call::Retire { .. } => return self.retire(call),
             _ if reading.all_ask && !is_right => return no_25(),
             _ => return call.perform(&self.pack, &mut self.store, &mut self.slots),
         }
@@ -182,6 +184,12 @@ impl Given {
             true => self.on_list(reading, call),
             false => no_25(),
         }
+    }
+
+    /// By the reference.
+    fn retire(&mut self, call: &Call) -> Outcome {
+        let mut list = Worklist::of(&self.list);
+        call.perform_listed(&self.pack, &mut self.store, &mut self.slots, &mut list)
     }
 
     /// Behind 25.

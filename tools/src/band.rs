@@ -233,6 +233,12 @@ impl Drawing<'_> {
         let at = (self.layout.middle(number), self.y + middle);
         self.svg.open(&self.step_words(number));
         marks::draw(&mut self.svg, mark, at);
+        if let (Mark::Retire, Call::Retire { floor }) = (mark, step.call) {
+            let words = floor.to_string();
+            let size = fit(&words, self.layout.cell - 2.0, SMALL);
+            self.svg
+                .text("strong", (at.0, at.1 + 17.0), size, Anchor::Middle, &words);
+        }
         self.svg.close();
     }
 
@@ -320,6 +326,7 @@ fn mark_of(step: &Step) -> Option<Mark> {
         (Happened::Done, Call::Crash { .. }) => Some(Mark::Crash),
         (Happened::Done, Call::Add { .. }) => Some(Mark::Add),
         (Happened::Done, Call::Done { .. }) => Some(Mark::Done),
+        (Happened::Done, Call::Retire { .. }) => Some(Mark::Retire),
         (Happened::Done, Call::PutInOrder) => Some(Mark::Order),
         // A restart has no lane of its own and is drawn through all of them.
         (Happened::Done, _) => None,

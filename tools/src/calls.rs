@@ -8,6 +8,7 @@ use crate::trace::{Machine, Named, Run, Source};
 use reference::cases::{self, Case, ListCase};
 use reference::store::Store;
 use reference::Call;
+use std::collections::BTreeMap;
 
 /// The list of calls in a file of cases, and its number there: the one that is asked for, else the first.
 pub fn find(file: &[u8], asked: Option<usize>) -> Result<(usize, ListCase), String> {
@@ -70,15 +71,13 @@ fn store_no(question: u8, bytes: usize) -> No {
     )
 }
 
-/// The requests that are booked at the end, by rising id.
+/// The requests that are booked before a call or at the end, by rising id: a retired one is not booked any more, and its id is
+/// never booked again.
 fn requests(list: &ListCase, workflows: &[String]) -> Vec<Named> {
-    let left = list.perform().store;
-    let Ok(store) = Store::lay_out(left.as_slice()) else {
-        return Vec::new();
-    };
-    let mut ids = store.booked_ids();
-    ids.sort_unstable();
-    let booked = ids.into_iter().filter_map(|id| store.request(id));
+    let mut booked = BTreeMap::new();
+    let left = list.perform_each(|_, given, _| add_booked(given, &mut booked));
+    add_booked(&left.store, &mut booked);
+    let booked = booked.into_values();
     let named = |(number, request): (usize, reference::store::Request)| Named {
         name: format!("q{number}"),
         workflow: match workflows.get(request.workflow as usize) {
@@ -92,6 +91,14 @@ fn requests(list: &ListCase, workflows: &[String]) -> Vec<Named> {
         },
     };
     booked.enumerate().map(named).collect()
+}
+
+/// Adds the requests that a store has booked.
+fn add_booked(bytes: &[u8], booked: &mut BTreeMap<u32, reference::store::Request>) {
+    if let Ok(store) = Store::lay_out(bytes) {
+        let requests = store.booked_ids().into_iter();
+        booked.extend(requests.filter_map(|id| Some((id, store.request(id)?))));
+    }
 }
 
 /// The id that a call starts an agent of.
@@ -115,5 +122,6 @@ fn words(call: &Call) -> String {
         Call::Add { id } => format!("add id {id}"),
         Call::Take => "take".to_string(),
         Call::Done { id } => format!("done id {id}"),
+        Call::Retire { floor } => format!("retire below {floor}"),
     }
 }

@@ -150,7 +150,8 @@ fn lanes(run: &Run) -> Vec<Lane> {
     labels.into_iter().map(place).collect()
 }
 
-/// Whether a call is drawn in the lane of those that name no slot: it puts a store in order, or is about the worklist and refused.
+/// Whether a call is drawn in the lane of those that name no slot: it puts a store in order, retires, or is about the worklist and
+/// refused.
 fn names_no_slot(run: &Run) -> bool {
     run.steps.iter().any(|step| {
         let is_elsewhere = step.call == Call::Restart || step.listed_id().is_some();

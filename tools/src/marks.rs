@@ -19,6 +19,7 @@ pub enum Mark {
     Add,
     Take,
     Done,
+    Retire,
     Order,
 }
 
@@ -37,12 +38,13 @@ pub const LEGEND: [(Mark, &str); 10] = [
 ];
 
 /// What a list of calls has beside them.
-pub const CALLS_LEGEND: [(Mark, &str); 6] = [
+pub const CALLS_LEGEND: [(Mark, &str); 7] = [
     (Mark::Waiting, "an id waiting on the worklist"),
     (Mark::Taken, "an id taken by a worker"),
     (Mark::Add, "add"),
     (Mark::Take, "take"),
     (Mark::Done, "done, the id is removed"),
+    (Mark::Retire, "retire, its floor below"),
     (Mark::Order, "store put in order"),
 ];
 
@@ -120,6 +122,10 @@ pub fn draw(svg: &mut Svg, mark: Mark, at: (f64, f64)) {
         Mark::Add => strokes(svg, at, &[(-6.0, 0.0, 6.0, 0.0), (0.0, -6.0, 0.0, 6.0)]),
         Mark::Take => svg.path("dark", at, &[(-6.5, 5.5), (0.0, -6.5), (6.5, 5.5)], true),
         Mark::Done => strokes(svg, at, &[(-6.0, 0.0, -1.5, 5.0), (-1.5, 5.0, 7.0, -6.0)]),
+        Mark::Retire => {
+            svg.line("stroke", (at.0 - 8.0, at.1 + 6.0), (at.0 + 8.0, at.1 + 6.0));
+            svg.path("dark", at, &[(-6.0, -6.5), (6.0, -6.5), (0.0, 3.0)], true);
+        }
         Mark::Order => {
             let lines = [-5.0, 0.0, 5.0].map(|down| (-7.0, down, 1.0 + down, down));
             strokes(svg, at, &lines);

@@ -1,4 +1,4 @@
-//! Pictures of lists of calls: the worklist beside the slots (W-208).
+//! Pictures of lists of calls: the worklist beside the slots (W-208), and retired requests (W-209).
 
 mod generated;
 
@@ -42,7 +42,8 @@ fn list(entries: &[(u32, u8)], calls: Vec<Call>) -> ListCase {
     }
 }
 
-/// Two requests are accepted; a worker takes the first and is cut by a restart, the next one finishes both.
+/// Two requests are accepted; a worker takes the first and is cut by a restart, the next one finishes both. Then the one with the
+/// smaller id is retired, and a late repeat of it is refused.
 fn accepted_and_worked() -> ListCase {
     let turns = |slot: u32, count: usize| vec![Call::Turn { slot }; count];
     let mut calls = vec![arrival(0, 7), Call::Crash { slot: 0 }, Call::Add { id: 7 }];
@@ -56,6 +57,7 @@ fn accepted_and_worked() -> ListCase {
     calls.push(Call::Retry { slot: 1, id: 3 });
     calls.extend(turns(1, 4));
     calls.extend([Call::Done { id: 3 }, Call::Take]);
+    calls.extend([Call::Retire { floor: 7 }, arrival(0, 3)]);
     list(&[], calls)
 }
 
@@ -126,6 +128,8 @@ fn the_picture_has_lanes_bars_and_marks_of_the_list() {
         "<title>call 11: restart</title>",
         "<title>call 18: done id 7: done</title>",
         "<title>call 26: take: refused 27: ",
+        "<title>call 27: retire below 7: done</title>",
+        "<title>call 28: arrival id 3 in slot 0: refused 30: Is the id not below the floor (arrival)?</title>",
     ] {
         assert!(drawn.contains(words), "{words}");
     }
@@ -160,6 +164,29 @@ fn a_list_may_begin_with_agents_and_listed_ids() {
     assert!(picture::picture("wrong", &run).contains(words));
 }
 
+/// A request that is retired in the list has its name and its bars, and the row counts fall.
+#[test]
+fn a_retired_request_is_drawn_with_its_life() {
+    let mut calls = vec![arrival(0, 7)];
+    calls.extend(vec![Call::Turn { slot: 0 }; 4]);
+    calls.extend([Call::Retire { floor: 7 }, Call::Retire { floor: u32::MAX }]);
+    let run = calls::run(&list(&[], calls)).expect("a run");
+    assert_eq!(run.requests.len(), 1);
+    let used = |number: usize| run.steps[number].used.clone();
+    assert_eq!((used(5), used(6)), (vec![2, 2, 5], vec![1, 1, 1]));
+    assert_eq!(run.steps[5].happened, Happened::Refused(29));
+    let drawn = picture::picture("retired", &run);
+    for words in [
+        "<title>q0: w0, id 7, calls 0 to 4, reply 7 30</title>",
+        "<title>call 5: retire below 7: refused 29: Is a smaller id booked (retire)?</title>",
+        "<title>call 6: retire below 4294967295: done</title>",
+        ">retire, its floor below<",
+        ">4294967295</text>",
+    ] {
+        assert!(drawn.contains(words), "{words}");
+    }
+}
+
 /// Agents that are in a slot without being booked have no request to be drawn with; each call is refused with 14 then.
 #[test]
 fn an_agent_that_is_not_booked_is_left_out() {
@@ -174,7 +201,7 @@ fn an_agent_that_is_not_booked_is_left_out() {
 fn any_calls(random: &mut Random) -> Vec<Call> {
     let call = |_| {
         let (slot, id) = (random.below(3) as u32, 1 + random.below(4) as u32);
-        match random.below(16) {
+        match random.below(17) {
             0 | 1 => arrival(slot, id),
             2 => Call::Retry { slot, id },
             3 | 4 => Call::Add { id },
@@ -183,6 +210,7 @@ fn any_calls(random: &mut Random) -> Vec<Call> {
             9 => Call::Crash { slot },
             10 => Call::Restart,
             11 => Call::PutInOrder,
+            12 => Call::Retire { floor: id + 1 },
             _ => Call::Turn { slot },
         }
     };

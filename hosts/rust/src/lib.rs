@@ -20,6 +20,9 @@ pub const LISTED: usize = 16;
 pub const WAITING: u32 = 0;
 pub const TAKEN: u32 = 1;
 
+/// The stored key of the floor's row, the last one of the book if it is there.
+pub const FLOOR_KEY: u64 = 1 << 40;
+
 /// What a call answers.
 #[derive(Clone, Copy, Debug, PartialEq, Eq)]
 pub enum Answer {
@@ -164,6 +167,19 @@ mod c {
             answer: *mut u8,
             answer_len: usize,
         ) -> u32;
+        pub fn sarthule_retire(
+            pack: *const u8,
+            pack_len: usize,
+            store: *mut u8,
+            store_len: usize,
+            slots: *const u8,
+            slots_len: usize,
+            list: *const u8,
+            list_len: usize,
+            floor: u32,
+            answer: *mut u8,
+            answer_len: usize,
+        ) -> u32;
         pub fn sarthule_reply(
             pack: *const u8,
             pack_len: usize,
@@ -193,15 +209,18 @@ pub fn question(number: u32) -> &'static str {
             "Is each used count at most C, each used key of a form of its partition and unlike the others there, \
              each unused row zero, and are the used keys rising?"
         }
-        12 => "Has each booked id all five rows?",
+        12 => "Has each booked id all five rows, and is none below the floor?",
         13 => "Is each booked workflow below m, each BEGIN's partition below P?",
         14 => "Is each slot empty or sound?",
-        25 => "Has the list at most 16 ids, none twice, each waiting or taken (add, take, done)?",
+        25 => "Has the list at most 16 ids, none twice, each waiting or taken (add, take, done, retire)?",
         26 => "If the id isn't listed, are fewer than 16 listed (add)?",
         27 => "Is an id waiting (take), or the id taken and logged through (done)?",
+        28 => "Is each smaller booked id logged through, in no slot and not on the worklist (retire)?",
+        29 => "Is a smaller id booked (retire)?",
         15 => "Is the slot 0 to 7?",
         16 => "Is it empty (arrival, retry) or in use (turn, crash)?",
         24 => "Is the id other than 0 (arrival)?",
+        30 => "Is the id not below the floor (arrival)?",
         17 => "Is the workflow below m (arrival, opening, figures)?",
         18 => "If the id is known, are workflow and arguments those booked (arrival)?",
         19 => "If it is new, are five book rows free (arrival)?",
@@ -423,6 +442,27 @@ pub fn done(pack: &[u8], store: &[u8], slots: &Slots, list: &mut List, id: u32) 
             list.as_mut_ptr(),
             list.len(),
             id,
+            a.as_mut_ptr(),
+            a.len(),
+        )
+    };
+    answer(n, &a)
+}
+
+/// Removes the book and log rows of every id below the floor, and keeps the floor in the store.
+pub fn retire(pack: &[u8], store: &mut [u8], slots: &Slots, list: &List, floor: u32) -> Answer {
+    let mut a = [0; 12];
+    let n = unsafe {
+        c::sarthule_retire(
+            pack.as_ptr(),
+            pack.len(),
+            store.as_mut_ptr(),
+            store.len(),
+            slots.as_ptr(),
+            slots.len(),
+            list.as_ptr(),
+            list.len(),
+            floor,
             a.as_mut_ptr(),
             a.len(),
         )

@@ -1,12 +1,16 @@
 //! A small host: a stock of goods in two places, kept in one file.
 //!
 //!     stock FILE init P C                        a fresh stock of P partitions of C rows
-//!     stock FILE move FROM TO AMOUNT --id N      takes AMOUNT from shelf FROM of partition 0 to shelf TO of partition 1
+//!     stock FILE move FROM TO AMOUNT --id N      takes AMOUNT from shelf FROM of partition 0 to shelf TO of partition 1;
+//!                                                with --keep K behind it, then retires all but the K newest moves
 //!     stock FILE accept FROM TO AMOUNT --id N    books the same move, puts it on the worklist and prints the slip at once
 //!     stock FILE work                            does the moves on the worklist, one after the other, until none waits
 //!     stock FILE retry ID                        has the reply of an earlier move again, by an agent
 //!     stock FILE reply ID                        has the reply of an earlier move from the log, or `not yet`
-//!     stock FILE show                            the rows and log rows, the requests under way, what they come to, the worklist
+//!     stock FILE retire FLOOR                    removes the book and log rows of all moves with smaller ids
+//!     stock FILE retire --keep K                 the same with a floor that leaves the K newest moves
+//!     stock FILE show                            the rows and log rows, the floor, the requests under way, what they come to,
+//!                                                the worklist
 //!
 //! The file holds the store, behind it the eight slots, and behind them the worklist. After each call (of accept behind all
 //! three of its calls) it is written whole to a temporary file, brought to the disk, and renamed over the old one, so store,
@@ -21,6 +25,10 @@
 //! in order, writes the file back the same way, says so on the standard error, and only then goes on; show and reply never
 //! write. An earlier host kept no list: its file ends behind the slots, and its list is empty.
 //!
+//! A book of C rows has room for C / 5 moves. Retiring makes room (W-209): the amounts that were moved stay on the shelves, and
+//! a late repeat of a retired move is refused (30) and changes nothing, so ids must rise. The newest moves are those with the
+//! greatest ids. A move that is listed or isn't logged through stays, and with --keep so do all with greater ids.
+//!
 //! A request is under way while its step 0, which takes the amount, is logged in some partition and its step 1, which
 //! puts it, in none. Nothing is lost meanwhile (W-207): all data values and the amounts under way come to 0, remainder
 //! by 2^32. That speaks of every file of these hosts, since they only ever run their built-in MOVE on a store that
@@ -28,8 +36,8 @@
 //! which something else wrote data rows, or another pack, need not come to 0.
 
 use sarthule::{
-    add, arrival, crash, create, done, listed, order, question, reply, restart, retry, store_bytes, take, turn, word, Answer,
-    List, Request, Slots, EMPTY, NONE_LISTED, TAKEN, WAITING,
+    add, arrival, crash, create, done, listed, order, question, reply, restart, retire, retry, store_bytes, take, turn, word,
+    Answer, List, Request, Slots, EMPTY, FLOOR_KEY, NONE_LISTED, TAKEN, WAITING,
 };
 use std::error::Error;
 use std::fs::{self, File};
@@ -39,8 +47,8 @@ use std::process::ExitCode;
 
 type Try<T> = Result<T, Box<dyn Error>>;
 
-const USAGE: &str =
-    "FILE init P C | move FROM TO AMOUNT --id N | accept FROM TO AMOUNT --id N | work | retry ID | reply ID | show";
+const USAGE: &str = "FILE init P C | move FROM TO AMOUNT --id N [--keep K] | accept FROM TO AMOUNT --id N | work | retry ID | \
+                     reply ID | retire FLOOR | retire --keep K | show";
 
 /// MOVE, arguments FROM, TO, AMOUNT, 0: takes AMOUNT off FROM in partition 0 and adds it to TO in partition 1.
 const MOVE: [(u8, u32); 12] = [
@@ -58,7 +66,8 @@ const MOVE: [(u8, u32); 12] = [
     (0xB0, 0),
 ];
 
-/// Which of an id's five book rows has AMOUNT: row 0 has the workflow, rows 1 to 4 have the arguments.
+/// Of an id's five book rows row 0 has the workflow, rows 1 to 4 have the arguments: row 3 has AMOUNT.
+const WORKFLOW_ROW: u64 = 0;
 const AMOUNT_ROW: u64 = 3;
 
 fn pack() -> Vec<u8> {
@@ -185,6 +194,12 @@ impl Stock {
         self.run(0)
     }
 
+    /// The older ones are retired behind the reply, so that a repeat of one of them still has its reply by this command.
+    fn move_and_retire(&mut self, request: Request, keep: u32) -> Try<()> {
+        self.move_goods(request)?;
+        self.retire_older(keep).map(|_| ())
+    }
+
     /// A booked id is started again and run until it replies.
     fn finish(&mut self, id: u32) -> Try<()> {
         said(retry(&self.pack, &self.store, &mut self.slots, 0, id))?;
@@ -226,6 +241,47 @@ impl Stock {
         Ok(())
     }
 
+    /// Retires all requests below the floor, and says how many they were and how many rows came free by it.
+    fn retire_below(&mut self, floor: u32) -> Try<()> {
+        let (booked, used) = (self.booked_ids().len(), self.used_rows());
+        said(retire(&self.pack, &mut self.store, &self.slots, &self.list, floor))?;
+        self.save()?;
+        let (retired, free_again) = (booked - self.booked_ids().len(), used - self.used_rows());
+        println!("requests retired {retired}\nrows free again {free_again}");
+        Ok(())
+    }
+
+    /// Whether a booked id may not be retired yet, which question 28 asks: it is listed or isn't logged through. No slot is in
+    /// use here. And the greatest id is never below a floor.
+    fn must_stay(&self, id: u32) -> Try<bool> {
+        if id == u32::MAX || listed(&self.list).iter().any(|(listed, _)| *listed == id) {
+            return Ok(true);
+        }
+        Ok(said(reply(&self.pack, &self.store, id))? == Answer::NotYet)
+    }
+
+    /// Retires all but the newest requests, so many as are to be kept; an id that must stay keeps all greater ones too. Whether
+    /// one was retired.
+    fn retire_older(&mut self, keep: u32) -> Try<bool> {
+        let ids = self.booked_ids();
+        let mut n = 0;
+        while n < ids.len().saturating_sub(keep as usize) && !self.must_stay(ids[n])? {
+            n += 1;
+        }
+        if n == 0 {
+            return Ok(false);
+        }
+        self.retire_below(ids.get(n).copied().unwrap_or(ids[n - 1].wrapping_add(1)))?;
+        Ok(true)
+    }
+
+    fn retire_but(&mut self, keep: u32) -> Try<()> {
+        if !self.retire_older(keep)? {
+            println!("nothing to retire");
+        }
+        Ok(())
+    }
+
     fn show_reply(&self, id: u32) -> Try<()> {
         match said(reply(&self.pack, &self.store, id))? {
             Answer::Reply { id, value } => println!("reply {id} {value}"),
@@ -250,6 +306,18 @@ impl Stock {
         let used = self.number_at(3 + 2 * part, 2) as usize;
         let row_at = move |row| (self.number_at(keys + 8 * row, 8), self.number_at(values + 4 * row, 4) as u32);
         (part * c..part * c + used).map(row_at)
+    }
+
+    /// The booked ids, which rise. The floor's row is the last of the book, behind the five rows of each id.
+    fn booked_ids(&self) -> Vec<u32> {
+        let rows = self.rows(self.partitions());
+        let first_rows = rows.filter(|(key, _)| key & 7 == WORKFLOW_ROW && *key != FLOOR_KEY);
+        first_rows.map(|(key, _)| (key >> 3) as u32).collect()
+    }
+
+    /// The used rows of all partitions and of the book, the floor's row included.
+    fn used_rows(&self) -> u64 {
+        (0..=self.partitions()).map(|part| self.number_at(3 + 2 * part, 2)).sum()
     }
 
     /// The rows of all partitions; the book is none of them.
@@ -282,6 +350,12 @@ impl Stock {
         }
     }
 
+    fn show_floor(&self) {
+        for (_, floor) in self.rows(self.partitions()).filter(|(key, _)| *key == FLOOR_KEY) {
+            println!("floor {floor}");
+        }
+    }
+
     /// The list in order of entry. The mark of a list that 25 refuses may be another number.
     fn show_list(&self) {
         for (id, mark) in listed(&self.list) {
@@ -296,6 +370,7 @@ impl Stock {
     /// An error where data and amounts under way do not come to 0.
     fn show(&self) -> Try<()> {
         self.show_rows();
+        self.show_floor();
         let mut amounts = 0u32;
         for (id, amount) in self.under_way() {
             println!("under way {id} {amount}");
@@ -359,6 +434,21 @@ fn request([from, to, amount, id]: [&str; 4]) -> Try<Request> {
     Ok(Request { id: id.parse()?, workflow: 0, arguments: [from.parse()?, to.parse()?, amount.parse()?, 0] })
 }
 
+/// What stands behind retire: a floor, or how many are to be kept.
+fn retire_command(path: &Path, words: &[&str]) -> Try<()> {
+    match *words {
+        ["--keep", keep] => {
+            let keep = keep.parse()?;
+            Stock::go_on(path)?.retire_but(keep)
+        }
+        [floor] => {
+            let floor = floor.parse()?;
+            Stock::go_on(path)?.retire_below(floor)
+        }
+        _ => Err(USAGE.into()),
+    }
+}
+
 fn command() -> Try<()> {
     let words: Vec<String> = std::env::args().skip(1).collect();
     let words: Vec<&str> = words.iter().map(String::as_str).collect();
@@ -371,6 +461,10 @@ fn command() -> Try<()> {
         ["move", from, to, amount, "--id", id] => {
             let request = request([from, to, amount, id])?;
             Stock::go_on(path)?.move_goods(request)
+        }
+        ["move", from, to, amount, "--id", id, "--keep", keep] => {
+            let (request, keep) = (request([from, to, amount, id])?, keep.parse()?);
+            Stock::go_on(path)?.move_and_retire(request, keep)
         }
         ["accept", from, to, amount, "--id", id] => {
             let request = request([from, to, amount, id])?;
@@ -385,6 +479,7 @@ fn command() -> Try<()> {
             let id = id.parse()?;
             Stock::load_to_show(path)?.show_reply(id)
         }
+        ["retire", ref words @ ..] => retire_command(path, words),
         ["show"] => Stock::load_to_show(path)?.show(),
         _ => Err(USAGE.into()),
     }

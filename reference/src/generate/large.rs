@@ -58,6 +58,10 @@ fn on_full_store(random: &mut Random, partitions: usize) -> Case {
         with_blocks: false,
     };
     let mut world = World::new(random, bounds, 256, 40);
+    // No more partitions than asked for, since all of them are filled.
+    while usize::from(world.schedule.partitions) > partitions {
+        world = World::new(random, bounds, 256, 40);
+    }
     world.run(random, 60);
     let mut store = Store::lay_out(world.store.clone()).expect("a store that ran");
     for partition in 0..store.shape().partitions {

@@ -2,7 +2,8 @@
 //! requests meet in the same data rows, and refused calls of every kind among the others.
 //!
 //! Question 21 never says no in such a list: a book of C rows has at most C / 5 requests, and
-//! each takes at most two rows of a partition, a log row and a data row.
+//! each takes at most two rows of a partition, a log row and a data row. Those that are retired
+//! (W-209) leave data rows, but of few keys.
 
 use super::workers::with_worklist;
 use crate::agents::{Slots, ALL_EMPTY, SLOTS};

@@ -165,12 +165,13 @@ pub fn not_rising(random: &mut Random, lane: usize) -> Case {
     let sorts = WAYS + 2;
     let rows = small_rows(random);
     let world = stocked_world(random, rows);
-    let kind = ASKED[(lane / sorts + lane) % ASKED.len()];
+    let sort = lane % sorts;
+    let kind = ASKED[(lane / 5 + lane / sorts + sort / 3) % ASKED.len()];
     let event = world.event_of(random, kind);
     let order = Order::Call(world.schedule.call(&event));
     let mut case = case_on(world, order);
     let book = usize::from(case.store[0]);
-    match lane % sorts {
+    match sort {
         way if way < WAYS => disorder(random, &mut case.store, way),
         WAYS => {
             let partition = random.below(book);

@@ -1,6 +1,8 @@
 //! Lists of calls with a worklist (W-208): a host that accepts requests and puts them on the
-//! list, and workers that take, finish and remove them, with crashes and restarts between.
+//! list, and workers that take, finish and remove them, with crashes and restarts between. Now and
+//! then the host retires old requests (W-209).
 
+use super::keepers::some_retire;
 use super::packs::Bounds;
 use super::worklists::spoil_list;
 use super::world::World;
@@ -115,6 +117,12 @@ impl Host {
             12..=15 => on_list(random, &self.world.pack, &self.world.store, &self.list),
             16 => self.crash(random),
             17 if random.one_in(2) => Call::Restart,
+            17 => {
+                let World {
+                    pack, store, slots, ..
+                } = &self.world;
+                some_retire(random, pack, store, slots, &self.list)
+            }
             _ => {
                 let event = self.world.next_event(random);
                 self.world.schedule.call(&event)
@@ -182,7 +190,7 @@ fn booked_ids(store: &[u8]) -> Vec<u32> {
 }
 
 /// Nothing is booked where 13 says no, since lists start from a fresh store.
-fn is_through(pack: &[u8], store: &[u8], id: u32) -> bool {
+pub fn is_through(pack: &[u8], store: &[u8], id: u32) -> bool {
     let (Ok(pack), Ok(store)) = (Pack::read(pack), Store::lay_out(store)) else {
         return false;
     };
@@ -190,7 +198,7 @@ fn is_through(pack: &[u8], store: &[u8], id: u32) -> bool {
 }
 
 /// A call on the list that mostly is accepted, by what stands in store and list.
-fn on_list(random: &mut Random, pack: &[u8], store: &[u8], list: &Worklist) -> Call {
+pub fn on_list(random: &mut Random, pack: &[u8], store: &[u8], list: &Worklist) -> Call {
     let taken = list.marked(TAKEN).into_iter();
     let through: Vec<u32> = taken.filter(|id| is_through(pack, store, *id)).collect();
     let booked = booked_ids(store);
@@ -229,7 +237,7 @@ fn near_miss(random: &mut Random, booked: &[u32], list: &Worklist) -> Call {
     }
 }
 
-/// Puts calls on the worklist between calls on a fresh store, which come to the same.
+/// Puts calls on the worklist between calls on a fresh store, and now and then a retire.
 pub fn with_worklist(random: &mut Random, pack: &[u8], store: &[u8], calls: &[Call]) -> Vec<Call> {
     let mut state = State::new(store.to_vec());
     let mut all = Vec::with_capacity(calls.len());
@@ -238,6 +246,12 @@ pub fn with_worklist(random: &mut Random, pack: &[u8], store: &[u8], calls: &[Ca
             let more = on_list(random, pack, &state.store, &state.list);
             let _ = state.perform(pack, &more);
             all.push(more);
+        }
+        if random.one_in(16) {
+            let State { store, slots, list } = &state;
+            let retire = some_retire(random, pack, store, slots, list);
+            let _ = state.perform(pack, &retire);
+            all.push(retire);
         }
         let _ = state.perform(pack, call);
         all.push(*call);

@@ -16,16 +16,16 @@ use crate::store::{fresh, Key, Request, Store};
 use crate::worklist::{Entry, Worklist, MOST_LISTED, TAKEN, WAITING};
 
 /// The workflows that a scene's pack has.
-const STAGES: u32 = 0;
-const NO_BLOCKS: u32 = 1;
-const WORKFLOWS: usize = 3;
+pub const STAGES: u32 = 0;
+pub const NO_BLOCKS: u32 = 1;
+pub const WORKFLOWS: usize = 3;
 
 /// Marks that are neither waiting nor taken.
 const NO_MARKS: [u8; 7] = [2, 2, 3, 16, 128, 254, 255];
 
 /// What a log has of a request's way to RETURN.
 #[derive(Clone, Copy, Debug, PartialEq, Eq)]
-enum Logged {
+pub enum Logged {
     Through,
     NotStarted,
     NoLastStep,
@@ -41,7 +41,7 @@ enum Logged {
 }
 
 impl Logged {
-    const NEARLY: [Self; 7] = [
+    pub const NEARLY: [Self; 7] = [
         Self::NoLastStep,
         Self::CountedApart,
         Self::OtherPartition,
@@ -51,7 +51,7 @@ impl Logged {
         Self::LaterSteps,
     ];
 
-    fn any(random: &mut Random) -> Self {
+    pub fn any(random: &mut Random) -> Self {
         match random.one_in(2) {
             true => Self::Through,
             false => random.pick(&Self::NEARLY),
@@ -146,7 +146,7 @@ fn stages(random: &mut Random, partitions: usize) -> Rows {
             rows.push((byte, 0));
         }
     }
-    rows.push((random.pick(&[0xB0, 0xB0, 0xB4]), 0));
+    rows.push((random.pick(&[0xB0, 0xB4]), 0));
     rows
 }
 
@@ -162,13 +162,13 @@ fn no_blocks(random: &mut Random) -> Rows {
 }
 
 /// A right pack, store and slots with a right list, which no run left.
-struct Scene {
-    pack: Vec<u8>,
-    store: Store<Vec<u8>>,
-    slots: Slots,
-    list: Worklist,
+pub struct Scene {
+    pub pack: Vec<u8>,
+    pub store: Store<Vec<u8>>,
+    pub slots: Slots,
+    pub list: Worklist,
     /// A booked id of workflow 0, the one that a call is after; its log is as was asked for.
-    id: u32,
+    pub id: u32,
 }
 
 impl Scene {
@@ -178,22 +178,9 @@ impl Scene {
             _ => 1,
         };
         let partitions = random.between(least, 3);
-        let size = random.between(3, 10);
-        let pack = pack::encode(&[
-            stages(random, partitions),
-            no_blocks(random),
-            right_workflow(random, size, partitions),
-        ]);
         let requests = random.between(1, 4);
         let rows = random.between(5 * requests, 5 * requests + 4).max(8);
-        let store = fresh(partitions as u32, rows as u32).expect("numbers in range");
-        let mut scene = Self {
-            pack,
-            store: Store::lay_out(store).expect("fresh"),
-            slots: ALL_EMPTY,
-            list: Worklist::default(),
-            id: 0,
-        };
+        let mut scene = Self::empty(random, partitions, rows);
         scene.id = scene.book(random, STAGES, logged);
         for _ in 1..requests {
             let workflow = random.below(WORKFLOWS) as u32;
@@ -204,9 +191,33 @@ impl Scene {
         scene
     }
 
+    /// A right pack beside a fresh store.
+    pub fn empty(random: &mut Random, partitions: usize, rows: usize) -> Self {
+        let size = random.between(3, 10);
+        let pack = pack::encode(&[
+            stages(random, partitions),
+            no_blocks(random),
+            right_workflow(random, size, partitions),
+        ]);
+        let store = fresh(partitions as u32, rows as u32).expect("numbers in range");
+        Self {
+            pack,
+            store: Store::lay_out(store).expect("fresh"),
+            slots: ALL_EMPTY,
+            list: Worklist::default(),
+            id: 0,
+        }
+    }
+
     /// Books a new id, if there is room, with these rows in the log.
     fn book(&mut self, random: &mut Random, workflow: u32, logged: Logged) -> u32 {
         let id = self.new_id(random);
+        self.book_id(random, id, workflow, logged);
+        id
+    }
+
+    /// Books this id.
+    pub fn book_id(&mut self, random: &mut Random, id: u32, workflow: u32, logged: Logged) {
         let mut request = right_request(random, WORKFLOWS, id);
         request.workflow = workflow;
         let pack = Pack::read(&self.pack).expect("a right pack");
@@ -223,7 +234,6 @@ impl Scene {
             };
             self.store.put(row.partition, key.stored(), row.value);
         }
-        id
     }
 
     /// Other rows, agents of the booked ids, and a list.
@@ -258,7 +268,7 @@ impl Scene {
     }
 
     /// Has an id in the list with this mark, in its place or in a new one.
-    fn mark(&mut self, random: &mut Random, id: u32, mark: u8) {
+    pub fn mark(&mut self, random: &mut Random, id: u32, mark: u8) {
         let entries = &mut self.list.entries;
         match entries.iter_mut().find(|entry| entry.id == id) {
             Some(entry) => entry.mark = mark,
@@ -304,7 +314,7 @@ impl Scene {
         }
     }
 
-    fn case(self, order: Order) -> CallCase {
+    pub fn case(self, order: Order) -> CallCase {
         CallCase {
             pack: self.pack,
             store: self.store.bytes().to_vec(),
@@ -314,12 +324,12 @@ impl Scene {
         }
     }
 
-    fn call(self, call: Call) -> Case {
+    pub fn call(self, call: Call) -> Case {
         Case::Call(Box::new(self.case(Order::Call(call))))
     }
 }
 
-fn random_mark(random: &mut Random) -> u8 {
+pub fn random_mark(random: &mut Random) -> u8 {
     random.pick(&[WAITING, TAKEN])
 }
 
