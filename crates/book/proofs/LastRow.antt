@@ -3,15 +3,14 @@ use mathlib.Core.Bool.{Bool, true, false}
 use mathlib.Core.List.{List, [], _∷_}
 use mathlib.Core.Option.{Option, none, some, Option·getD}
 use mathlib.Core.Path.{_≡_, sym, _∙_, ap}
-use Prim.Native.Nat.{ℕ, suc, _≤_}
+use Prim.Native.Nat.{ℕ, suc}
 use native.Mathlib.Omega.{arith}
 use borrow.Author.Tests.{eq-eqb}
-use lib.Dec.{eqb}
 use lib.ListN.{length, getD}
 use Rattle.questions.specs.Basics.{if_then_else_}
 use Rattle.keys.specs.Keys.{isFloorKey, floorAt}
 use Rattle.store.specs.Layout.{partsOf}
-use Rattle.store.specs.Rows.{Row, rowsOf, keysIn}
+use Rattle.store.specs.Rows.{Row, keysIn}
 use Rattle.store.specs.Questions.{keysOk}
 use Rattle.store.specs.Sound.{Sound}
 use Rattle.store.specs.Sound as Sounds

@@ -34,7 +34,7 @@ use Rattle.host.specs.Told.{openedParts, openedWords, answerShort, Told, Made}
 use Rattle.host.specs.Told as ToldBy
 use Rattle.host.specs.Exports.{lentIn, buffersWrong, listWrong, Exported, ListExported, StoreExported, Restarted, PutInOrder}
 use Rattle.host.proofs.Exports.{answer-placed, right-buffers}
-use Rattle.cases.specs.Made.{callBy, BytesLeft, OnStore, CaseMade}
+use Rattle.cases.specs.Made.{callBy, OnStore, CaseMade}
 
 -- ---- which call a byte stands for
 

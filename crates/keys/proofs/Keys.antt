@@ -94,14 +94,10 @@ floor-no-book = rw (le-ltb floorKey (2 ^ 35) (omega arith)) refl
 pub key-no-floor : (id j : ℕ) → id < 2 ^ 32 → j ≤ 4 → isFloorKey (bookKey id j) ≡ false
 key-no-floor id j h g = book-no-floor (bookKey id j) (book-is id j h g)
 
--- the floor's key is of a form of the book, and so is a book key
+-- the floor's key is of a form of the book
 pub floor-form : isForm true floorKey ≡ true
 unfolding isForm
 floor-form = rw (floor-no-book, floor-is) refl
-
-pub book-key-form : (k : ℕ) → isBookKey k ≡ true → isForm true k ≡ true
-unfolding isForm
-book-key-form k e = rw e refl
 
 -- ── What is taken apart is put together again ──
 

@@ -6,7 +6,7 @@ use mathlib.Core.Option.{Option, none, some}
 use Prim.Native.Nat.{ℕ}
 use Rattle.rules.specs.Instructions.{Pack}
 use Rattle.rules.specs.Calls.{Agent, State, Call, arrival, retry, turn, crash, restart, order, stopped}
-use Rattle.rules.specs.Calls.{listAdd, listTake, listDone, retire, given, takes, withWork}
+use Rattle.rules.specs.Calls.{listAdd, listTake, listDone, retire, takes}
 use Rattle.rules.specs.Calls.{Answer, done, Outcome, gives, rule}
 use Rattle.rules.specs.Worklist.{firstWaiting}
 use Rattle.rules.specs.Plain.{Reply, withAnswer, accepted, nothing, feeds}

@@ -1,6 +1,6 @@
 -- W-209: what holds of retired requests after any list of calls.
 use mathlib.Core.Bool.{false}
-use mathlib.Core.List.{List, _∷_, _++_, List·Memᴰ}
+use mathlib.Core.List.{List, _++_}
 use mathlib.Core.Option.{none, some}
 use mathlib.Core.Path.{_≡_}
 use Prim.Native.Nat.{ℕ, _≤_, _<_}

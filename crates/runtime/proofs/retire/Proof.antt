@@ -1,6 +1,5 @@
 -- `runtime::retire` meets its contract.
 use borrow.Author.Needs.{needs}
-use mathlib.Core.Bool.{true}
 use mathlib.Core.Option.{none}
 use mathlib.Core.Path.{_≡_, sym, _∙_}
 use borrow.Author.Tests.{not-true, not-false, ltb-true}
