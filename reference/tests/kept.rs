@@ -15,23 +15,8 @@ use reference::store::{Key, Store};
 use reference::worklist::{reply_from_log, Entry, TAKEN, WAITING};
 use reference::{Agent, Answer, Call, Outcome, Pack, Refusal};
 
-/// Pack, fresh store and calls.
-type List = (Vec<u8>, Vec<u8>, Vec<Call>);
-
 fn is_on_list(call: &Call) -> bool {
     matches!(call, Call::Add { .. } | Call::Take | Call::Done { .. })
-}
-
-fn total(seed: u64, lists: u64, make: fn(&mut Random) -> List) -> Tally {
-    let mut total = Tally::default();
-    for list in 0..lists {
-        let (pack, store, calls) = make(&mut Random::of_item(seed, list));
-        match check_list(&pack, store, &calls) {
-            Ok(tally) => total.add(&tally),
-            Err(violation) => panic!("list {list}: {violation}"),
-        }
-    }
-    total
 }
 
 #[test]

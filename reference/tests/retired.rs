@@ -8,26 +8,11 @@ use common::spoiled::*;
 use common::*;
 use reference::calls::retire;
 use reference::generate::{any_list, move_list, retiring_list, worked_list};
-use reference::plain::{check_list, State, Tally};
+use reference::plain::{check_list, State};
 use reference::random::Random;
 use reference::store::{Key, Store, FLOOR_KEY};
 use reference::worklist::{Entry, WAITING};
 use reference::{Agent, Answer, Call, Outcome, Pack, Worklist};
-
-/// Pack, fresh store and calls.
-type List = (Vec<u8>, Vec<u8>, Vec<Call>);
-
-fn total(seed: u64, lists: u64, make: fn(&mut Random) -> List) -> Tally {
-    let mut total = Tally::default();
-    for list in 0..lists {
-        let (pack, store, calls) = make(&mut Random::of_item(seed, list));
-        match check_list(&pack, store, &calls) {
-            Ok(tally) => total.add(&tally),
-            Err(violation) => panic!("list {list}: {violation}"),
-        }
-    }
-    total
-}
 
 #[test]
 fn retired_requests_are_gone_and_still_count_in_generated_lists() {

@@ -7,6 +7,8 @@ pub mod spoiled;
 use reference::agents::{Slots, ALL_EMPTY};
 use reference::bytes::write_at;
 use reference::pack::encode;
+use reference::plain::{check_list, Tally};
+use reference::random::Random;
 use reference::schedule::{Event, Kind, Schedule};
 use reference::store::{fresh, Request, Store};
 use reference::sums::MOVE;
@@ -171,4 +173,20 @@ pub const fn booked(id: u64) -> [(u64, u32); 5] {
 /// The question number of a refusal, 0 if there is none.
 pub fn question<T, E: Into<reference::Refusal>>(result: Result<T, E>) -> u8 {
     result.map_or_else(|refusal| refusal.into().question, |_| 0)
+}
+
+/// Pack, fresh store and calls.
+pub type List = (Vec<u8>, Vec<u8>, Vec<Call>);
+
+/// What generated lists come to, each of them checked from call to call.
+pub fn total(seed: u64, lists: u64, make: fn(&mut Random) -> List) -> Tally {
+    let mut total = Tally::default();
+    for list in 0..lists {
+        let (pack, store, calls) = make(&mut Random::of_item(seed, list));
+        match check_list(&pack, store, &calls) {
+            Ok(tally) => total.add(&tally),
+            Err(violation) => panic!("list {list}: {violation}"),
+        }
+    }
+    total
 }
