@@ -1,4 +1,6 @@
 // Requests as they arrive; the records of agents, by value, eight in an array; the answers of the calls.
+#![tactic(auto)]
+
 ghost use Rattle.std.specs.Prelude.{◌≡◌, ◌<◌, set, replicate};
 ghost use Rattle.agents.specs.Requests.{asked};
 ghost use Rattle.rules.specs.Calls.{is_of, in_no_slot};
@@ -6,7 +8,7 @@ ghost use Rattle.agents.specs.Slots.{no_agent, started_with, placed, is_blank, a
 ghost use Rattle.agents.specs.Answers.{outcome};
 
 // A request: the number of its workflow and its four arguments.
-#[derive(Drop)]
+#[derive(Clone, Copy)]
 pub struct Request {
     pub workflow: u32,
     pub a0: u32,
@@ -16,7 +18,7 @@ pub struct Request {
 }
 
 // An agent record: in use, id, position, step number, eight registers. An empty slot is all zero.
-#[derive(Drop)]
+#[derive(Clone, Copy)]
 pub struct Agent {
     pub in_use: bool,
     pub id: u32,
@@ -27,7 +29,7 @@ pub struct Agent {
 
 // What a call answers; a take gives an id. A refusal has the question's number and, with 4 to 8, the workflow and the instruction,
 // otherwise 0 and 0.
-#[derive(Drop)]
+#[derive(Clone, Copy)]
 pub enum Answer {
     Done,
     Moved,
@@ -46,7 +48,7 @@ pub enum Answer {
 }
 
 // What a call answers, and what it leaves in the slots.
-#[derive(Drop)]
+#[derive(Clone, Copy)]
 pub struct Outcome {
     pub answer: Answer,
     pub agents: [Agent; 8],

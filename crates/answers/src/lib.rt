@@ -1,5 +1,7 @@
 // Answers for a program in another language: a number, and words in a lent buffer; and the records and the worklist that a call left, in
 // their bytes.
+#![tactic(auto)]
+
 ghost use Rattle.std.specs.Prelude.{true, ◌≡◌, [], ◌∷◌, ◌%◌, ◌^◌, ◌≤◌, length};
 ghost use Rattle.std.proofs.Math.Option.{Option, some};
 ghost use Rattle.questions.specs.Questions.{No};

@@ -12,7 +12,7 @@ use instruction::pending::{Pending, no_pending};
 use instruction::{Running, Spot, step};
 
 // A block's run that came to END: its result and its PUTs.
-#[derive(Drop)]
+#[derive(Clone, Copy)]
 pub(crate) struct Ran {
     pub result: u32,
     pub pending: Pending,

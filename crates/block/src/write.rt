@@ -18,7 +18,7 @@ use instruction::pending::insert_row;
 use store::rows::Found;
 
 // What a block comes to: its result, or a no to question 21.
-#[derive(Drop)]
+#[derive(Clone, Copy)]
 pub enum BlockOutcome {
     Result(u32),
     NoRoom,

@@ -1,4 +1,6 @@
 // The book as it is read: what it has of an id.
+#![tactic(auto)]
+
 ghost use Rattle.std.specs.Prelude.{◌≡◌, ◌^◌, ◌≤◌, ◌<◌};
 ghost use Rattle.agents.specs.Requests.{asked};
 ghost use Rattle.keys.specs.Keys.{book_key, floor_at};

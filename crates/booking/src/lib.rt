@@ -1,4 +1,6 @@
 // A request in the book: compared with what arrives, and written.
+#![tactic(auto)]
+
 ghost use Rattle.std.specs.Prelude.{◌≡◌, length, ◌≤◌};
 ghost use Rattle.std.proofs.Math.Option.{none};
 ghost use Rattle.agents.specs.Requests.{asked};

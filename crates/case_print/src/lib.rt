@@ -2,6 +2,8 @@
 //
 // Every function is proved safe: it reads and writes within its bytes, and ends. The texts of the lines and their order are only executed,
 // and held to the second supplier's output.
+#![tactic(auto)]
+
 pub mod case_lines;
 pub mod print;
 pub mod rows;

@@ -1,4 +1,6 @@
 // The code of one workflow: questions 4 to 8 put to its operation bytes and operand bytes, and the reading of an operand.
+#![tactic(auto)]
+
 ghost use Rattle.std.specs.Prelude.{◌≡◌, true, false, ◌&&◌, ◌+◌, ◌-◌, ◌*◌, ◌≤◌, ◌<◌, length, eqb};
 ghost use Rattle.questions.specs.Basics.{if◌then◌else◌, each_from};
 ghost use Rattle.questions.specs.Questions.{first_no};

@@ -1,4 +1,6 @@
 // Reads cases from `cases.bin` in the current folder, at most 1 MiB, and prints what each comes to. A missing file has no cases.
+#![tactic(auto)]
+
 ghost use Rattle.std.specs.Prelude.{◌≡◌, ◌≤◌, length};
 
 // The case that `c` begins with, behind `case NUMBER`. The answer is how many bytes it has, 0 if it is malformed.

@@ -1,4 +1,6 @@
 // What an agent does next: one function says it, and whoever moves an agent on acts on its answer.
+#![tactic(auto)]
+
 ghost use Rattle.std.specs.Prelude.{List, ◌≡◌, ℕ, ◌<◌, length};
 ghost use Rattle.rules.specs.Blocks.{yields, behind_end};
 ghost use Rattle.rules.specs.Courses.{going, passed, next_of};
@@ -9,7 +11,7 @@ ghost use Rattle.course.specs.Next.{next_in, StandsOutside};
 use instruction::Spot;
 
 // It stands elsewhere, after one instruction; it does a block of this partition; or it replies with this value.
-#[derive(Drop)]
+#[derive(Clone, Copy)]
 pub enum Next {
     Goes,
     Does(usize),
@@ -17,7 +19,7 @@ pub enum Next {
 }
 
 // With the place where it goes, or where its block opens; with a reply nothing is said of it.
-#[derive(Drop)]
+#[derive(Clone, Copy)]
 pub struct Upcoming {
     pub next: Next,
     pub place: Spot,

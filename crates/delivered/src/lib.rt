@@ -1,1 +1,2 @@
 // No code: the demands of the library as it is delivered, of lists of exported calls on bytes.
+#![tactic(auto)]

@@ -1,5 +1,7 @@
 // Reads edges from standard input, at most 512 KiB, and prints each one's words and its answer. An edge is the length of its words
 // (1 byte), the words, and a case in the form that `cases` has. `edges.py` has them in readable form, each with its answer.
+#![tactic(auto)]
+
 ghost use Rattle.std.specs.Prelude.{◌≡◌, ◌≤◌, length};
 
 // The edge that `edges` begin with. The answer is how many bytes it has, 0 if it is malformed.

@@ -1,5 +1,7 @@
 // How much a workflow takes: its most turns and, for each partition, its most rows, over all routes through it. Each figure is worked out
 // in one pass from the workflow's last instruction to its first, with a table of the most from each instruction on.
+#![tactic(auto)]
+
 ghost use Rattle.std.specs.Prelude.{◌≡◌, true, false, ℕ, ◌+◌, ◌≤◌, ◌<◌, eqb, ltb, length, get_or};
 ghost use Rattle.questions.specs.Basics.{if◌then◌else◌};
 ghost use Rattle.rules.specs.Routes.{by_rows, MostOf};
@@ -14,14 +16,14 @@ use operation::Operand;
 use questions::Verdict;
 
 // What is counted on a route: its turns, or its rows in a partition.
-#[derive(Drop)]
+#[derive(Clone, Copy)]
 enum Counted {
     Turns,
     Rows(u32),
 }
 
 // What the call answers: the verdict of its questions; if it is accepted, the most turns, and the most rows of partition 0 to 7.
-#[derive(Drop)]
+#[derive(Clone, Copy)]
 pub struct Figured {
     pub verdict: Verdict,
     pub turns: u32,

@@ -1,5 +1,7 @@
 // Executes the two forms with references on a pack that it reads from standard input, the whole case's: a reader, which carries the lent
 // pack with the workflow that it has open, and the record of one agent, lent by `&mut` and moved on in place.
+#![tactic(auto)]
+
 ghost use Rattle.std.specs.Prelude.{◌≡◌};
 ghost use Rattle.questions.specs.Verdicts.{verdict_of};
 ghost use Rattle.pack.specs.Refusal.{open_refusal};

@@ -1,4 +1,6 @@
 // The calls for a program in another language, on numbers and lent bytes. `include/sarthule.h` has the same for C.
+#![tactic(auto)]
+
 ghost use Rattle.std.specs.Prelude.{List, [], ◌∷◌, ℕ};
 ghost use Rattle.rules.specs.Calls.{Call};
 ghost use Rattle.pack.specs.Refusal.{pack_refusal, open_refusal};

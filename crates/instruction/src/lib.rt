@@ -1,4 +1,6 @@
 // One instruction carried out: on registers alone, inside a block or outside; or on a block's view of its partition, PUTs beside the store.
+#![tactic(auto)]
+
 pub mod pending;
 
 ghost use Rattle.std.specs.Prelude.{List, ◌≡◌, ◌+◌, ◌%◌, ◌^◌, ◌≤◌, ◌<◌};
@@ -16,14 +18,14 @@ use crate::pending::{Pending, pending_put, seen_value};
 use store::rows::Got;
 
 // Where a request stands: the position of its next instruction, and its registers.
-#[derive(Drop)]
+#[derive(Clone, Copy)]
 pub struct Spot {
     pub position: usize,
     pub registers: [u32; 8],
 }
 
 // A block's run under way: where it stands, with its copy of the registers; and its PUTs.
-#[derive(Drop)]
+#[derive(Clone, Copy)]
 pub struct Running {
     pub place: Spot,
     pub pending: Pending,

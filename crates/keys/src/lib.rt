@@ -1,4 +1,6 @@
 // Stored keys: each form is made, recognised and taken apart here, and nowhere else.
+#![tactic(auto)]
+
 ghost use Rattle.std.specs.Prelude.{true, ◌≡◌, ◌^◌, ◌≤◌, ◌<◌};
 ghost use Rattle.keys.specs.Keys.{data_key, is_data_key, data_of, log_key, is_log_key, id_of, step_of, is_form};
 ghost use Rattle.keys.specs.Keys.{book_key, is_book_key, booked_id, book_row, book_keys, is_workflow_key, last_of_five, floor_key, is_floor_key};

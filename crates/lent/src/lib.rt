@@ -1,4 +1,6 @@
 // The turn of one agent's record that is lent by `&mut` and moved on in place.
+#![tactic(auto)]
+
 ghost use Rattle.lent.specs.Alone.{TurnedAlone};
 
 use agents::{Agent, Answer};

@@ -1,4 +1,6 @@
 // Questions 13 and 14 to lent bytes and agent records, and the first no of 1 to 13, of 1 to 16, and of 1 to 14 and 25.
+#![tactic(auto)]
+
 ghost use Rattle.std.specs.Prelude.{◌≡◌, true, ◌+◌, ◌≤◌, ◌<◌, length, get_or};
 ghost use Rattle.std.proofs.Math.Option.{none};
 ghost use Rattle.contents.specs.Contents.{value_in, book_of, book_rows};

@@ -1,4 +1,6 @@
 // The lines, each put behind the text so far.
+#![tactic(auto)]
+
 ghost use Rattle.std.specs.Prelude.{◌+◌, ◌≤◌, length};
 ghost use Rattle.agents.specs.Answers.{answer_of};
 ghost use Rattle.text.specs.Text.{Appended};

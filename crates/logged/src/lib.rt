@@ -1,4 +1,6 @@
 // How far its log leads a request: the reply that can be worked out from the log. Each block is passed by its log row, and none is run.
+#![tactic(auto)]
+
 ghost use Rattle.std.specs.Prelude.{true, List, ◌≡◌, ℕ, ◌<◌, length};
 ghost use Rattle.std.proofs.Math.Option.{Option, none, some};
 ghost use Rattle.rules.specs.Store.{sought};
@@ -22,7 +24,7 @@ use instruction::Spot;
 use store::rows::Got;
 
 // What is known of an id from book and log.
-#[derive(Drop)]
+#[derive(Clone, Copy)]
 pub enum Logged {
     Unbooked,
     NotYet,
@@ -30,7 +32,7 @@ pub enum Logged {
 }
 
 // Where a move by the log leads: the request is under way, its next block isn't logged, or it has come to this reply.
-#[derive(Drop)]
+#[derive(Clone, Copy)]
 enum Led {
     UnderWay,
     NotLogged,
@@ -38,7 +40,7 @@ enum Led {
 }
 
 // With the place and the step number of a request under way; otherwise nothing is said of them.
-#[derive(Drop)]
+#[derive(Clone, Copy)]
 struct Stage {
     led: Led,
     place: Spot,

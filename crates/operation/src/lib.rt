@@ -1,5 +1,7 @@
 // An operation byte and a packed jump operand taken apart by shifts and masks, sums and differences that keep the remainder by 2^32,
 // and the table of operations.
+#![tactic(auto)]
+
 ghost use Rattle.std.specs.Prelude.{◌≡◌, ◌+◌, ◌-◌, ◌%◌, ◌^◌, ◌<◌, Bool, ◌==◌};
 ghost use Rattle.operation.specs.Parts.{operation_of, register_of, bit3_of, target_of, source_of};
 ghost use Rattle.operation.specs.Operations.{entry_of};
@@ -63,7 +65,7 @@ pub const PUT: u8 = 9;
 pub const RETURN: u8 = 11;
 
 // Where an operation stands.
-#[derive(Drop)]
+#[derive(Clone, Copy)]
 pub enum Side {
     Anywhere,
     Inside,
@@ -71,7 +73,7 @@ pub enum Side {
 }
 
 // What its operand w may be.
-#[derive(Drop)]
+#[derive(Clone, Copy)]
 pub enum Operand {
     Any,
     Below8,
@@ -80,7 +82,7 @@ pub enum Operand {
 }
 
 // What the table says of an operation; `fixed`: its register d is 0.
-#[derive(Drop)]
+#[derive(Clone, Copy)]
 pub struct Entry {
     pub side: Side,
     pub operand: Operand,

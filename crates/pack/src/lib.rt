@@ -1,4 +1,6 @@
 // The pack of workflows: its check, and the opening of a workflow.
+#![tactic(auto)]
+
 ghost use Rattle.std.specs.Prelude.{◌≡◌, ◌+◌, ◌*◌, ◌≤◌, ◌<◌, length, take, drop};
 ghost use Rattle.questions.specs.Basics.{each};
 ghost use Rattle.questions.specs.Questions.{first_no};

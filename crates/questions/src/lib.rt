@@ -1,11 +1,13 @@
 // Questions put in order, of which the first no wins, and the verdict on them.
+#![tactic(auto)]
+
 ghost use Rattle.std.specs.Prelude.{◌≡◌};
 ghost use Rattle.std.proofs.Math.Option.{none, some};
 ghost use Rattle.questions.specs.Questions.{no};
 ghost use Rattle.questions.specs.Verdicts.{verdict_of};
 
 // What the questions that were put came to: all yes, or the first no, with 4 to 8 its workflow and instruction and otherwise 0 and 0.
-#[derive(Drop)]
+#[derive(Clone, Copy)]
 pub enum Verdict {
     Accepted,
     Refused {

@@ -1,6 +1,8 @@
 // A reader carries the lent pack along with the workflow that it has open, so that a workflow is checked and found once and then read.
 // The functions over it are thin: they take the struct apart or copy it, and call one on slices and numbers, which the borrow checker
 // covers.
+#![tactic(auto)]
+
 ghost use Rattle.std.specs.Prelude.{◌≡◌, ◌*◌};
 ghost use Rattle.reader.specs.Readers.{part_of, opening_of, operations_from, operands_from, reader_of, Opened, operations_in, operands_in};
 ghost use Rattle.reader.specs.Readers.{Beside, Read};
@@ -9,7 +11,7 @@ use questions::Verdict;
 
 // `operations`, `operands`: where the workflow's operation bytes and operand bytes begin in the pack; `size`: how many instructions it has.
 // Refused, all three are 0, and there is nothing to read.
-#[derive(Drop)]
+#[derive(Clone, Copy)]
 pub struct Reader<'a> {
     pub pack: &'a [u8],
     pub workflow: u32,
@@ -20,7 +22,7 @@ pub struct Reader<'a> {
 }
 
 // What an opening finds.
-#[derive(Drop)]
+#[derive(Clone, Copy)]
 pub struct Opening {
     pub verdict: Verdict,
     pub operations: usize,
@@ -29,7 +31,7 @@ pub struct Opening {
 }
 
 // An instruction as it stands in the pack: operation byte and operand word.
-#[derive(Drop)]
+#[derive(Clone, Copy)]
 pub struct Instruction {
     pub byte: u8,
     pub word: u32,

@@ -1,4 +1,6 @@
 // Questions 28 and 29: can each smaller booked request be retired, and is there one?
+#![tactic(auto)]
+
 ghost use Rattle.std.specs.Prelude.{true, ◌≡◌, ltb};
 ghost use Rattle.std.proofs.Math.Option.{none, some};
 ghost use Rattle.questions.specs.Basics.{each};

@@ -1,5 +1,7 @@
 // What retire does to the rows of a store: the book and log rows of every id below the floor are removed, booked or not, and the floor is
 // kept as one extra row of the book. Data rows stay.
+#![tactic(auto)]
+
 ghost use Rattle.std.proofs.Math.Option.{none};
 ghost use Rattle.std.specs.Prelude.{◌≡◌, ◌<◌};
 ghost use Rattle.rules.specs.Store.{booked_below, retired};

@@ -1,5 +1,7 @@
 // The calls: entry points without a `requires`, each with the promise `Carried`, for any value of what it does not get; order, which
 // changes no contents, with one more.
+#![tactic(auto)]
+
 ghost use Rattle.std.specs.Prelude.{◌≡◌, List, ℕ, true};
 ghost use Rattle.agents.specs.Requests.{asked};
 ghost use Rattle.rules.specs.Calls.{Call};
@@ -35,7 +37,7 @@ pub fn crash(pack: &[u8], store: &[u8], agents: [Agent; 8], slot: usize) -> Outc
 }
 
 // What a restart leaves: empty slots, and the worklist.
-#[derive(Drop)]
+#[derive(Clone, Copy)]
 pub struct Restarted {
     pub agents: [Agent; 8],
     pub list: Worklist,
@@ -178,7 +180,7 @@ pub fn turn(pack: &[u8], store: &mut [u8], agents: [Agent; 8], slot: usize) -> O
 }
 
 // What a call on the worklist answers, and the worklist that it leaves.
-#[derive(Drop)]
+#[derive(Clone, Copy)]
 pub struct Listed {
     pub answer: Answer,
     pub list: Worklist,
@@ -324,7 +326,7 @@ pub fn retire(
 }
 
 // What is known of a request's reply: the reply, that the log doesn't lead to it yet, or a no.
-#[derive(Drop)]
+#[derive(Clone, Copy)]
 pub enum Known {
     NotYet,
     Reply(u32),

@@ -1,3 +1,5 @@
 // The run of a schedule of calls, and what is printed.
+#![tactic(auto)]
+
 pub mod calls;
 pub mod run;

@@ -1,4 +1,6 @@
 // Questions 22, 23 and 9, put to any bytes, behind those of the pack.
+#![tactic(auto)]
+
 ghost use Rattle.std.specs.Prelude.{◌≡◌};
 ghost use Rattle.questions.specs.Verdicts.{verdict_of};
 ghost use Rattle.schedule_check.specs.Questions.{event_right, ScheduleLaid, question22, question23, bytes_refusal, schedule_refusal};

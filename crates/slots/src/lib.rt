@@ -1,5 +1,7 @@
 // The eight agent records in 384 lent bytes, read and written. A record is twelve words of 4 bytes, low byte first: in use (0 or
 // 1), id, position, step number, eight registers.
+#![tactic(auto)]
+
 ghost use Rattle.std.specs.Prelude.{◌≡◌, ◌+◌, ◌*◌, ◌≤◌, length};
 ghost use Rattle.words.specs.Words.{fields};
 ghost use Rattle.slots.specs.Records.{no_record, record_in, slots_in, puts, with_record, with_slots};

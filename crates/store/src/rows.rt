@@ -9,14 +9,14 @@ ghost use Rattle.store.specs.Sound.{Formed, Sound};
 use crate::head::{key_place, used_count, value_place};
 
 // The row of a key, or the place where the key belongs.
-#[derive(Drop)]
+#[derive(Clone, Copy)]
 pub enum Found {
     At(usize),
     Belongs(usize),
 }
 
 // The value at a key.
-#[derive(Drop)]
+#[derive(Clone, Copy)]
 pub enum Got {
     Value(u32),
     Absent,

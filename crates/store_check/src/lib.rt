@@ -1,5 +1,7 @@
 // Questions 9 to 12, put to any bytes. The rows of a partition stand by rising key. What is asked of one partition goes by the places
 // where it lies, so that it can be put to one that lies elsewhere than in a store.
+#![tactic(auto)]
+
 pub mod any_order;
 
 ghost use Rattle.std.specs.Prelude.{true, ◌&&◌, ◌≡◌, ◌+◌, ◌-◌, ◌*◌, ◌≤◌, leb, length};

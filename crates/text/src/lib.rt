@@ -1,5 +1,7 @@
 // Text is put behind text in a buffer that the caller lends. The text so far is the buffer's first `written` bytes; each function answers
 // how many there are then, and leaves the bytes behind them as they were.
+#![tactic(auto)]
+
 ghost use Rattle.std.specs.Prelude.{[], ◌∷◌, ◌+◌, ◌≤◌, ◌<◌, length};
 ghost use Rattle.text.specs.Text.{decimal, Appended};
 

@@ -1,4 +1,6 @@
 // The turn of one agent, by value: it acts on what the agent does next, which is to stand elsewhere, to do a whole block, or to reply.
+#![tactic(auto)]
+
 ghost use Rattle.std.specs.Prelude.{List, ◌≡◌, ℕ, ◌≤◌, ◌<◌, length};
 ghost use Rattle.code.specs.Meaning.{code_of};
 ghost use Rattle.store.specs.Sound.{Sound};
@@ -12,7 +14,7 @@ use instruction::Spot;
 use store::rows::Got;
 
 // What the turn of one agent answers, and the record that it leaves.
-#[derive(Drop)]
+#[derive(Clone, Copy)]
 pub struct Turned {
     pub answer: Answer,
     pub agent: Agent,

@@ -1,5 +1,7 @@
 // Numbers in bytes, unsigned, low byte first, read and written at any place of a slice. Each is one expression of its bytes, so
 // that the compiler makes one load or one store of it.
+#![tactic(auto)]
+
 ghost use Rattle.std.specs.Prelude.{◌≡◌, ◌+◌, ◌≤◌, ◌<◌, length};
 ghost use Rattle.words.specs.Words.{le, put};
 

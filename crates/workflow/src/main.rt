@@ -1,5 +1,7 @@
 // The schedule program: runs the schedule of the current folder's pack.bin and schedule.bin, and prints its answers and what is left in
 // the store, or only `refused N`.
+#![tactic(auto)]
+
 ghost use Rattle.std.specs.Prelude.{◌≡◌, length};
 ghost use Rattle.io.specs.Counts.{IsPrefixLen};
 

@@ -1,4 +1,6 @@
 // The worklist by value, sixteen places for entries: question 25, what the calls leave of the list, and the list in 132 lent bytes.
+#![tactic(auto)]
+
 ghost use Rattle.std.specs.Prelude.{true, ◌≡◌, ◌+◌, ◌-◌, ◌*◌, ◌≤◌, ◌<◌, length};
 ghost use Rattle.rules.specs.Worklist as Rules;
 ghost use Rattle.worklist.specs.Worklist.{no_entry, no_worklist, worklist_of, Kept, found_id};
@@ -6,21 +8,21 @@ ghost use Rattle.worklist.specs.Worklist.{first_from, has_id, waits, moved_up, w
 ghost use Rattle.worklist.specs.Bytes.{entry_in, list_in, with_entry, with_list};
 
 // An entry: the id and its mark, 0 waiting, 1 taken. Only a lent list has another mark.
-#[derive(Drop)]
+#[derive(Clone, Copy)]
 pub struct Entry {
     pub id: u32,
     pub mark: u32,
 }
 
 // A worklist by value: how many ids it has, and sixteen places for entries.
-#[derive(Drop)]
+#[derive(Clone, Copy)]
 pub struct Worklist {
     pub count: u32,
     pub places: [Entry; 16],
 }
 
 // What a take finds: whether an id is waiting, the first one, and the list with that one marked.
-#[derive(Drop)]
+#[derive(Clone, Copy)]
 pub struct Took {
     pub found: bool,
     pub id: u32,

@@ -9,10 +9,10 @@ use Rattle.agents.proofs.InSlots.{absent_from, absent_start, absent_no, absent_o
 use Rattle.agents.proofs.in_no_slot.Statement.{statement}
 use Rattle.agents.proofs.in_no_slot.Tie as tie
 
-abbrev invariant-loop : tie.invariant-loop
+abbrev invariant-loop : tie.invariant-loop-slot
 invariant-loop id agents slot₀ slot = (slot ≤ 8) × (absent_from agents id slot ≡ in_no_slot (slots_of agents) id)
 
-abbrev decreases-loop : tie.decreases-loop
+abbrev decreases-loop : tie.decreases-loop-slot
 decreases-loop id agents slot₀ slot = 8 - slot
 
 pub in_no_slot_spec : {M : Type 1} → statement M
@@ -26,12 +26,12 @@ in_no_slot_spec =
     (λ c. search rules)
     (λ c κs. search rules)
     (λ c. let l = c.before.before.before.before in
-    sym (absent_no _ _ l.loop.slot _ (omega arith) c.before.is_of.ensures c.if1.true) ∙ l.loop.invariant.1)
+    sym (absent_no _ _ l.loop-slot.slot _ (omega arith) c.before.is_of.ensures c.if-is_of.true) ∙ l.loop-slot.invariant.1)
     (λ c. search rules)
     (λ c. search rules)
     (λ c. (
       search rules,
       let l = c.before.before.before.before in
-          sym (absent_on _ _ l.loop.slot _ (omega arith) c.before.is_of.ensures c.if1.false) ∙ l.loop.invariant.1,
+          sym (absent_on _ _ l.loop-slot.slot _ (omega arith) c.before.is_of.ensures c.if-is_of.false) ∙ l.loop-slot.invariant.1,
     ))
-    (λ c. sym (absent_done _ _ _ (omega arith)) ∙ c.before.loop.invariant.1))
+    (λ c. sym (absent_done _ _ _ (omega arith)) ∙ c.before.loop-slot.invariant.1))

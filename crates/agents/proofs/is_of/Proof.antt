@@ -8,5 +8,5 @@ pub is_of_spec : {M : Type 1} → statement M
 is_of_spec =
     tie.close
     (tie.spec
-    (λ c. sym (of_same _ _ c.if1.true))
-    (λ c. sym (of_other _ _ c.if1.false)))
+    (λ c. sym (of_same _ _ c.if-a-id.true))
+    (λ c. sym (of_other _ _ c.if-a-id.false)))

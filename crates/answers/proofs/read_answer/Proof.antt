@@ -10,12 +10,12 @@ unfolding Answers.answer_of
 read_answer_spec =
     tie.close
     (tie.spec
-    (λ c. λ a h f. reads_done _ _ a h c.if1.true)
-    (λ c. λ a h f. reads_moved _ _ a h c.if2.true)
+    (λ c. λ a h f. reads_done _ _ a h c.if-number-eq0.true)
+    (λ c. λ a h f. reads_moved _ _ a h c.if-number-eq1.true)
     (λ c κs. search rules)
     (λ c κs. search rules)
-    (λ c. λ a h f. reads_reply _ _ a h _ _ c.if3.true c.before.before.read32.ensures c.before.read322.ensures)
-    (λ c. λ a h f. reads_given _ _ a h _ c.if4.true c.before.before.before.read32.ensures)
+    (λ c. λ a h f. reads_reply _ _ a h _ _ c.if-number-eq2.true c.before.before.read32-first.ensures c.before.read32-second.ensures)
+    (λ c. λ a h f. reads_given _ _ a h _ c.if-number-eq4.true c.before.before.before.read32-first.ensures)
     (λ c. search rules)
     (λ c. search rules)
     (λ c κs. search rules)
@@ -24,6 +24,6 @@ read_answer_spec =
     let n4 = c.before in
     let e = n4.before in
     let two = e.before.before.before in
-    reads_refused _ _ a h two.before.if1.false two.if2.false e.if3.false n4.if4.false f _ _ _
-    e.before.before.read32.ensures
-    e.before.read322.ensures c.read323.ensures))
+    reads_refused _ _ a h two.before.if-number-eq0.false two.if-number-eq1.false e.if-number-eq2.false n4.if-number-eq4.false f _ _ _
+    e.before.before.read32-first.ensures
+    e.before.read32-second.ensures c.read32.ensures))

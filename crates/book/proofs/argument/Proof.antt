@@ -11,15 +11,15 @@ use Rattle.book.proofs.argument.Statement.{statement}
 use Rattle.book.proofs.argument.Tie as tie
 
 -- what stands at the row's key
-got : (c : tie.After-get) →
+got : (c : tie.After-get-found) →
     let s = c.before.before.before.before.args in
-    c.get.result ≡ got_of (lookup (book_key s.id s.j) (book_rows s.store.now))
+    c.get-found.result ≡ got_of (lookup (book_key s.id s.j) (book_rows s.store.now))
 got c =
     let k = c.before in
     let p = k.before in
     let s = p.before.before.args in
-    c.get.ensures
-    ∙ ap₂ (λ (j q : ℕ). got_of (lookup j (rows_of s.store.now q))) k.book_key_lem.ensures.0 p.partition_count.ensures
+    c.get-found.ensures
+    ∙ ap₂ (λ (j q : ℕ). got_of (lookup j (rows_of s.store.now q))) k.book_key_lem.ensures.0 p.partition_count-book.ensures
 
 pub argument_spec : {M : Type 1} → statement M
 argument_spec =
@@ -30,5 +30,5 @@ argument_spec =
     (λ c κs. search rules)
     (λ c. search rules)
     (λ c. search rules)
-    (λ c. got_value _ _ (got c.before.before.before) _ c.before.found.given.1)
-    (λ c. got_zero _ _ (got c.before.before) c.enum_told.given.1))
+    (λ c. got_value _ _ (got c.before.before.before) _ c.before.found-1.given.1)
+    (λ c. got_zero _ _ (got c.before.before) c.enum_told-1.given.1))

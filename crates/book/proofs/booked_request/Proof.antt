@@ -16,6 +16,6 @@ booked_request_spec =
     record {
       workflow = c.before.before.before.before.before.args.workflow;
       arguments =
-          c.before.before.before.argument.ensures i ∷ c.before.before.argument2.ensures i ∷ c.before.argument3.ensures i
-          ∷ c.argument4.ensures i ∷ [];
+          c.before.before.before.argument-a0.ensures i ∷ c.before.before.argument-a1.ensures i ∷ c.before.argument-a2.ensures i
+          ∷ c.argument-a3.ensures i ∷ [];
     }))

@@ -21,7 +21,7 @@ booked_row_spec =
     let p = k.before in
     let st = p.before.before in
     let s = st.args in (
-      c.find.ensures.all (rows_rise s.store.now st.requires p.partition_count.result (omega (arith, p.partition_count.ensures)))
-          ∙ ap₂ (λ (j q : ℕ). found_in j (keys_in (rows_of s.store.now q))) k.book_key_lem.ensures.0 p.partition_count.ensures,
+      c.find.ensures.all (rows_rise s.store.now st.requires p.partition_count-book.result (omega (arith, p.partition_count-book.ensures)))
+          ∙ ap₂ (λ (j q : ℕ). found_in j (keys_in (rows_of s.store.now q))) k.book_key_lem.ensures.0 p.partition_count-book.ensures,
       k.book_key_lem.ensures.1,
     )))

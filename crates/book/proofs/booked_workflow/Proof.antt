@@ -19,6 +19,6 @@ booked_workflow_spec =
     let p = k.before in
     let s = p.before.before.args in (
       c.get.ensures ∙ ap₂ (λ (j q : ℕ). got_of (lookup j (rows_of s.store.now q))) k.book_key_lem.ensures.0
-          p.partition_count.ensures,
+          p.partition_count-book.ensures,
       k.book_key_lem.ensures.1,
     )))

@@ -24,23 +24,23 @@ sounds : (c : tie.Start) → Sound c.args.store.now
 sounds c = (store_ok _ c.requires.0).0
 
 -- From a place of the proof back: to the answer of the search, where the row is found and where it is not, and to the start.
-abbrev hit : tie.After-partition-count → tie.After-found
+abbrev hit : tie.After-partition_count-book → tie.In-At-2
 hit pc = pc.before.before.before
 
-abbrev miss : tie.After-partition-count2 → tie.After-found2
+abbrev miss : tie.After-partition_count-book-in-Belongs → tie.In-Belongs-2
 miss pc = pc.before.before.before
 
-abbrev counted : tie.After-used-count → tie.After-partition-count2
+abbrev counted : tie.After-used_count → tie.After-partition_count-book-in-Belongs
 counted u = u.before.before.before.before
 
-abbrev start : tie.After-booked-row → tie.Start
+abbrev start : tie.After-booked_row-found → tie.Start
 start br = br.before.before.before
 
 -- what the book has of a known id
-known : (c : tie.After-value-at) →
+known : (c : tie.After-value_at-workflow) →
     let a = (start (hit c.before.before).before.before).args in
     let rows = book_rows a.store.now in
-    book_of (value_in rows) a.id ≡ some (record { workflow = c.value_at.result; arguments = arguments_of (value_in rows) a.id })
+    book_of (value_in rows) a.id ≡ some (record { workflow = c.value_at-workflow.result; arguments = arguments_of (value_in rows) a.id })
 known c =
     let pc = c.before.before in
     let f = hit pc in
@@ -48,19 +48,19 @@ known c =
     let st = start br in
     let a = st.args in
     let rows = book_rows a.store.now in
-    found_some rows a.id f.found.given.0.0 br.booked_row.ensures.1 (sym br.booked_row.ensures.0 ∙ f.found.given.1)
+    found_some rows a.id f.found-1.given.0.0 br.booked_row-found.ensures.1 (sym br.booked_row-found.ensures.0 ∙ f.found-1.given.1)
     ∙ ap (λ (w : ℕ). some (record { workflow = w; arguments = arguments_of (value_in rows) a.id }))
-    (ap (λ (p : ℕ). (get_or (rows_of a.store.now p) f.found.given.0.0 (0, 0)).1) (sym pc.partition_count.ensures)
-    ∙ sym c.value_at.ensures)
+    (ap (λ (p : ℕ). (get_or (rows_of a.store.now p) f.found-1.given.0.0 (0, 0)).1) (sym pc.partition_count-book.ensures)
+    ∙ sym c.value_at-workflow.ensures)
 
 -- and as it is read
-as_read : (c : tie.After-booked-request) →
+as_read : (c : tie.After-booked_request-known) →
     let a = (start (hit c.before.before.before.before).before.before).args in
-    book_of (value_in (book_rows a.store.now)) a.id ≡ some (asked c.booked_request.result)
-as_read c = known c.before.before ∙ ap some (sym c.booked_request.ensures)
+    book_of (value_in (book_rows a.store.now)) a.id ≡ some (asked c.booked_request-known.result)
+as_read c = known c.before.before ∙ ap some (sym c.booked_request-known.ensures)
 
 -- five rows more, for a new id, by the book's used count
-more : (c : tie.After-used-count) →
+more : (c : tie.After-used_count) →
     let a = (start (miss (counted c)).before.before).args in
     let rows = book_rows a.store.now in
     (length (with_request a.id (asked a.q) rows) ≡ length rows + 5) × (c.used_count.result ≡ length rows)
@@ -71,9 +71,9 @@ more c =
     let st = start br in
     let a = st.args in (
       length_after a.id a.q.workflow a.q.a0 a.q.a1 a.q.a2 a.q.a3 (book_rows a.store.now)
-          (twelve_parts _ (store_ok _ st.pre.0).1).0 br.booked_row.ensures.1 (book_keys_lem _ (sounds st))
-          (no_lookup (book_key a.id 0) _ _ (sym br.booked_row.ensures.0 ∙ f.found2.given.1)),
-      c.used_count.ensures ∙ ap (λ (q : ℕ). length (rows_of a.store.now q)) p.partition_count2.ensures,
+          (twelve_parts _ (store_ok _ st.requires.0).1).0 br.booked_row-found.ensures.1 (book_keys_lem _ (sounds st))
+          (no_lookup (book_key a.id 0) _ _ (sym br.booked_row-found.ensures.0 ∙ f.found-in-Belongs-1.given.1)),
+      c.used_count.ensures ∙ ap (λ (q : ℕ). length (rows_of a.store.now q)) p.partition_count-book-in-Belongs.ensures,
     )
 
 pub book_request_spec : {M : Type 1} → statement M
@@ -91,9 +91,9 @@ book_request_spec =
     let st = start br in
     let a = st.args in (
       sounds st,
-      omega (arith, pc.partition_count.ensures),
-      rw pc.partition_count.ensures
-          (at_row (book_key a.id 0) (book_rows a.store.now) _ (sym br.booked_row.ensures.0 ∙ f.found.given.1)),
+      omega (arith, pc.partition_count-book.ensures),
+      rw pc.partition_count-book.ensures
+          (at_row (book_key a.id 0) (book_rows a.store.now) _ (sym br.booked_row-found.ensures.0 ∙ f.found-1.given.1)),
     ))
     (λ c κs. sounds (start (hit c.before.before.before).before.before))
     (λ c κs. search rules)
@@ -102,7 +102,7 @@ book_request_spec =
     (λ c.
     let m = c.before.before in
     let k = m.before in
-    booked_known _ _ _ _ (asked k.booked_request.result) (as_read k) (sym m.same.ensures ∙ c.before.if1.true)
+    booked_known _ _ _ _ (asked k.booked_request-known.result) (as_read k) (sym m.same.ensures ∙ c.before.if-same.true)
     c.accepted.ensures)
     (λ c κs. search rules)
     (λ c. search rules)
@@ -110,7 +110,7 @@ book_request_spec =
     (λ c κs. let z = sounds (start (miss c.before).before.before) in omega (arith, z.formed.shape.size))
     (λ c κs. (
       (sounds (start (miss c.before.before.before).before.before)).formed.shape,
-      omega (arith, c.before.before.before.partition_count2.ensures),
+      omega (arith, c.before.before.before.partition_count-book-in-Belongs.ensures),
     ))
     (λ c. let st = start (miss (counted c)).before.before in
     let z = sounds st in
@@ -128,23 +128,23 @@ book_request_spec =
     let br = f.before.before in
     let a = (start br).args in
     booked_19 _ a.id _ _
-    (found_none (book_rows a.store.now) a.id _ br.booked_row.ensures.1 (sym br.booked_row.ensures.0 ∙ f.found2.given.1))
-    (omega (arith, (more u).1, c.before.if2.true, u.before.before.capacity.ensures)) c.refused2.ensures)
+    (found_none (book_rows a.store.now) a.id _ br.booked_row-found.ensures.1 (sym br.booked_row-found.ensures.0 ∙ f.found-in-Belongs-1.given.1))
+    (omega (arith, (more u).1, c.before.if-capacity-used_count.true, u.before.before.capacity.ensures)) c.refused-then-capacity-used_count.ensures)
     (λ c κs.
     let u = c.before.before in
     let f = miss (counted u) in
     let br = f.before.before in (
       sounds (start br),
-      sym br.booked_row.ensures.0
-          ∙ f.found2.given.1,
-      omega (arith, more u, c.before.if2.false, u.before.before.capacity.ensures),
+      sym br.booked_row-found.ensures.0
+          ∙ f.found-in-Belongs-1.given.1,
+      omega (arith, more u, c.before.if-capacity-used_count.false, u.before.before.capacity.ensures),
     ))
     (λ c κs. search rules)
     (λ c. search rules)
     (λ c.
     let m = c.before.before in
     let k = m.before in
-    booked_18 _ _ _ _ (asked k.booked_request.result) (as_read k) (sym m.same.ensures ∙ c.before.if1.false) c.refused.ensures)
+    booked_18 _ _ _ _ (asked k.booked_request-known.result) (as_read k) (sym m.same.ensures ∙ c.before.if-same.false) c.refused.ensures)
     (λ c. search rules)
     (λ c.
     let w = c.before.before.before in
@@ -153,10 +153,10 @@ book_request_spec =
     let br = f.before.before in
     let st = start br in
     let a = st.args in
-    let new = sym br.booked_row.ensures.0 ∙ f.found2.given.1 in
-    booked_new _ a.id _ _ _ (found_none (book_rows a.store.now) a.id _ br.booked_row.ensures.1 new)
-    (omega (arith, (more u).1, w.before.before.if2.false, u.before.before.capacity.ensures))
-    (wrote_request _ _ a.id a.q.workflow a.q.a0 a.q.a1 a.q.a2 a.q.a3 st.pre.0
-    br.booked_row.ensures.1 st.pre.1
+    let new = sym br.booked_row-found.ensures.0 ∙ f.found-in-Belongs-1.given.1 in
+    booked_new _ a.id _ _ _ (found_none (book_rows a.store.now) a.id _ br.booked_row-found.ensures.1 new)
+    (omega (arith, (more u).1, w.before.before.if-capacity-used_count.false, u.before.before.capacity.ensures))
+    (wrote_request _ _ a.id a.q.workflow a.q.a0 a.q.a1 a.q.a2 a.q.a3 st.requires.0
+    br.booked_row-found.ensures.1 st.requires.1
     (no_lookup (book_key a.id 0) _ _ new) w.write_request.ensures)
-    c.accepted2.ensures))
+    c.accepted-in-Belongs.ensures))

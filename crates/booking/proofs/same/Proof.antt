@@ -9,20 +9,20 @@ pub same_spec : {M : Type 1} → statement M
 same_spec =
     tie.close
     (tie.spec
-    (λ c. rw (ne_eqb _ _ c.if1.true) refl)
-    (λ c. let w = c.before.before.before in rw (eq-eqb _ _ w.if1.false, ne_eqb _ _ c.if2.true) refl)
+    (λ c. rw (ne_eqb _ _ c.if-q-known.true) refl)
+    (λ c. let w = c.before.before.before in rw (eq-eqb _ _ w.if-q-known.false, ne_eqb _ _ c.if-q-known-2.true) refl)
     (λ c.
     let a = c.before.before.before in
     let w = a.before.before.before in
-    rw (eq-eqb _ _ w.if1.false, eq-eqb _ _ a.if2.false, ne_eqb _ _ c.if3.true) refl)
+    rw (eq-eqb _ _ w.if-q-known.false, eq-eqb _ _ a.if-q-known-2.false, ne_eqb _ _ c.if-q-known-3.true) refl)
     (λ c.
     let b = c.before.before.before in
     let a = b.before.before.before in
     let w = a.before.before.before in
-    rw (eq-eqb _ _ w.if1.false, eq-eqb _ _ a.if2.false, eq-eqb _ _ b.if3.false, ne_eqb _ _ c.if4.true) refl)
+    rw (eq-eqb _ _ w.if-q-known.false, eq-eqb _ _ a.if-q-known-2.false, eq-eqb _ _ b.if-q-known-3.false, ne_eqb _ _ c.if-q-known-4.true) refl)
     (λ c.
     let d = c.before.before in
     let b = d.before.before.before in
     let a = b.before.before.before in
     let w = a.before.before.before in
-    rw (eq-eqb _ _ w.if1.false, eq-eqb _ _ a.if2.false, eq-eqb _ _ b.if3.false, eq-eqb _ _ d.if4.false) (and_last _)))
+    rw (eq-eqb _ _ w.if-q-known.false, eq-eqb _ _ a.if-q-known-2.false, eq-eqb _ _ b.if-q-known-3.false, eq-eqb _ _ d.if-q-known-4.false) (and_last _)))

@@ -17,7 +17,7 @@ write_request_spec =
     (λ c. search rules)
     (λ c κs.
     let k = c.before.before.before in
-    let p = k.before.partition_count in
+    let p = k.before.partition_count-book in
     let s = k.before.before.before.before in
     let a = s.args in
     rw k.book_keys_lem.ensures.0 (
@@ -31,7 +31,7 @@ write_request_spec =
     (λ c.
     let w = c.before.before in
     let k = w.before.before.before.before in
-    let p = k.before.partition_count in
+    let p = k.before.partition_count-book in
     let s = k.before.before.before.before in
     let a = s.args in
     five_stored a.store.now p.result a.id (asked a.q) p.ensures k.book_keys_lem.result _ w.put_all_lem.result

@@ -87,13 +87,13 @@ pub +walk_inside_walk_outside_spec : {M : Type 1} → statement M
     invariant_inside
     decreases-loop-inside
     (λ c. let s = c.before.before in (s.requires.1.1.0, s.requires.1.1.1, omega arith, omega arith, refl))
-    (λ c κs. let n = c.before.loop.invariant in ((c.loop-test.true, c.before.before.before.before.requires.1.0), (n.0, n.1)))
+    (λ c κs. let n = c.before.loop-i.invariant in ((c.loop-i-test.true, c.before.before.before.before.requires.1.0), (n.0, n.1)))
     (λ c. search rules)
     (λ c.
     let j = c.before.before in
     let l = j.before in
-    first_stop _ _ _ l.loop-test.true _ _ _ _ j.judge_inside.ensures c.enum_told.given.1
-    ∙ ap verdict_of (sym l.before.loop.invariant.4))
+    first_stop _ _ _ l.loop-i-test.true _ _ _ _ j.judge_inside-v.ensures c.enum_told-1.given.1
+    ∙ ap verdict_of (sym l.before.loop-i.invariant.4))
     (λ c. search rules)
     (λ c. search rules)
     (λ c κs. search rules)
@@ -102,17 +102,17 @@ pub +walk_inside_walk_outside_spec : {M : Type 1} → statement M
     let o = c.before in
     let l = o.before.before.before.before.before in
     let s = l.before.before.before.before in (
-      omega (arith, l.loop-test.true, s.requires.0, l.before.loop.invariant.3),
-      (s.requires.1.0, ends _ _ (sym o.operation_of.ensures ∙ c.if1.true)),
+      omega (arith, l.loop-i-test.true, s.requires.0, l.before.loop-i.invariant.3),
+      (s.requires.1.0, ends _ _ (sym o.operation_of-op.ensures ∙ c.if-op-eq-END.true)),
     ))
     (λ c.
     let e = c.before.before.before.before in
     let j = e.before.before in
     let l = j.before in
     c.walk_outside.ensures
-    ∙ ap verdict_of (sym (l.before.loop.invariant.4
-    ∙ first_yes _ _ _ l.loop-test.true _ j.judge_inside.ensures e.enum-told2.given.1)))
-    (λ c κs. let e = c.before.before.before in let l = e.before.before.before in l.before.loop.invariant.2)
+    ∙ ap verdict_of (sym (l.before.loop-i.invariant.4
+    ∙ first_yes _ _ _ l.loop-i-test.true _ j.judge_inside-v.ensures e.enum_told-in_default-1.given.1)))
+    (λ c κs. let e = c.before.before.before in let l = e.before.before.before in l.before.loop-i.invariant.2)
     (λ c. search rules)
     (λ c. search rules)
     (λ c.
@@ -120,16 +120,16 @@ pub +walk_inside_walk_outside_spec : {M : Type 1} → statement M
     let e = o.before.before in
     let j = e.before.before in
     let l = j.before in
-    let n = l.before.loop.invariant in
-    let a = e.enum-told2.given.1 in (
-      stays_inside _ _ _ _ _ j.judge_inside.ensures a n.0 (λ q. c.before.if1.false (o.operation_of.ensures ∙ q)),
-      puts_next _ _ _ _ _ j.judge_inside.ensures a _ _ _ o.operation_of.ensures n.1 c.puts_behind.ensures n.0
-          (λ q. c.before.if1.false (o.operation_of.ensures ∙ q)),
-      puts_few _ _ _ _ _ j.judge_inside.ensures a _ _ _ o.operation_of.ensures n.1 c.puts_behind.ensures n.2,
+    let n = l.before.loop-i.invariant in
+    let a = e.enum_told-in_default-1.given.1 in (
+      stays_inside _ _ _ _ _ j.judge_inside-v.ensures a n.0 (λ q. c.before.if-op-eq-END.false (o.operation_of-op.ensures ∙ q)),
+      puts_next _ _ _ _ _ j.judge_inside-v.ensures a _ _ _ o.operation_of-op.ensures n.1 c.puts_behind-puts.ensures n.0
+          (λ q. c.before.if-op-eq-END.false (o.operation_of-op.ensures ∙ q)),
+      puts_few _ _ _ _ _ j.judge_inside-v.ensures a _ _ _ o.operation_of-op.ensures n.1 c.puts_behind-puts.ensures n.2,
       omega (arith, n.3),
-      n.4 ∙ first_yes _ _ _ l.loop-test.true _ j.judge_inside.ensures a,
+      n.4 ∙ first_yes _ _ _ l.loop-i-test.true _ j.judge_inside-v.ensures a,
     ))
-    (λ c. ap verdict_of (sym (c.before.loop.invariant.4 ∙ first_done _ _ _ c.loop-test.false))))
+    (λ c. ap verdict_of (sym (c.before.loop-i.invariant.4 ∙ first_done _ _ _ c.loop-i-test.false))))
     (λ t. walk-outside-lts.spec (
       judge-outside-reads.Asked,
       judge-outside-reads.Learnt,
@@ -143,13 +143,13 @@ pub +walk_inside_walk_outside_spec : {M : Type 1} → statement M
     invariant_outside
     decreases-loop-outside
     (λ c. (c.before.before.requires.1.1, omega arith, refl))
-    (λ c κs. ((c.loop-test.true, c.before.before.before.before.requires.1.0), c.before.loop.invariant.0))
+    (λ c κs. ((c.loop-i-test.true, c.before.before.before.before.requires.1.0), c.before.loop-i.invariant.0))
     (λ c. search rules)
     (λ c.
     let j = c.before.before in
     let l = j.before in
-    first_stop _ _ _ l.loop-test.true _ _ _ _ j.judge_outside.ensures c.enum_told.given.1
-    ∙ ap verdict_of (sym l.before.loop.invariant.2))
+    first_stop _ _ _ l.loop-i-test.true _ _ _ _ j.judge_outside-v.ensures c.enum_told-1.given.1
+    ∙ ap verdict_of (sym l.before.loop-i.invariant.2))
     (λ c. search rules)
     (λ c. search rules)
     (λ c κs. search rules)
@@ -158,15 +158,15 @@ pub +walk_inside_walk_outside_spec : {M : Type 1} → statement M
     let o = c.before in
     let l = o.before.before.before.before.before in
     let s = l.before.before.before.before in
-    let b = sym o.operation_of.ensures ∙ c.if1.true in
-    (omega (arith, l.loop-test.true, s.requires.0, l.before.loop.invariant.1), (s.requires.1.0, (begins _ _ b, no_puts _ _ b))))
+    let b = sym o.operation_of-op.ensures ∙ c.if-op-eq-END.true in
+    (omega (arith, l.loop-i-test.true, s.requires.0, l.before.loop-i.invariant.1), (s.requires.1.0, (begins _ _ b, no_puts _ _ b))))
     (λ c.
     let e = c.before.before.before.before in
     let j = e.before.before in
     let l = j.before in
     c.walk_Inside.ensures
-    ∙ ap verdict_of (sym (l.before.loop.invariant.2
-    ∙ first_yes _ _ _ l.loop-test.true _ j.judge_outside.ensures e.enum-told2.given.1)))
+    ∙ ap verdict_of (sym (l.before.loop-i.invariant.2
+    ∙ first_yes _ _ _ l.loop-i-test.true _ j.judge_outside-v.ensures e.enum_told-in_default-1.given.1)))
     (λ c. search rules)
     (λ c. search rules)
     (λ c.
@@ -174,10 +174,10 @@ pub +walk_inside_walk_outside_spec : {M : Type 1} → statement M
     let e = o.before.before in
     let j = e.before.before in
     let l = j.before in
-    let n = l.before.loop.invariant in
-    let a = e.enum-told2.given.1 in (
-      stays_outside _ _ _ _ _ j.judge_outside.ensures a n.0 (λ q. c.if1.false (o.operation_of.ensures ∙ q)),
+    let n = l.before.loop-i.invariant in
+    let a = e.enum_told-in_default-1.given.1 in (
+      stays_outside _ _ _ _ _ j.judge_outside-v.ensures a n.0 (λ q. c.if-op-eq-END.false (o.operation_of-op.ensures ∙ q)),
       omega (arith, n.1),
-      n.2 ∙ first_yes _ _ _ l.loop-test.true _ j.judge_outside.ensures a,
+      n.2 ∙ first_yes _ _ _ l.loop-i-test.true _ j.judge_outside-v.ensures a,
     ))
-    (λ c. ap verdict_of (sym (c.before.loop.invariant.2 ∙ first_done _ _ _ c.loop-test.false))))
+    (λ c. ap verdict_of (sym (c.before.loop-i.invariant.2 ∙ first_done _ _ _ c.loop-i-test.false))))

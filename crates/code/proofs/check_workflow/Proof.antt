@@ -26,13 +26,13 @@ check_workflow_spec =
     let o = c.before in
     let e = o.before.before in
     let k = e.before.before in
-    ap verdict_of (sym (code_walked _ _ _ _ k.walk_outside.ensures true e.enum_told.given.1
-    (eq-eqb _ 11 (sym o.operation_of.ensures ∙ c.if1.true)))))
+    ap verdict_of (sym (code_walked _ _ _ _ k.walk_outside-v.ensures true e.enum_told-1.given.1
+    (eq-eqb _ 11 (sym o.operation_of.ensures ∙ c.if-operation_of-eq-RETURN.true)))))
     (λ c.
     let o = c.before.before in
     let e = o.before.before in
     let k = e.before.before in
     c.refused.ensures
-    ∙ ap verdict_of (sym (code_walked _ _ _ _ k.walk_outside.ensures false e.enum_told.given.1
-    (ne_eqb _ 11 (λ q. c.before.if1.false (o.operation_of.ensures ∙ q))))))
-    (λ c. code_refused _ _ _ _ c.before.before.walk_outside.ensures _ _ _ c.enum-told2.given.1))
+    ∙ ap verdict_of (sym (code_walked _ _ _ _ k.walk_outside-v.ensures false e.enum_told-1.given.1
+    (ne_eqb _ 11 (λ q. c.before.if-operation_of-eq-RETURN.false (o.operation_of.ensures ∙ q))))))
+    (λ c. code_refused _ _ _ _ c.before.before.walk_outside-v.ensures _ _ _ c.enum_told-in-Refused-1.given.1))

@@ -9,10 +9,10 @@ use Rattle.code.proofs.Judged.{end_here, no_end_here}
 use Rattle.code.proofs.has_no_end.Statement.{statement}
 use Rattle.code.proofs.has_no_end.Tie as tie
 
-abbrev invariant-loop : tie.invariant-loop
+abbrev invariant-loop : tie.invariant-loop-i
 invariant-loop ops first end i₀ i = each_from (is_no_end ops) (end - first) first ≡ each_from (is_no_end ops) (end - i) i
 
-abbrev decreases-loop : tie.decreases-loop
+abbrev decreases-loop : tie.decreases-loop-i
 decreases-loop ops first end i₀ i = end - i
 
 pub has_no_end_spec : {M : Type 1} → statement M
@@ -26,12 +26,12 @@ has_no_end_spec =
     (λ c κs. search rules)
     (λ c.
     let t = c.before.before.before in
-    sym (t.before.loop.invariant
-    ∙ each_fails _ _ _ t.loop-test.true (end_here _ _ (sym c.before.operation_of.ensures ∙ c.if1.true))))
+    sym (t.before.loop-i.invariant
+    ∙ each_fails _ _ _ t.loop-i-test.true (end_here _ _ (sym c.before.operation_of.ensures ∙ c.if-operation_of-eq-END.true))))
     (λ c. search rules)
     (λ c. search rules)
     (λ c.
     let t = c.before.before.before in
-    t.before.loop.invariant ∙ each_more _ _ _ t.loop-test.true
-    (no_end_here _ _ (λ e. c.if1.false (c.before.operation_of.ensures ∙ e))))
-    (λ c. sym (c.before.loop.invariant ∙ each_none _ _ _ c.loop-test.false)))
+    t.before.loop-i.invariant ∙ each_more _ _ _ t.loop-i-test.true
+    (no_end_here _ _ (λ e. c.if-operation_of-eq-END.false (c.before.operation_of.ensures ∙ e))))
+    (λ c. sym (c.before.loop-i.invariant ∙ each_none _ _ _ c.loop-i-test.false)))

@@ -8,21 +8,21 @@ use Rattle.code.specs.Questions.{inside_at}
 use Rattle.code.proofs.is_inside.Statement.{statement}
 use Rattle.code.proofs.is_inside.Tie as tie
 
-abbrev invariant-loop : tie.invariant-loop
+abbrev invariant-loop : tie.invariant-loop-i
 invariant-loop ops start index inside₀ i₀ inside i = (i ≤ index) × (inside ≡ inside_at ops i)
 
-abbrev decreases-loop : tie.decreases-loop
+abbrev decreases-loop : tie.decreases-loop-i
 decreases-loop ops start index inside₀ i₀ inside i = index - i
 
-loop_again : tie.Need-loop-preserved invariant-loop decreases-loop
+loop_again : tie.Need-loop-i-preserved invariant-loop decreases-loop
 unfolding inside_at
 loop_again c =
-    let l = c.before.before.before.loop in
-    (search rules, c.inside_behind.ensures ∙ rw (add-one, ← l.invariant.1))
+    let l = c.before.before.before.loop-i in
+    (search rules, c.inside_behind-inside.ensures ∙ rw (add-one, ← l.invariant.1))
 
 returns : tie.Need-returns invariant-loop decreases-loop
 returns c =
-    let l = c.before.loop in
+    let l = c.before.loop-i in
     l.invariant.1 ∙ ap (inside_at _) (omega arith)
 
 pub is_inside_spec : {M : Type 1} → statement M

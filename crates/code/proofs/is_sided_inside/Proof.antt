@@ -9,8 +9,8 @@ use Rattle.code.proofs.is_sided_inside.Statement.{statement}
 use Rattle.code.proofs.is_sided_inside.Tie as tie
 
 -- where the instruction stands right, its landing is the answer
-stood : (c : tie.Then1) → stands c.before.before.before.args.entry.side true ≡ true
-stood c = sym c.before.stands_on.ensures ∙ c.if1.true
+stood : (c : tie.Then-stands_on) → stands c.before.before.before.args.entry.side true ≡ true
+stood c = sym c.before.stands_on.ensures ∙ c.if-stands_on.true
 
 pub is_sided_inside_spec : {M : Type 1} → statement M
 unfolding lands_from lands
@@ -24,8 +24,8 @@ is_sided_inside_spec =
     (λ c. let s = c.before.before.before.before.before in
     omega (
       arith,
-      target_below _ _ _ _ c.enum-told3.given.1 s.requires.1,
-      target_ahead _ _ _ _ c.enum-told3.given.1 s.requires.1,
+      target_below _ _ _ _ c.enum_told-in-Jump-1.given.1 s.requires.1,
+      target_ahead _ _ _ _ c.enum_told-in-Jump-1.given.1 s.requires.1,
     ))
     (λ c κs. search rules)
     (λ c. search rules)
@@ -33,14 +33,14 @@ is_sided_inside_spec =
     let p = c.before in
     let s = p.before.before.before.before.before in
     let t = c.target_of.ensures in
-    let a = target_ahead _ _ _ _ p.enum-told3.given.1 s.requires.1 in
-    let b = target_below _ _ _ _ p.enum-told3.given.1 s.requires.1 in
+    let a = target_ahead _ _ _ _ p.enum_told-in-Jump-1.given.1 s.requires.1 in
+    let b = target_below _ _ _ _ p.enum_told-in-Jump-1.given.1 s.requires.1 in
     omega arith)
     (λ c. search rules)
-    (λ c. rw (stood c.before.before, c.enum_told.given.1))
-    (λ c. rw (stood c.before.before, c.enum-told2.given.1))
+    (λ c. rw (stood c.before.before, c.enum_told-1.given.1))
+    (λ c. rw (stood c.before.before, c.enum_told-in-Below8-1.given.1))
     (λ c.
     let p = c.before.before in
-    rw (stood p.before.before, p.enum-told3.given.1, ← c.before.target_of.ensures) c.has_no_end.ensures)
-    (λ c. rw (stood c.before.before, c.enum-told4.given.1))
-    (λ c. rw (← c.before.stands_on.ensures, c.if1.false)))
+    rw (stood p.before.before, p.enum_told-in-Jump-1.given.1, ← c.before.target_of.ensures) c.has_no_end.ensures)
+    (λ c. rw (stood c.before.before, c.enum_told-in-Zero-1.given.1))
+    (λ c. rw (← c.before.stands_on.ensures, c.if-stands_on.false)))

@@ -13,53 +13,53 @@ use Rattle.code.proofs.judge_inside.Statement.{statement}
 use Rattle.code.proofs.judge_inside.Tie as tie
 
 -- where the call began, from each place on the way
-abbrev from_legal : tie.After-is-legal → tie.Start
+abbrev from_legal : tie.After-is_legal → tie.Start
 from_legal c = c.before.before.before.before.before
 
-abbrev from_entry : tie.After-entry-of → tie.Start
+abbrev from_entry : tie.After-entry_of-entry → tie.Start
 from_entry c = from_legal c.before.before
 
-abbrev from_ranged : tie.After-is-ranged → tie.Start
+abbrev from_ranged : tie.After-is_ranged → tie.Start
 from_ranged c = from_entry c.before
 
-abbrev from_sided : tie.After-is-sided-inside → tie.Start
+abbrev from_sided : tie.After-is_sided_inside → tie.Start
 from_sided c = from_ranged c.before.before
 
-abbrev from_counted : tie.After-is-counted → tie.Start
+abbrev from_counted : tie.After-is_counted → tie.Start
 from_counted c = from_sided c.before.before
 
-module _ (c : tie.After-entry-of) where
+module _ (c : tie.After-entry_of-entry) where
   -- at the table: the entry is the operation's, the word is the instruction's
-  word_known : let a = (from_entry c).args in c.before.before.before.read32.result ≡ word_at a.operands.now a.index
-  word_known = c.before.before.before.read32.ensures
+  word_known : let a = (from_entry c).args in c.before.before.before.read32-word.result ≡ word_at a.operands.now a.index
+  word_known = c.before.before.before.read32-word.ensures
 
-  entry_known : let a = (from_entry c).args in c.entry_of.result ≡ entry_of (operation_at a.ops.now a.index)
-  entry_known = c.entry_of.ensures
+  entry_known : let a = (from_entry c).args in c.entry_of-entry.result ≡ entry_of (operation_at a.ops.now a.index)
+  entry_known = c.entry_of-entry.ensures
 
-q4 : (c : tie.After-is-legal) → let a = (from_legal c).args in question4 a.ops.now a.index ≡ c.is_legal.result
+q4 : (c : tie.After-is_legal) → let a = (from_legal c).args in question4 a.ops.now a.index ≡ c.is_legal.result
 unfolding question4
 q4 c = sym c.is_legal.ensures
 
-q5 : (c : tie.After-is-ranged) → let a = (from_ranged c).args in
+q5 : (c : tie.After-is_ranged) → let a = (from_ranged c).args in
     question5 a.ops.now a.operands.now a.index ≡ c.is_ranged.result
 q5 c = asked_5 _ _ _ _ _ (word_known c.before) (entry_known c.before) _ c.is_ranged.ensures
 
-q6 : (c : tie.After-is-sided-inside) → let a = (from_sided c).args in
+q6 : (c : tie.After-is_sided_inside) → let a = (from_sided c).args in
     question6 a.ops.now a.operands.now a.index ≡ c.is_sided_inside.result
 q6 c =
     let r = c.before.before.before in
     asked_6 _ _ _ _ _ (word_known r) (entry_known r) true _ (from_sided c).requires.1.0 c.is_sided_inside.ensures
 
-yes4 : (c : tie.Else1) → let a = (from_legal c.before).args in question4 a.ops.now a.index ≡ true
-yes4 c = q4 c.before ∙ not-false _ c.if1.false
+yes4 : (c : tie.Else-not-is_legal) → let a = (from_legal c.before).args in question4 a.ops.now a.index ≡ true
+yes4 c = q4 c.before ∙ not-false _ c.if-not-is_legal.false
 
-yes5 : (c : tie.Else2) → let a = (from_ranged c.before).args in question5 a.ops.now a.operands.now a.index ≡ true
-yes5 c = q5 c.before ∙ not-false _ c.if2.false
+yes5 : (c : tie.Else-not-is_ranged) → let a = (from_ranged c.before).args in question5 a.ops.now a.operands.now a.index ≡ true
+yes5 c = q5 c.before ∙ not-false _ c.if-not-is_ranged.false
 
-yes6 : (c : tie.Else3) → let a = (from_sided c.before).args in question6 a.ops.now a.operands.now a.index ≡ true
-yes6 c = q6 c.before ∙ not-false _ c.if3.false
+yes6 : (c : tie.Else-not-is_sided_inside) → let a = (from_sided c.before).args in question6 a.ops.now a.operands.now a.index ≡ true
+yes6 c = q6 c.before ∙ not-false _ c.if-not-is_sided_inside.false
 
-q7 : (c : tie.After-is-counted) → let a = (from_counted c).args in question7 a.ops.now a.index ≡ c.is_counted.result
+q7 : (c : tie.After-is_counted) → let a = (from_counted c).args in question7 a.ops.now a.index ≡ c.is_counted.result
 q7 c = inside_7 _ _ _ _ (from_counted c).requires.1.1 c.is_counted.ensures
 
 pub judge_inside_spec : {M : Type 1} → statement M
@@ -73,38 +73,38 @@ judge_inside_spec =
     (λ c κs. search rules)
     (λ c κs. search rules)
     (λ c. c.refused.ensures
-    ∙ ap verdict_of (sym (judged _ _ _ _ false _ _ _ (q4 c.before.before ∙ not-true _ c.before.if1.true) refl refl refl)))
+    ∙ ap verdict_of (sym (judged _ _ _ _ false _ _ _ (q4 c.before.before ∙ not-true _ c.before.if-not-is_legal.true) refl refl refl)))
     (λ c κs. search rules)
     (λ c κs. search rules)
     (λ c κs. search rules)
     (λ c.
     let r = c.before.before in
-    c.refused2.ensures
-    ∙ ap verdict_of (sym (judged _ _ _ _ true false _ _ (yes4 r.before.before) (q5 r ∙ not-true _ c.before.if2.true) refl refl)))
+    c.refused-then-not-is_ranged.ensures
+    ∙ ap verdict_of (sym (judged _ _ _ _ true false _ _ (yes4 r.before.before) (q5 r ∙ not-true _ c.before.if-not-is_ranged.true) refl refl)))
     (λ c κs.
     let r = c.before in (
       (from_ranged r).requires.1.0,
-      ranged_operand _ _ _ _ _ _ _ r.is_ranged.ensures (not-false _ c.if2.false),
+      ranged_operand _ _ _ _ _ _ _ r.is_ranged.ensures (not-false _ c.if-not-is_ranged.false),
     ))
     (λ c κs. search rules)
     (λ c.
     let n = c.before.before.before in
-    c.refused3.ensures
+    c.refused-then-not-is_sided_inside.ensures
     ∙ ap verdict_of
     (sym (judged _ _ _ _ true true false _ (yes4 n.before.before.before) (yes5 n)
-    (q6 c.before.before ∙ not-true _ c.before.if3.true) refl)))
+    (q6 c.before.before ∙ not-true _ c.before.if-not-is_sided_inside.true) refl)))
     (λ c κs. search rules)
     (λ c κs. search rules)
     (λ c.
     let n = c.before.before.before in
     let m = n.before.before in
-    c.refused4.ensures
+    c.refused-then-not-is_counted.ensures
     ∙ ap verdict_of
     (sym (judged _ _ _ _ true true true false (yes4 m.before.before.before) (yes5 m) (yes6 n)
-    (q7 c.before.before ∙ not-true _ c.before.if4.true))))
+    (q7 c.before.before ∙ not-true _ c.before.if-not-is_counted.true))))
     (λ c.
     let n = c.before.before in
     let m = n.before.before in
     ap verdict_of
     (sym (judged _ _ _ _ true true true true (yes4 m.before.before.before) (yes5 m) (yes6 n)
-    (q7 c.before ∙ not-false _ c.if4.false)))))
+    (q7 c.before ∙ not-false _ c.if-not-is_counted.false)))))

@@ -6,7 +6,7 @@ use Rattle.course.proofs.next_of.Statement.{statement}
 use Rattle.course.proofs.next_of.Tie as tie
 
 -- from the register that was read back to the start
-abbrev start : tie.After-register-of → tie.Start
+abbrev start : tie.After-register_of-d → tie.Start
 start r = r.before.before.before.before.before
 
 pub next_of_spec : {M : Type 1} → statement M
@@ -22,26 +22,26 @@ next_of_spec =
     (λ c.
     let r = c.before.before in
     let s = start r in
-    replies _ _ s.args.t3 s.pre _ _ r.before.operation_of.ensures r.register_of.ensures c.before.if1.true)
+    replies _ _ s.args.t3 s.requires _ _ r.before.operation_of-op.ensures r.register_of-d.ensures c.before.if-op-eq-RETURN.true)
     (λ c κs.
     let s = start c.before in
-    omega (arith, s.pre.in_code, s.pre.right.sized))
+    omega (arith, s.requires.in_code, s.requires.right.sized))
     (λ c. search rules)
     (λ c.
     let r = c.before.before.before in
     let s = start r in
-    opens_block _ _ s.args.t3 s.pre _ _ r.before.operation_of.ensures r.register_of.ensures _
-    c.before.word_in.ensures c.if2.true)
+    opens_block _ _ s.args.t3 s.requires _ _ r.before.operation_of-op.ensures r.register_of-d.ensures _
+    c.before.word_in-word.ensures c.if-op-eq-BEGIN.true)
     (λ c κs.
     let r = c.before.before.before in
     let s = start r in
     let m =
-    may_move _ _ s.args.t3 s.pre _ _ r.before.operation_of.ensures r.register_of.ensures _ c.before.word_in.ensures
-    c.before.before.if1.false c.if2.false in
+    may_move _ _ s.args.t3 s.requires _ _ r.before.operation_of-op.ensures r.register_of-d.ensures _ c.before.word_in-word.ensures
+    c.before.before.if-op-eq-RETURN.false c.if-op-eq-BEGIN.false in
     (m.0, search rules, search rules, m.1))
     (λ c.
     let r = c.before.before.before.before in
     let s = start r in
-    moves_on _ _ s.args.t3 s.pre _ _ r.before.operation_of.ensures r.register_of.ensures _
-    c.before.before.word_in.ensures
-    c.moved.result c.moved.ensures))
+    moves_on _ _ s.args.t3 s.requires _ _ r.before.operation_of-op.ensures r.register_of-d.ensures _
+    c.before.before.word_in-word.ensures
+    c.moved-place.result c.moved-place.ensures))

@@ -6,10 +6,10 @@ use borrow.Author.Rules.{rules}
 use Rattle.edges.proofs.print_edges.Statement.{statement}
 use Rattle.edges.proofs.print_edges.Tie as tie
 
-abbrev invariant-loop : tie.invariant-loop
+abbrev invariant-loop : tie.invariant-loop-passed
 invariant-loop s buffer₀ at₀ buffer at = (at ≤ length s) × (length buffer ≡ length buffer₀)
 
-abbrev decreases-loop : tie.decreases-loop
+abbrev decreases-loop : tie.decreases-loop-passed
 decreases-loop s buffer₀ at₀ buffer at = length s - at
 
 pub print_edges_spec : {M : Type 1} → statement M

@@ -5,4 +5,4 @@ use Rattle.figures.proofs.larger.Statement.{statement}
 use Rattle.figures.proofs.larger.Tie as tie
 
 pub larger_spec : {M : Type 1} → statement M
-larger_spec = tie.close (tie.spec (λ c. rw (lt-ltb _ _ c.if1.true) refl) (λ c. rw (le-ltb _ _ c.if1.false) refl))
+larger_spec = tie.close (tie.spec (λ c. rw (lt-ltb _ _ c.if-first-second.true) refl) (λ c. rw (le-ltb _ _ c.if-first-second.false) refl))

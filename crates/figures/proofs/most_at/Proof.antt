@@ -12,39 +12,39 @@ use Rattle.figures.proofs.most_at.Statement.{statement}
 use Rattle.figures.proofs.most_at.Tie as tie
 
 -- from the operation back to the start
-abbrev start : tie.After-operation-of → tie.Start
+abbrev start : tie.After-operation_of-op → tie.Start
 start o = o.before.before.before.before.before
 
 -- ── BEGIN ──
 
-module _ (t : tie.Then3) where
-  abbrev o : tie.After-operation-of
+module _ (t : tie.Then-op-eq-BEGIN) where
+  abbrev o : tie.After-operation_of-op
   o = t.before.before.before
 
   abbrev s : tie.Start
   s = start o
 
   is_begin : operation_at s.args.ops.now s.args.index ≡ op_begin
-  is_begin = sym o.operation_of.ensures ∙ t.if3.taken
+  is_begin = sym o.operation_of-op.ensures ∙ t.if-op-eq-BEGIN.true
 
   next_there : s.args.index + 1 < length s.args.most.now
   next_there =
-      let f = s.pre.1.long in
-      omega (arith, begin_next _ _ _ _ _ s.pre.0 s.args.by _ s.pre.1 is_begin)
+      let f = s.requires.1.long in
+      omega (arith, begin_next _ _ _ _ _ s.requires.0 s.args.by _ s.requires.1 is_begin)
 
   next_few : get_or s.args.most.now (s.args.index + 1) 0 ≤ 256
-  next_few = begin_few _ _ _ _ _ s.pre.0 s.args.by _ s.pre.1 is_begin
+  next_few = begin_few _ _ _ _ _ s.requires.0 s.args.by _ s.requires.1 is_begin
 
   behind_there : s.args.behind < length s.args.most.now
   behind_there =
-      let f = s.pre.1.long in
-      omega (arith, behind_in _ _ _ _ _ s.pre.0 s.args.by _ s.pre.1 is_begin)
+      let f = s.requires.1.long in
+      omega (arith, behind_in _ _ _ _ _ s.requires.0 s.args.by _ s.requires.1 is_begin)
 
   behind_few : s.args.behind < 256
   behind_few =
-      omega (arith, behind_in _ _ _ _ _ s.pre.0 s.args.by _ s.pre.1 is_begin, s.pre.0.sized.few)
+      omega (arith, behind_in _ _ _ _ _ s.requires.0 s.args.by _ s.requires.1 is_begin, s.requires.0.sized.few)
 
-by_block : (c : tie.After-block-of) →
+by_block : (c : tie.After-block_of-block) →
     let t = c.before.before.before in
     MostAt (s t).args.by (s t).args.ops.now (s t).args.operands.now (s t).args.index
     (c.Block-of.result + get_or (s t).args.most.now (s t).args.behind 0)
@@ -65,12 +65,12 @@ most_at_spec =
     (λ c. search rules)
     (λ c κs. search rules)
     (λ c. let s = start c.before in
-    end_most _ _ _ _ _ s.pre.0 s.args.by (sym c.before.operation_of.ensures ∙ c.if1.true))
+    end_most _ _ _ _ _ s.requires.0 s.args.by (sym c.before.operation_of-op.ensures ∙ c.if-op-eq-END.true))
     (λ c κs. search rules)
     (λ c. let o = c.before.before.before in
     let s = start o in
     subst (MostAt s.args.by s.args.ops.now s.args.operands.now s.args.index) (sym c.one_of_lem.ensures)
-    (return_most _ _ _ _ _ s.pre.0 s.args.by (sym o.operation_of.ensures ∙ c.before.if2.true)))
+    (return_most _ _ _ _ _ s.requires.0 s.args.by (sym o.operation_of-op.ensures ∙ c.before.if-op-eq-RETURN.true)))
     (λ c κs. search rules)
     (λ c. search rules)
     (λ c. search rules)

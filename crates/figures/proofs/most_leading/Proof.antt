@@ -25,11 +25,11 @@ next_there s =
     omega arith
 
 -- from what the instruction counts itself back to the start
-abbrev start : tie.After-own-of → tie.Start
+abbrev start : tie.After-own_of-own → tie.Start
 start o = o.before.before.before.before.before.before
 
 -- what it counts, by its operation
-own_count : (o : tie.After-own-of) → let a = (start o).args in
+own_count : (o : tie.After-own_of-own) → let a = (start o).args in
     o.own_of_lem.result
     ≡ if◌then◌else◌ a.inside (if◌then◌else◌ (eqb (operation_at a.ops.now a.index) op_put) 1 0) (counting_of a.by).one
 own_count o =
@@ -39,31 +39,31 @@ own_count o =
 
 -- ── a jump ──
 
-abbrev own_before : tie.After-target-of → tie.After-own-of
+abbrev own_before : tie.After-target_of-target → tie.After-own_of-own
 own_before t = t.before.before.before.before.before
 
-module _ (t : tie.After-target-of) where
+module _ (t : tie.After-target_of-target) where
   abbrev s : tie.Start
   s = start (own_before t)
 
   jump : is_jump (operand_of (operation_at s.args.ops.now s.args.index)) ≡ true
-  jump = sym t.before.before.before.is_jump_lem.ensures ∙ t.before.before.if1.taken
+  jump = sym t.before.before.before.is_jump_lem.ensures ∙ t.before.before.if-is_jump.true
 
-  target : t.target_of.result ≡ target_of (word_at s.args.operands.now s.args.index)
-  target = t.target_of.ensures ∙ ap target_of t.before.word_in.ensures
+  target : t.target_of-target.result ≡ target_of (word_at s.args.operands.now s.args.index)
+  target = t.target_of-target.ensures ∙ ap target_of t.before.word_in.ensures
 
-  target_there : t.target_of.result < length s.args.most.now
+  target_there : t.target_of-target.result < length s.args.most.now
   target_there =
-      let p = s.pre in
+      let p = s.requires in
       let f = p.1.0.long in
       let n = target_in _ _ _ _ _ p.0.1 s.args.by _ p.1.0 p.1.1.0 p.1.1.1 p.1.1.2 jump in
       omega (arith, target)
 
   by_both : MostAt s.args.by s.args.ops.now s.args.operands.now s.args.index
       ((own_before t).own_of_lem.result
-      + larger (get_or s.args.most.now (s.args.index + 1) 0) (get_or s.args.most.now t.target_of.result 0))
+      + larger (get_or s.args.most.now (s.args.index + 1) 0) (get_or s.args.most.now t.target_of-target.result 0))
   by_both =
-      let p = s.pre in
+      let p = s.requires in
       subst
       (λ n. MostAt s.args.by s.args.ops.now s.args.operands.now s.args.index
       ((own_before t).own_of_lem.result + larger (get_or s.args.most.now (s.args.index + 1) 0) (get_or s.args.most.now n 0)))
@@ -83,16 +83,16 @@ by_larger c =
 
 -- ── no jump ──
 
-module _ (c : tie.Else1) where
-  abbrev o : tie.After-own-of
+module _ (c : tie.Else-is_jump) where
+  abbrev o : tie.After-own_of-own
   o = c.before.before.before
 
   by_next : MostAt (start o).args.by (start o).args.ops.now (start o).args.operands.now (start o).args.index
       (o.own_of_lem.result + get_or (start o).args.most.now ((start o).args.index + 1) 0)
   by_next =
-      let p = (start o).pre in
+      let p = (start o).requires in
       next_most _ _ _ _ _ p.0.1 (start o).args.by _ p.1.0 p.1.1.0 p.1.1.1 p.1.1.2 _ (own_count o)
-      (sym c.before.is_jump_lem.ensures ∙ c.if1.false)
+      (sym c.before.is_jump_lem.ensures ∙ c.if-is_jump.false)
 
 pub most_leading_spec : {M : Type 1} → statement M
 most_leading_spec =
@@ -113,5 +113,5 @@ most_leading_spec =
     (λ c κs. search rules)
     (λ c. let t = c.before.before in omega (arith, most_few _ _ _ _ _ (s t).requires.0.1 (s t).args.by _ (by_larger c)))
     (λ c. by_larger c)
-    (λ c. let b = start c.before.before.before in omega (arith, most_few _ _ _ _ _ b.pre.0.1 b.args.by _ (by_next c)))
+    (λ c. let b = start c.before.before.before in omega (arith, most_few _ _ _ _ _ b.requires.0.1 b.args.by _ (by_next c)))
     (λ c. by_next c))

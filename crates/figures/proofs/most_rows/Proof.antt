@@ -8,10 +8,10 @@ use Rattle.figures.proofs.Table.{RowsUpTo, one_more}
 use Rattle.figures.proofs.most_rows.Statement.{statement}
 use Rattle.figures.proofs.most_rows.Tie as tie
 
-abbrev invariant-loop : tie.invariant-loop
+abbrev invariant-loop : tie.invariant-loop-partition
 invariant-loop ops operands rows₀ partition₀ rows partition = (partition ≤ 8) × (length rows ≡ 8) × RowsUpTo ops operands partition rows
 
-abbrev decreases-loop : tie.decreases-loop
+abbrev decreases-loop : tie.decreases-loop-partition
 decreases-loop ops operands rows₀ partition₀ rows partition = 8 - partition
 
 pub most_rows_spec : {M : Type 1} → statement M
@@ -28,10 +28,10 @@ most_rows_spec =
     (λ c. search rules)
     (λ c. search rules)
     (λ c. let l = c.before.before in
-    let n = l.loop.invariant.1 in
-    let below = c.before.loop-test.true in (
+    let n = l.loop-partition.invariant.1 in
+    let below = c.before.loop-partition-test.true in (
       omega (arith, below),
       simp length-set n,
-      one_more _ _ l.loop.partition l.loop.rows _ (omega (arith, n, below)) l.loop.invariant.2 c.most_of.ensures,
+      one_more _ _ l.loop-partition.partition l.loop-partition.rows _ (omega (arith, n, below)) l.loop-partition.invariant.2 c.most_of.ensures,
     ))
-    (λ c. (c.before.loop.invariant.1, λ p l. c.before.loop.invariant.2 p (omega (arith, c.loop-test.false)))))
+    (λ c. (c.before.loop-partition.invariant.1, λ p l. c.before.loop-partition.invariant.2 p (omega (arith, c.loop-partition-test.false)))))

@@ -163,7 +163,7 @@ module _ {M : Type 1} {𝓤 : Ura M} (𝓛 : Logic 𝓤) (at_mem : Memory → SP
 
   goes : (α l : ℕ) (δ : GName) →
       ent 𝓤 (⋆ 𝓛 (‵ (flft κ₀ q₀) ∷ ‵ (flft κ₁ q₁) ∷ ‵ (flft (α ∷ []) full_share) ∷ ‵ Own₀ ∷ ‵ Own₁ ∷ ‵ (Own₂ α l δ) ∷ []))
-      ((Callee 𝓛 at_mem run).pre (to α l δ))
+      ((Callee 𝓛 at_mem run).requires (to α l δ))
   goes α l δ =
       qed 𝓛 (‵ (flft κ₀ q₀) ∷ ‵ (flft κ₁ q₁) ∷ ‵ (flft (α ∷ []) full_share) ∷ ‵ Own₀ ∷ ‵ Own₁ ∷ ‵ (Own₂ α l δ) ∷ []) ∵
       nothing ! $ move ! (3 ∷ 0 ∷ []) $ join ! $ move ! (2 ∷ 0 ∷ []) $ join ! $ move ! (1 ∷ 0 ∷ []) $ join ! $
@@ -220,7 +220,7 @@ module _ {M : Type 1} {𝓤 : Ura M} (𝓛 : Logic 𝓤) (at_mem : Memory → SP
         -- [the reference; the lender's part; token α; token 1; true; token 0; what the store owns; what pack owns; _9; …]
         -- what pack owns is had twice; `turn_lent` is called
         move ! (7 ∷ []) $ use1 𝓛 (‵ Own₀ ⊛ ‵ Own₀) ((shr_slice_copy 𝓛 (named 0) κ₀ u8).twice x₀ (v₀ ∷ [])) $ split ! $
-        move ! (7 ∷ 5 ∷ 4 ∷ 0 ∷ 8 ∷ 2 ∷ []) $ group ! 6 $ use1 𝓛 (raw ((Callee 𝓛 at_mem run).pre (to α l₄ δ))) (goes α l₄ δ) $
+        move ! (7 ∷ 5 ∷ 4 ∷ 0 ∷ 8 ∷ 2 ∷ []) $ group ! 6 $ use1 𝓛 (raw ((Callee 𝓛 at_mem run).requires (to α l₄ δ))) (goes α l₄ δ) $
         -- [what `turn_lent` asks; what pack owns; the lender's part; true; _9; …; _8; …; _7; …; _6; …; _5; …; the end of _4; _3; …; _2; …;
         -- _1; …]
         calls_at ! fm (Callee 𝓛 at_mem run) known (to α l₄ δ)

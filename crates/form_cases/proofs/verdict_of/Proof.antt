@@ -102,13 +102,13 @@ module _ {M : Type 1} {𝓤 : Ura M} (𝓛 : Logic 𝓤) (mem : Memory → SProp
   abbrev to : (Callee 𝓛 mem run).Ghost
   to = (((κ, tt), (q, tt), tt, (s, (w, tt)), (v ∷ [], (vint w32 w ∷ [], tt))), tt)
 
-  goes : ent 𝓤 (on_entry 𝓛 fn.signature (κ, tt) (q, tt) (s, (w, tt)) at) (sep 𝓤 ((Callee 𝓛 mem run).pre to) (sem 𝓛 Own))
+  goes : ent 𝓤 (on_entry 𝓛 fn.signature (κ, tt) (q, tt) (s, (w, tt)) at) (sep 𝓤 ((Callee 𝓛 mem run).requires to) (sem 𝓛 Own))
   goes =
       qed 𝓛 ((‵ (flft κ q) ⊛ ‵ ftrue) ∷ ‵ (owns (ShrSlice (named 0) κ u8 ∷ u32 ∷ []) (s, (w, tt)) at) ∷ []) ∵
       move ! (1 ∷ []) $ fsplit ! $ move ! (1 ∷ []) $ drop ! $ use1 𝓛 (‵ Own ⊛ ‵ Own)
       ((shr_slice_copy 𝓛 (named 0) κ u8).twice s (v ∷ [])) $ split ! $
       nothing ! $ owned ! u32 (Is u32) (uint_Makes 𝓛 w32) w _ (refl, fw) $ fjoin ! $ move ! (1 ∷ 0 ∷ []) $ fjoin ! $ move !
-      (2 ∷ 0 ∷ []) $ use2 𝓛 (raw ((Callee 𝓛 mem run).pre to))
+      (2 ∷ 0 ∷ []) $ use2 𝓛 (raw ((Callee 𝓛 mem run).requires to))
       (qed 𝓛 ((‵ (flft κ q) ⊛ ‵ ftrue) ∷ ‵
       (owns (ShrSlice (named 0) κ u8 ∷ u32 ∷ []) (s, (w, tt)) (v ∷ [], (vint w32 w ∷ [], tt))) ∷ []) ∵ join ! $ frame ! $ done !) $
       frame ! $ done !
@@ -135,7 +135,7 @@ module _ {M : Type 1} {𝓤 : Ura M} (𝓛 : Logic 𝓤) (mem : Memory → SProp
         (λ l₁. alloc1 ! (λ l₂. alloc1 !
         (λ l₃. alloc0 ! $ params1 ! $ pass1 ! (init ! 4 refl ((shr_slice_Lawful 𝓛 (named 0) κ u8).typed s (v ∷ []) p).0) $
         pass1 ! (init ! 2 refl (tt, record { fits = fw })) $ pass0 ! $
-        move ! (8 ∷ []) $ use1 𝓛 (raw ((Callee 𝓛 mem run).pre to) ⊛ ‵ Own) goes $ split ! $
+        move ! (8 ∷ []) $ use1 𝓛 (raw ((Callee 𝓛 mem run).requires to) ⊛ ‵ Own) goes $ split ! $
         calls_at ! fm (Callee 𝓛 mem run) known to
         (and_then ! (load ! (from ! (stop !)) (look ! 6 refl)) (and_then ! (load ! (from ! (stop !)) (look ! 4 refl)) (no_more !)))
         (λ u.

@@ -5,10 +5,10 @@ use lib.ListN.{length}
 use Rattle.form_cases.proofs.write_bytes.Statement.{statement}
 use Rattle.form_cases.proofs.write_bytes.Tie as tie
 
-abbrev invariant-loop : tie.invariant-loop
+abbrev invariant-loop : tie.invariant-loop-i
 invariant-loop title s i₀ t4 i = i ≤ length s
 
-abbrev decreases-loop : tie.decreases-loop
+abbrev decreases-loop : tie.decreases-loop-i
 decreases-loop title s i₀ t4 i = length s - i
 
 pub write_bytes_spec : {M : Type 1} → statement M

@@ -4,10 +4,10 @@ use Prim.Native.Nat.{◌≤◌, ◌-◌}
 use Rattle.form_cases.proofs.write_instructions.Statement.{statement}
 use Rattle.form_cases.proofs.write_instructions.Tie as tie
 
-abbrev invariant-loop : tie.invariant-loop
+abbrev invariant-loop : tie.invariant-loop-i
 invariant-loop pack workflow size i₀ i = i ≤ size
 
-abbrev decreases-loop : tie.decreases-loop
+abbrev decreases-loop : tie.decreases-loop-i
 decreases-loop pack workflow size i₀ i = size - i
 
 pub write_instructions_spec : {M : Type 1} → statement M

@@ -4,10 +4,10 @@ use Prim.Native.Nat.{◌≤◌, ◌-◌}
 use Rattle.form_cases.proofs.write_registers.Statement.{statement}
 use Rattle.form_cases.proofs.write_registers.Tie as tie
 
-abbrev invariant-loop : tie.invariant-loop
+abbrev invariant-loop : tie.invariant-loop-i
 invariant-loop registers i₀ i = i ≤ 8
 
-abbrev decreases-loop : tie.decreases-loop
+abbrev decreases-loop : tie.decreases-loop-i
 decreases-loop registers i₀ i = 8 - i
 
 pub write_registers_spec : {M : Type 1} → statement M

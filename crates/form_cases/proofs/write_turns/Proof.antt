@@ -6,17 +6,17 @@ use lib.ListN.{length}
 use Rattle.form_cases.proofs.write_turns.Statement.{statement}
 use Rattle.form_cases.proofs.write_turns.Tie as tie
 
-abbrev invariant-loop : tie.invariant-loop
+abbrev invariant-loop : tie.invariant-loop-i
 invariant-loop pack store₀ n a₀ i₀ store a i = (i ≤ n) × (length store ≡ length store₀)
 
-abbrev decreases-loop : tie.decreases-loop
+abbrev decreases-loop : tie.decreases-loop-i
 decreases-loop pack store₀ n a₀ i₀ store a i = n - i
 
 -- the turn that was made, and the loop that it was made in
-abbrev turn_made : tie.After-is-moved invariant-loop decreases-loop → tie.After-turned invariant-loop decreases-loop
+abbrev turn_made : tie.After-is_moved invariant-loop decreases-loop → tie.After-turned-t invariant-loop decreases-loop
 turn_made c = c.before.before.before.before.before
 
-abbrev its_loop : tie.After-turned invariant-loop decreases-loop → tie.At-loop invariant-loop decreases-loop
+abbrev its_loop : tie.After-turned-t invariant-loop decreases-loop → tie.At-loop-i invariant-loop decreases-loop
 its_loop c = c.before.before.before
 
 pub write_turns_spec : {M : Type 1} → statement M
@@ -31,8 +31,8 @@ write_turns_spec =
     (λ c κs. search rules)
     (λ c. search rules)
     (λ c. search rules)
-    (λ c. let t = turn_made c.before in (search rules, t.turned.kept.1.0 ∙ (its_loop t).loop.inv.1))
-    (λ c. let t = turn_made c.before in t.turned.kept.1.0 ∙ (its_loop t).loop.inv.1)
+    (λ c. let t = turn_made c.before in (search rules, t.turned-t.kept.1.0 ∙ (its_loop t).loop-i.invariant.1))
+    (λ c. let t = turn_made c.before in t.turned-t.kept.1.0 ∙ (its_loop t).loop-i.invariant.1)
     (λ c. search rules)
-    (λ c. c.before.loop.invariant.1)
+    (λ c. c.before.loop-i.invariant.1)
     (λ c. search rules))

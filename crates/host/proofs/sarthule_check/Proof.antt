@@ -10,7 +10,7 @@ pub sarthule_check_spec : {M : Type 1} → statement M
 sarthule_check_spec =
     tie.close
     (tie.spec
-    (λ c. told_short 12 _ _ _ c.if1.true)
+    (λ c. told_short 12 _ _ _ c.if-answer-lt12.true)
     (λ c κs. search rules)
     (λ c κs. search rules)
     (λ c κs. search rules)
@@ -18,5 +18,5 @@ sarthule_check_spec =
     (λ c.
     let w = c.before.before in
     let k = w.before.before in
-    told_judged _ (pack_refusal _) _ _ _ k.before.before.if1.false (pack_placed _) (w.before.judge.ensures _ k.check.ensures)
+    told_judged _ (pack_refusal _) _ _ _ k.before.before.if-answer-lt12.false (pack_placed _) (w.before.judge.ensures _ k.check.ensures)
     w.write_answer.ensures.0))

@@ -8,7 +8,7 @@ pub sarthule_create_spec : {M : Type 1} → statement M
 sarthule_create_spec =
     tie.close
     (tie.spec
-    (λ c. made_short _ _ _ _ c.if1.true)
+    (λ c. made_short _ _ _ _ c.if-answer-lt12.true)
     (λ c κs. search rules)
     (λ c κs. search rules)
     (λ c κs. search rules)
@@ -17,5 +17,5 @@ sarthule_create_spec =
     (λ c.
     let w = c.before.before in
     let m = w.before.before.before.before.before in
-    made _ _ _ _ _ _ _ _ _ m.before.before.if1.false m.create.ensures (w.before.judge.ensures _ m.create.ensures.answer)
+    made _ _ _ _ _ _ _ _ _ m.before.before.if-answer-lt12.false m.create-v.ensures (w.before.judge.ensures _ m.create-v.ensures.answer)
     w.write_answer.ensures.0))

@@ -8,7 +8,7 @@ pub sarthule_figures_spec : {M : Type 1} → statement M
 sarthule_figures_spec =
     tie.close
     (tie.spec
-    (λ c. figures_short _ _ _ c.if1.true)
+    (λ c. figures_short _ _ _ c.if-answer-lt48.true)
     (λ c κs. search rules)
     (λ c κs. search rules)
     (λ c κs. search rules)
@@ -18,5 +18,5 @@ sarthule_figures_spec =
     let o = c.before.before in
     let w = o.before.before.before.before in
     let v = w.before.before.before.before in
-    told_figures _ _ _ v.figures.result _ _ _ _ v.before.if1.false v.figures.ensures
-    (w.before.judge.ensures _ v.figures.ensures.verdict) w.write_answer.ensures.0 o.write_figures.ensures))
+    told_figures _ _ _ v.figures-f.result _ _ _ _ v.before.if-answer-lt48.false v.figures-f.ensures
+    (w.before.judge.ensures _ v.figures-f.ensures.verdict) w.write_answer-number.ensures.0 o.write_figures.ensures))

@@ -12,17 +12,17 @@ use Rattle.host.proofs.sarthule_open.Statement.{statement}
 use Rattle.host.proofs.sarthule_open.Tie as tie
 
 -- the questions said yes
-opens : (c : tie.After-enum-told) → let a =
+opens : (c : tie.In-Accepted) → let a =
     c.before.before.before.before.before.before.before.before.before.before.before.args in
     open_refusal a.pack.now a.workflow ≡ none
-opens c = accepted_none _ _ c.before.before.before.before.before.before.before.open.ensures c.enum_told.given.1
+opens c = accepted_none _ _ c.before.before.before.before.before.before.before.open-v.ensures c.enum_told-1.given.1
 
 pub sarthule_open_spec : {M : Type 1} → statement M
 unfolding opened_parts
 sarthule_open_spec =
     tie.close
     (tie.spec
-    (λ c. told_short 28 _ _ _ c.if1.true)
+    (λ c. told_short 28 _ _ _ c.if-answer-lt28.true)
     (λ c κs. search rules)
     (λ c κs. search rules)
     (λ c κs. search rules)
@@ -34,7 +34,7 @@ sarthule_open_spec =
     let o = c.before.before.before.before in
     record {
       fits = omega
-          (arith, c.before.before.before.size_at.ensures, ((open_laid _ _ (opens o)).sizes _ (open_below _ _ (opens o))).1);
+          (arith, c.before.before.before.size_at-size.ensures, ((open_laid _ _ (opens o)).sizes _ (open_below _ _ (opens o))).1);
     })
     (λ c κs. search rules)
     (λ c. search rules)
@@ -45,10 +45,10 @@ sarthule_open_spec =
     let k = o.before.before.before.before.before in
     let w = k.before.before.before.before in
     let v = w.before.before.before in
-    told_open _ _ _ none _ _ _ _ _ v.before.if1.false (opens k) (w.before.judge.ensures _ v.open.ensures)
-    w.write_answer.ensures.0
+    told_open _ _ _ none _ _ _ _ _ v.before.if-answer-lt28.false (opens k) (w.before.judge.ensures _ v.open-v.ensures)
+    w.write_answer-number.ensures.0
     (rw (
-      o.before.before.before.before.size_at.ensures,
+      o.before.before.before.before.size_at-size.ensures,
       o.before.before.operations_at.ensures,
       o.before.operands_at.ensures,
     ) refl)
@@ -58,5 +58,5 @@ sarthule_open_spec =
     let o = c.before.before in
     let w = o.before.before.before.before.before.before in
     let v = w.before.before.before in
-    told_open _ _ _ _ _ _ _ _ _ v.before.if1.false (refused_some _ _ _ _ _ v.open.ensures o.before.before.enum-told2.given.1)
-    (w.before.judge.ensures _ v.open.ensures) w.write_answer.ensures.0 refl o.write_parts2.ensures))
+    told_open _ _ _ _ _ _ _ _ _ v.before.if-answer-lt28.false (refused_some _ _ _ _ _ v.open-v.ensures o.before.before.enum_told-in-Refused-1.given.1)
+    (w.before.judge.ensures _ v.open-v.ensures) w.write_answer-number.ensures.0 refl o.write_parts-in-Refused.ensures))

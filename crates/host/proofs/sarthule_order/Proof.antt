@@ -8,7 +8,7 @@ pub sarthule_order_spec : {M : Type 1} → statement M
 sarthule_order_spec =
     tie.close
     (tie.spec
-    (λ c. in_order_short _ _ c.if1.true)
+    (λ c. in_order_short _ _ c.if-answer-lt12.true)
     (λ c κs. search rules)
     (λ c κs. search rules)
     (λ c. search rules)
@@ -16,4 +16,4 @@ sarthule_order_spec =
     (λ c.
     let w = c.before.before in
     let o = w.before.before.before.before in
-    in_order _ _ _ _ _ o.order.result o.before.before.if1.false o.order.ensures w.write_answer.ensures))
+    in_order _ _ _ _ _ o.order-a.result o.before.before.if-answer-lt12.false o.order-a.ensures w.write_answer.ensures))

@@ -15,7 +15,7 @@ unfolding AgentAnswers.answer_of Answers.number_of Answers.values_of
 sarthule_reply_spec =
     tie.close
     (tie.spec
-    (λ c. reply_short _ _ _ _ c.if1.true)
+    (λ c. reply_short _ _ _ _ c.if-answer-lt12.true)
     (λ c κs. search rules)
     (λ c. search rules)
     (λ c κs. search rules)
@@ -28,19 +28,19 @@ sarthule_reply_spec =
     let w = c.before.before in
     let y = w.before.before in
     let k = y.before.before in
-    reply_told _ _ _ _ NotYet _ _ k.before.if1.false (sym y.enum_told.given.1 ∙ k.reply.ensures) (omega arith)
+    reply_told _ _ _ _ NotYet _ _ k.before.if-answer-lt12.false (sym y.enum_told-1.given.1 ∙ k.reply-k.ensures) (omega arith)
     (λ v e. absurd (let z : ◌≡◌ {A = ℕ} 0 1 = cc in omega arith)) refl w.write_answer.ensures.0.1)
     (λ c. search rules)
     (λ c.
     let w = c.before.before in
     let y = w.before.before.before in
     let k = y.before.before in
-    reply_told _ _ _ _ (Reply y.k.given.0.0) _ _ k.before.if1.false (sym y.k.given.1 ∙ k.reply.ensures) (omega arith)
-    (λ v e. let f : y.k.given.0.0 ≡ v = cc in omega (arith, f)) w.write_answer2.ensures.0.0 w.write_answer2.ensures.0.1)
+    reply_told _ _ _ _ (Reply y.k-1.given.0.0) _ _ k.before.if-answer-lt12.false (sym y.k-1.given.1 ∙ k.reply-k.ensures) (omega arith)
+    (λ v e. let f : y.k-1.given.0.0 ≡ v = cc in omega (arith, f)) w.write_answer-in-Reply.ensures.0.0 w.write_answer-in-Reply.ensures.0.1)
     (λ c. search rules)
     (λ c.
     let w = c.before.before in
     let y = w.before.before.before in
     let k = y.before.before in
-    reply_told _ _ _ _ _ _ _ k.before.if1.false (sym y.k2.given.1 ∙ k.reply.ensures) (omega arith)
-    (λ v e. absurd (let z : ◌≡◌ {A = ℕ} 0 1 = cc in omega arith)) w.write_answer3.ensures.0.0 w.write_answer3.ensures.0.1))
+    reply_told _ _ _ _ _ _ _ k.before.if-answer-lt12.false (sym y.k-in-Refused-1.given.1 ∙ k.reply-k.ensures) (omega arith)
+    (λ v e. absurd (let z : ◌≡◌ {A = ℕ} 0 1 = cc in omega arith)) w.write_answer-in-Refused.ensures.0.0 w.write_answer-in-Refused.ensures.0.1))

@@ -11,9 +11,9 @@ unfolding AgentAnswers.answer_of Answers.number_of Answers.values_of
 sarthule_restart_spec =
     tie.close
     (tie.spec
-    (λ c. restart_wrong _ _ _ 100 (short_answer _ _ _ c.if1.true))
-    (λ c. restart_wrong _ _ _ 101 (wrong_slots _ _ _ c.before.if1.false c.if2.true))
-    (λ c. restart_wrong _ _ _ 102 (short_list _ _ _ c.before.before.if1.false c.before.if2.false c.if3.true))
+    (λ c. restart_wrong _ _ _ 100 (short_answer _ _ _ c.if-answer-lt12.true))
+    (λ c. restart_wrong _ _ _ 101 (wrong_slots _ _ _ c.before.if-answer-lt12.false c.if-slots-ne384.true))
+    (λ c. restart_wrong _ _ _ 102 (short_list _ _ _ c.before.before.if-answer-lt12.false c.before.if-slots-ne384.false c.if-list-lt132.true))
     (λ c κs. search rules)
     (λ c κs. search rules)
     (λ c κs. search rules)
@@ -30,5 +30,5 @@ sarthule_restart_spec =
     let l = r.before in
     let e = l.before.before in
     restarted_all _ _ _ _ _ _ _ _ _ _
-    (right_buffers _ _ _ e.before.before.if1.false e.before.if2.false e.if3.false) l.read_list.ensures
-    r.restart.ensures s.write_slots.ensures w.write_list.ensures a.write_answer.ensures.0))
+    (right_buffers _ _ _ e.before.before.if-answer-lt12.false e.before.if-slots-ne384.false e.if-list-lt132.false) l.read_list.ensures
+    r.restart-r.ensures s.write_slots.ensures w.write_list.ensures a.write_answer.ensures.0))

@@ -8,9 +8,9 @@ pub sarthule_retire_spec : {M : Type 1} → statement M
 sarthule_retire_spec =
     tie.close
     (tie.spec
-    (λ c. store_wrong _ _ _ _ _ _ 100 (short_answer _ _ _ c.if1.true))
-    (λ c. store_wrong _ _ _ _ _ _ 101 (wrong_slots _ _ _ c.before.if1.false c.if2.true))
-    (λ c. store_wrong _ _ _ _ _ _ 102 (short_list _ _ _ c.before.before.if1.false c.before.if2.false c.if3.true))
+    (λ c. store_wrong _ _ _ _ _ _ 100 (short_answer _ _ _ c.if-answer-lt12.true))
+    (λ c. store_wrong _ _ _ _ _ _ 101 (wrong_slots _ _ _ c.before.if-answer-lt12.false c.if-slots-ne384.true))
+    (λ c. store_wrong _ _ _ _ _ _ 102 (short_list _ _ _ c.before.before.if-answer-lt12.false c.before.if-slots-ne384.false c.if-list-lt132.true))
     (λ c κs. search rules)
     (λ c κs. search rules)
     (λ c κs. search rules)
@@ -24,5 +24,5 @@ sarthule_retire_spec =
     let s = l.before.before in
     let e = s.before in
     store_exported _ _ _ _ _ _ _ _ _ _ _ _
-    (right_buffers _ _ _ e.before.before.if1.false e.before.if2.false e.if3.false)
-    s.read_slots.ensures l.read_list.ensures o.retire.ensures tt w.write_answer.ensures))
+    (right_buffers _ _ _ e.before.before.if-answer-lt12.false e.before.if-slots-ne384.false e.if-list-lt132.false)
+    s.read_slots-agents.ensures l.read_list.ensures o.retire-a.ensures tt w.write_answer.ensures))

@@ -8,9 +8,9 @@ pub sarthule_take_spec : {M : Type 1} → statement M
 sarthule_take_spec =
     tie.close
     (tie.spec
-    (λ c. list_wrong_lem _ _ _ _ _ _ 100 (short_answer _ _ _ c.if1.true))
-    (λ c. list_wrong_lem _ _ _ _ _ _ 101 (wrong_slots _ _ _ c.before.if1.false c.if2.true))
-    (λ c. list_wrong_lem _ _ _ _ _ _ 102 (short_list _ _ _ c.before.before.if1.false c.before.if2.false c.if3.true))
+    (λ c. list_wrong_lem _ _ _ _ _ _ 100 (short_answer _ _ _ c.if-answer-lt12.true))
+    (λ c. list_wrong_lem _ _ _ _ _ _ 101 (wrong_slots _ _ _ c.before.if-answer-lt12.false c.if-slots-ne384.true))
+    (λ c. list_wrong_lem _ _ _ _ _ _ 102 (short_list _ _ _ c.before.before.if-answer-lt12.false c.before.if-slots-ne384.false c.if-list-lt132.true))
     (λ c κs. search rules)
     (λ c κs. search rules)
     (λ c κs. search rules)
@@ -24,6 +24,6 @@ sarthule_take_spec =
     let s = l.before.before in
     let e = s.before in
     list_exported _ _ _ _ _ _ _ _ _ _ _ _ _
-    (right_buffers _ _ _ e.before.before.if1.false e.before.if2.false e.if3.false)
-    s.read_slots.ensures l.read_list.ensures o.take.ensures tt
+    (right_buffers _ _ _ e.before.before.if-answer-lt12.false e.before.if-slots-ne384.false e.if-list-lt132.false)
+    s.read_slots-agents.ensures l.read_list.ensures o.take-o.ensures tt
     f.finish_list.ensures.0 f.finish_list.ensures.1.0 f.finish_list.ensures.1.1.0 f.finish_list.ensures.1.1.1))

@@ -8,8 +8,8 @@ pub sarthule_turn_spec : {M : Type 1} → statement M
 sarthule_turn_spec =
     tie.close
     (tie.spec
-    (λ c. exported_short _ _ _ _ _ c.if1.true)
-    (λ c. exported_slots _ _ _ _ _ c.before.if1.false c.if2.true)
+    (λ c. exported_short _ _ _ _ _ c.if-answer-lt12.true)
+    (λ c. exported_slots _ _ _ _ _ c.before.if-answer-lt12.false c.if-slots-ne384.true)
     (λ c κs. search rules)
     (λ c κs. search rules)
     (λ c κs. search rules)
@@ -20,5 +20,5 @@ sarthule_turn_spec =
     let f = c.before.before.before.before in
     let t = f.before.before.before.before.before in
     let s = t.before.before in
-    exported _ _ _ _ _ _ _ _ _ _ _ s.before.before.before.if1.false s.before.before.if2.false s.read_slots.ensures
-    t.turn.ensures tt f.finish.ensures.0 f.finish.ensures.1.0 f.finish.ensures.1.1.0 f.finish.ensures.1.1.1))
+    exported _ _ _ _ _ _ _ _ _ _ _ s.before.before.before.if-answer-lt12.false s.before.before.if-slots-ne384.false s.read_slots-agents.ensures
+    t.turn-o.ensures tt f.finish.ensures.0 f.finish.ensures.1.0 f.finish.ensures.1.1.0 f.finish.ensures.1.1.1))

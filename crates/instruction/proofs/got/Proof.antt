@@ -31,10 +31,10 @@ got_spec =
     let s = dk.before.before.before.before.before in
     let a = s.args in
     let k = dk.data_key_lem.ensures in
-    let v = m.found.given.0.0 in
+    let v = m.found-1.given.0.0 in
     rw c.at_place.ensures
     (step_get (rows_of a.store.now a.partition) a.x st.with_register.result s.requires.2 a.d a.s k.1 (some v)
-    (got_some _ _ (rw k.0 at sv.seen_value.ensures) v m.found.given.1) st.with_register.ensures))
+    (got_some _ _ (rw k.0 at sv.seen_value-found.ensures) v m.found-1.given.1) st.with_register.ensures))
     (λ c.
     let st = c.before in
     let m = st.before in
@@ -43,6 +43,6 @@ got_spec =
     let s = dk.before.before.before.before.before in
     let a = s.args in
     let k = dk.data_key_lem.ensures in
-    rw c.at_place2.ensures
-    (step_get (rows_of a.store.now a.partition) a.x st.with_register2.result s.requires.2 a.d a.s k.1 none
-    (got_none _ _ (rw k.0 at sv.seen_value.ensures) m.enum_told.given.1) st.with_register2.ensures)))
+    rw c.at_place-in-Absent.ensures
+    (step_get (rows_of a.store.now a.partition) a.x st.with_register-in-Absent.result s.requires.2 a.d a.s k.1 none
+    (got_none _ _ (rw k.0 at sv.seen_value-found.ensures) m.enum_told-1.given.1) st.with_register-in-Absent.ensures)))

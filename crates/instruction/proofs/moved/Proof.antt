@@ -23,28 +23,28 @@ moved_spec =
     (λ c κs. search rules)
     (λ c κs. search rules)
     (λ c κs. search rules)
-    (λ c. moved_set _ _ _ _ _ c.before.match.keys1 c.with_register.ensures)
+    (λ c. moved_set _ _ _ _ _ c.before.in_default.keys1 c.with_register.ensures)
     (λ c.
     let so = c.before.before.before.before.before in
-    moved_copy _ _ _ _ _ _ so.register_named.ensures.0 so.before.requires.3 c.before.match.keys2 c.with_register2.ensures)
+    moved_copy _ _ _ _ _ _ so.register_named-s.ensures.0 so.before.requires.3 c.before.in_default.keys2 c.with_register-in-1.ensures)
     (λ c.
     let m = c.before.before in
     let so = m.before.before.before.before in
-    moved_add _ _ _ _ _ _ so.register_named.ensures.0 so.before.requires.3 m.match.keys3 _ c.before.add32.ensures
-    c.with_register3.ensures)
+    moved_add _ _ _ _ _ _ so.register_named-s.ensures.0 so.before.requires.3 m.in_default.keys3 _ c.before.add32.ensures
+    c.with_register-in-2.ensures)
     (λ c.
     let m = c.before.before in
     let so = m.before.before.before.before in
-    moved_sub _ _ _ _ _ _ so.register_named.ensures.0 so.before.requires.3 m.match.keys4 _ c.before.sub32.ensures
-    c.with_register4.ensures)
+    moved_sub _ _ _ _ _ _ so.register_named-s.ensures.0 so.before.requires.3 m.in_default.keys4 _ c.before.sub32.ensures
+    c.with_register-in-3.ensures)
     (λ c.
     let m = c.before in
     let so = m.before.before.before.before in
-    moved_less _ _ _ _ _ _ so.register_named.ensures.0 so.before.requires.3 _ m.before.target_of.ensures m.match.keys5
+    moved_less _ _ _ _ _ _ so.register_named-s.ensures.0 so.before.requires.3 _ m.before.target_of-target.ensures m.in_default.keys5
     c.jumped.ensures)
     (λ c.
     let m = c.before in
     let so = m.before.before.before.before in
-    let r = m.match.rest in
-    moved_same _ _ _ _ _ _ so.register_named.ensures.0 so.before.requires.3 _ m.before.target_of.ensures
-    (omega (arith, so.before.requires.0, r.1, r.0.1, r.0.0.1, r.0.0.0.1, r.0.0.0.0.1)) c.jumped2.ensures))
+    let r = m.in_default.rest in
+    moved_same _ _ _ _ _ _ so.register_named-s.ensures.0 so.before.requires.3 _ m.before.target_of-target.ensures
+    (omega (arith, so.before.requires.0, r.1, r.0.1, r.0.0.1, r.0.0.0.1, r.0.0.0.0.1)) c.jumped-in_default.ensures))

@@ -26,6 +26,6 @@ put_value_spec =
     let st = dk.before.before.before.before in
     let a = st.args in
     let k = dk.data_key_lem.ensures in
-    let q = pp.pending_put.ensures in
-    step_put rs a.x st.requires.0 a.d a.s k.1 pp.pending_put.result (rw k.0 at q.1)
-    c.advanced.result c.advanced.ensures q.0 q.2 q.3))
+    let q = pp.pending_put-pending.ensures in
+    step_put rs a.x st.requires.0 a.d a.s k.1 pp.pending_put-pending.result (rw k.0 at q.1)
+    c.advanced-place.result c.advanced-place.ensures q.0 q.2 q.3))

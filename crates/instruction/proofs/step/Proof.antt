@@ -21,42 +21,42 @@ step_spec =
     let ro = so.before in
     let oo = ro.before in
     let st = oo.before.before in
-    get_step _ _ _ _ ro.register_of.ensures so.register_named.ensures.0 st.requires.1.sourced _ _ _
-    (sym oo.operation_of.ensures ∙ c.before.if1.true) c.got.ensures)
+    get_step _ _ _ _ ro.register_of-d.ensures so.register_named-s.ensures.0 st.requires.1.sourced _ _ _
+    (sym oo.operation_of-op.ensures ∙ c.before.if-op-eq-GET.true) c.got.ensures)
     (λ c κs.
     let so = c.before.before in
     let oo = so.before.before in
     let st = oo.before.before in
-    (st.requires.0.2, st.requires.1.room (sym oo.operation_of.ensures ∙ c.if2.true), search rules, search rules, search rules))
+    (st.requires.0.2, st.requires.1.room (sym oo.operation_of-op.ensures ∙ c.if-op-eq-PUT.true), search rules, search rules, search rules))
     (λ c.
     let so = c.before.before.before in
     let ro = so.before in
     let oo = ro.before in
     let st = oo.before.before in
-    put_step _ _ _ _ ro.register_of.ensures so.register_named.ensures.0 st.requires.1.sourced _ _ _
-    (sym oo.operation_of.ensures ∙ c.before.if2.true) (c.put_value.ensures (rows_of st.args.store.now st.args.partition)))
+    put_step _ _ _ _ ro.register_of-d.ensures so.register_named-s.ensures.0 st.requires.1.sourced _ _ _
+    (sym oo.operation_of-op.ensures ∙ c.before.if-op-eq-PUT.true) (c.put_value.ensures (rows_of st.args.store.now st.args.partition)))
     (λ c κs. search rules)
     (λ c.
     let so = c.before.before.before.before in
     let ro = so.before in
     let oo = ro.before in
     let st = oo.before.before in
-    has_step _ _ _ _ ro.register_of.ensures so.register_named.ensures.0 st.requires.1.sourced _ _ _
-    (sym oo.operation_of.ensures ∙ c.before.if3.true) c.tested.ensures)
+    has_step _ _ _ _ ro.register_of-d.ensures so.register_named-s.ensures.0 st.requires.1.sourced _ _ _
+    (sym oo.operation_of-op.ensures ∙ c.before.if-op-eq-HAS.true) c.tested.ensures)
     (λ c κs.
     let e3 = c.before in
     let oo = e3.before.before.before.before.before in
     let st = oo.before.before in
-    let e = oo.operation_of.ensures in (
+    let e = oo.operation_of-op.ensures in (
       omega (
         arith,
         e,
         st.requires.1.known,
         st.requires.1.no_begin,
         st.requires.1.no_end,
-        e3.if3.false,
-        e3.before.if2.false,
-        e3.before.before.if1.false,
+        e3.if-op-eq-HAS.false,
+        e3.before.if-op-eq-PUT.false,
+        e3.before.before.if-op-eq-GET.false,
       ),
       search rules,
       search rules,
@@ -69,7 +69,7 @@ step_spec =
     let ro = e2.before.before.before in
     let oo = ro.before in
     let st = oo.before.before in
-    let e = oo.operation_of.ensures in
+    let e = oo.operation_of-op.ensures in
     rw c.at_place.ensures
-    (move_step _ _ _ ro.register_of.ensures _ _ mv.moved.result (λ q. e2.if2.false (e ∙ q)) st.requires.0.2
+    (move_step _ _ _ ro.register_of-d.ensures _ _ mv.moved.result (λ q. e2.if-op-eq-PUT.false (e ∙ q)) st.requires.0.2
     (rw e at mv.moved.ensures))))

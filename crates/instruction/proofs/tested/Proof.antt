@@ -29,10 +29,10 @@ tested_spec =
     let s = dk.before.before.before.before.before in
     let a = s.args in
     let k = dk.data_key_lem.ensures in
-    let v = m.enum_told.given.0.0 in
+    let v = m.enum_told-1.given.0.0 in
     rw c.at_place.ensures
     (step_has (rows_of a.store.now a.partition) a.x st.with_register.result s.requires.2 a.d a.s k.1 (some v)
-    (got_some _ _ (rw k.0 at sv.seen_value.ensures) v m.enum_told.given.1) st.with_register.ensures))
+    (got_some _ _ (rw k.0 at sv.seen_value-found.ensures) v m.enum_told-1.given.1) st.with_register.ensures))
     (λ c.
     let st = c.before in
     let m = st.before in
@@ -41,6 +41,6 @@ tested_spec =
     let s = dk.before.before.before.before.before in
     let a = s.args in
     let k = dk.data_key_lem.ensures in
-    rw c.at_place2.ensures
-    (step_has (rows_of a.store.now a.partition) a.x st.with_register2.result s.requires.2 a.d a.s k.1 none
-    (got_none _ _ (rw k.0 at sv.seen_value.ensures) m.enum-told2.given.1) st.with_register2.ensures)))
+    rw c.at_place-in-Absent.ensures
+    (step_has (rows_of a.store.now a.partition) a.x st.with_register-in-Absent.result s.requires.2 a.d a.s k.1 none
+    (got_none _ _ (rw k.0 at sv.seen_value-found.ensures) m.enum_told-in-Absent-1.given.1) st.with_register-in-Absent.ensures)))

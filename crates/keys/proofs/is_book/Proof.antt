@@ -7,4 +7,4 @@ use Rattle.keys.proofs.is_book.Tie as tie
 
 pub is_book_spec : {M : Type 1} → statement M
 unfolding is_book_key
-is_book_spec = tie.close (tie.spec (λ c. rw (lt-ltb _ _ c.if1.true) refl) (λ c. rw (le-ltb _ _ c.if1.false) refl))
+is_book_spec = tie.close (tie.spec (λ c. rw (lt-ltb _ _ c.if-stored-lt34359738368.true) refl) (λ c. rw (le-ltb _ _ c.if-stored-lt34359738368.false) refl))

@@ -127,7 +127,7 @@ module _ {M : Type 1} {𝓤 : Ura M} (𝓛 : Logic 𝓤) (at_mem : Memory → SP
   Found r zs = TurnedAlone x₀.now ys h r.answer r.agent zs
 
   goes : Is R h (T'.lowered h ∷ []) →
-      ent 𝓤 (⋆ 𝓛 (‵ (flft κ₀ q₀) ∷ ‵ (flft κ₁ q₁) ∷ (‵ Own₀ ⊛ ‵ Own₁) ∷ [])) ((Callee 𝓛 at_mem run).pre to)
+      ent 𝓤 (⋆ 𝓛 (‵ (flft κ₀ q₀) ∷ ‵ (flft κ₁ q₁) ∷ (‵ Own₀ ⊛ ‵ Own₁) ∷ [])) ((Callee 𝓛 at_mem run).requires to)
   goes g =
       qed 𝓛 (‵ (flft κ₀ q₀) ∷ ‵ (flft κ₁ q₁) ∷ (‵ Own₀ ⊛ ‵ Own₁) ∷ []) ∵
       nothing ! $ move ! (2 ∷ 0 ∷ []) $ join ! $ move ! (1 ∷ 0 ∷ []) $ join ! $ move ! (1 ∷ []) $ split ! $
@@ -185,7 +185,7 @@ module _ {M : Type 1} {𝓤 : Ura M} (𝓛 : Logic 𝓤) (at_mem : Memory → SP
         -- what pack owns is had twice; `turn_one` is called
         move ! (10 ∷ []) $ use1 𝓛 (‵ Own₀ ⊛ ‵ Own₀) ((shr_slice_copy 𝓛 (named 0) κ₀ u8).twice x₀ (v₀ ∷ [])) $ split ! $ move !
         (0 ∷ 11 ∷ []) $ join ! $ move ! (9 ∷ 8 ∷ 0 ∷ []) $
-        use3 𝓛 (raw ((Callee 𝓛 at_mem run).pre to)) (goes g) $
+        use3 𝓛 (raw ((Callee 𝓛 at_mem run).requires to)) (goes g) $
         calls_at ! fm (Callee 𝓛 at_mem run) known to
         (and_then ! (load ! (from ! (stop !)) (look ! 21 refl))
         (and_then ! (load ! (from ! (stop !)) (look ! 11 refl)) (and_then ! (load ! (from ! (stop !)) (look ! 9 refl)) (no_more !))))

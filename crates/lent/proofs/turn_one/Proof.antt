@@ -16,4 +16,4 @@ turn_one_spec =
     (λ c.
     let t = c.before.before.before.before in
     let w = t.before.before in
-    one_turned _ _ _ _ _ _ _ _ w.before.no_agents.ensures w.with_agent.ensures t.turn.ensures))
+    one_turned _ _ _ _ _ _ _ _ w.before.no_agents.ensures w.with_agent-slots.ensures t.turn-o.ensures))

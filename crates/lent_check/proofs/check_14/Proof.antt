@@ -9,10 +9,10 @@ use Rattle.lent_check.proofs.Steps.{slots_from, slots_start, slots_no, slots_on,
 use Rattle.lent_check.proofs.check_14.Statement.{statement}
 use Rattle.lent_check.proofs.check_14.Tie as tie
 
-abbrev invariant-loop : tie.invariant-loop
+abbrev invariant-loop : tie.invariant-loop-slot
 invariant-loop pack store agents slot₀ slot = (slot ≤ 8) × (slots_from pack store agents slot ≡ question14 pack store agents)
 
-abbrev decreases-loop : tie.decreases-loop
+abbrev decreases-loop : tie.decreases-loop-slot
 decreases-loop pack store agents slot₀ slot = 8 - slot
 
 pub check_14_spec : {M : Type 1} → statement M
@@ -26,13 +26,13 @@ check_14_spec =
     (λ c. search rules)
     (λ c κs. c.before.before.before.before.before.requires)
     (λ c. let l = c.before.before.before.before in
-    sym (slots_no _ _ _ l.loop.slot _ (omega arith) c.before.slot_right.ensures (not-true _ c.if1.true)) ∙ l.loop.invariant.1)
+    sym (slots_no _ _ _ l.loop-slot.slot _ (omega arith) c.before.slot_right.ensures (not-true _ c.if-not-slot_right.true)) ∙ l.loop-slot.invariant.1)
     (λ c. search rules)
     (λ c. search rules)
     (λ c. (
       search rules,
       let l = c.before.before.before.before in
-          sym (slots_on _ _ _ l.loop.slot _ (omega arith) c.before.slot_right.ensures (not-false _ c.if1.false))
-          ∙ l.loop.invariant.1,
+          sym (slots_on _ _ _ l.loop-slot.slot _ (omega arith) c.before.slot_right.ensures (not-false _ c.if-not-slot_right.false))
+          ∙ l.loop-slot.invariant.1,
     ))
-    (λ c. sym (slots_done _ _ _ _ (omega arith)) ∙ c.before.loop.invariant.1))
+    (λ c. sym (slots_done _ _ _ _ (omega arith)) ∙ c.before.loop-slot.invariant.1))

@@ -13,12 +13,12 @@ use Rattle.lent_check.proofs.check_behind_pack.Statement.{statement}
 use Rattle.lent_check.proofs.check_behind_pack.Tie as tie
 
 -- from the answer to 9 to 12 back to the start
-abbrev start : tie.After-enum-told → tie.Start
+abbrev start : tie.In-Accepted → tie.Start
 start t = t.before.before.before.before.before
 
 -- 9 to 12 say yes
-stored : (c : tie.After-enum-told) → store_refusal (start c).args.store.now ≡ none
-stored c = let k = c.before.before in accepted_none k.check_store.result _ k.check_store.ensures c.enum_told.given.1
+stored : (c : tie.In-Accepted) → store_refusal (start c).args.store.now ≡ none
+stored c = let k = c.before.before in accepted_none k.check_store-store_verdict.result _ k.check_store-store_verdict.ensures c.enum_told-1.given.1
 
 pub check_behind_pack_spec : {M : Type 1} → statement M
 check_behind_pack_spec =
@@ -26,22 +26,22 @@ check_behind_pack_spec =
     (tie.spec
     (λ c κs. search rules)
     (λ c. search rules)
-    (λ c κs. let s = start c in (accepted_laid _ s.pre, (store_ok _ (stored c)).0))
+    (λ c κs. let s = start c in (accepted_laid _ s.requires, (store_ok _ (stored c)).0))
     (λ c κs. search rules)
     (λ c.
     let t = c.before.before.before in
     c.refused.ensures
     ∙ sym (ap verdict_of (thirteen_of_13 _ _ (start t).requires (stored t)
-    (sym c.before.before.check_13.ensures ∙ not-true _ c.before.if1.true))))
+    (sym c.before.before.check_13.ensures ∙ not-true _ c.before.if-not-check_13.true))))
     (λ c. search rules)
     (λ c.
     let t = c.before.before in
-    t.enum_told.given.1
+    t.enum_told-1.given.1
     ∙ sym (ap verdict_of (all_thirteen _ _ (start t).requires (stored t)
-    (sym c.before.check_13.ensures ∙ not-false _ c.if1.false))))
+    (sym c.before.check_13.ensures ∙ not-false _ c.if-not-check_13.false))))
     (λ c.
     let k = c.before.before in
     let s = k.before.before.before in
-    c.enum-told2.given.1
+    c.enum_told-in-Refused-1.given.1
     ∙ sym (ap verdict_of (thirteen_of_store _ _ s.requires _
-    (refused_some k.check_store.result _ _ _ _ k.check_store.ensures c.enum-told2.given.1)))))
+    (refused_some k.check_store-store_verdict.result _ _ _ _ k.check_store-store_verdict.ensures c.enum_told-in-Refused-1.given.1)))))

@@ -14,12 +14,12 @@ use Rattle.lent_check.proofs.check_lent.Statement.{statement}
 use Rattle.lent_check.proofs.check_lent.Tie as tie
 
 -- from the answer to 1 to 13 back to the start
-abbrev start : tie.After-enum-told → tie.Start
+abbrev start : tie.In-Accepted → tie.Start
 start t = t.before.before.before.before.before
 
 -- 1 to 13 say yes
-to_13 : (c : tie.After-enum-told) → let a = (start c).args in first_thirteen a.pack.now a.store.now ≡ none
-to_13 c = let k = c.before.before in accepted_none k.check_to_13.result _ k.check_to_13.ensures c.enum_told.given.1
+to_13 : (c : tie.In-Accepted) → let a = (start c).args in first_thirteen a.pack.now a.store.now ≡ none
+to_13 c = let k = c.before.before in accepted_none k.check_to_13-verdict.result _ k.check_to_13-verdict.ensures c.enum_told-1.given.1
 
 pub check_lent_spec : {M : Type 1} → statement M
 check_lent_spec =
@@ -36,17 +36,17 @@ check_lent_spec =
     λ list.
     c.refused.ensures
     ∙ sym (ap verdict_of (no_of_14 _ (record { store = (start t).args.store.now; records = (start t).args.agents; list = list }) (to_13 t)
-    (sym c.before.before.check_14.ensures ∙ not-true _ c.before.if1.true))))
+    (sym c.before.before.check_14.ensures ∙ not-true _ c.before.if-not-check_14.true))))
     (λ c. search rules)
     (λ c.
     let t = c.before.before in
     λ list.
-    t.enum_told.given.1
+    t.enum_told-1.given.1
     ∙ sym (ap verdict_of (all_yes _ (record { store = (start t).args.store.now; records = (start t).args.agents; list = list }) (to_13 t)
-    (sym c.before.check_14.ensures ∙ not-false _ c.if1.false))))
+    (sym c.before.check_14.ensures ∙ not-false _ c.if-not-check_14.false))))
     (λ c.
     let k = c.before.before in
     λ list.
-    c.enum-told2.given.1
+    c.enum_told-in-Refused-1.given.1
     ∙ sym (ap verdict_of (no_to_13 _ _ _
-    (refused_some k.check_to_13.result _ _ _ _ k.check_to_13.ensures c.enum-told2.given.1)))))
+    (refused_some k.check_to_13-verdict.result _ _ _ _ k.check_to_13-verdict.ensures c.enum_told-in-Refused-1.given.1)))))

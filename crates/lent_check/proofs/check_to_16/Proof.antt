@@ -12,15 +12,15 @@ use Rattle.lent_check.proofs.check_to_16.Statement.{statement}
 use Rattle.lent_check.proofs.check_to_16.Tie as tie
 
 -- from the answer to 1 to 14 back to the start
-abbrev start : tie.After-enum-told → tie.Start
+abbrev start : tie.In-Accepted → tie.Start
 start c = c.before.before.before.before.before
 
 -- 1 to 14 say yes
-lent_yes : (c : tie.After-enum-told) (list : Worklist) →
+lent_yes : (c : tie.In-Accepted) (list : Worklist) →
     let a = (start c).args in
     lent_refusal a.pack.now (record { store = a.store.now; records = a.t3; list = list }) ≡ none
-lent_yes c list = let k = c.before.before in accepted_none k.check_lent.result _ (k.check_lent.ensures list)
-    c.enum_told.given.1
+lent_yes c list = let k = c.before.before in accepted_none k.check_lent-lent_verdict.result _ (k.check_lent-lent_verdict.ensures list)
+    c.enum_told-1.given.1
 
 pub check_to_16_spec : {M : Type 1} → statement M
 check_to_16_spec =
@@ -29,7 +29,7 @@ check_to_16_spec =
     (λ c κs. search rules)
     (λ c. search rules)
     (λ c κs. search rules)
-    (λ c. λ list. c.refused.ensures ∙ sym (ap verdict_of (no_of_15 _ _ _ _ (lent_yes c.before.before list) c.before.if1.true)))
+    (λ c. λ list. c.refused.ensures ∙ sym (ap verdict_of (no_of_15 _ _ _ _ (lent_yes c.before.before list) c.before.if-slot-ge8.true)))
     (λ c. search rules)
     (λ c. search rules)
     (λ c κs. search rules)
@@ -37,18 +37,18 @@ check_to_16_spec =
     let e = c.before.before.before.before in
     let a = (start e.before).args in
     λ list.
-    c.refused2.ensures
-    ∙ sym (ap verdict_of (no_of_16 _ _ a.slot a.used (lent_yes e.before list) e.if1.false (came_unlike _ _
-    c.before.if2.true))))
+    c.refused-then-a-used.ensures
+    ∙ sym (ap verdict_of (no_of_16 _ _ a.slot a.used (lent_yes e.before list) e.if-slot-ge8.false (came_unlike _ _
+    c.before.if-a-used.true))))
     (λ c. search rules)
     (λ c.
     let e = c.before.before.before in
     let a = (start e.before).args in
     λ list.
-    e.before.enum_told.given.1
-    ∙ sym (ap verdict_of (all_sixteen _ _ a.slot a.used (lent_yes e.before list) e.if1.false (came_alike _ _ c.if2.false))))
+    e.before.enum_told-1.given.1
+    ∙ sym (ap verdict_of (all_sixteen _ _ a.slot a.used (lent_yes e.before list) e.if-slot-ge8.false (came_alike _ _ c.if-a-used.false))))
     (λ c. let k = c.before.before in
     λ list.
-    c.enum-told2.given.1
+    c.enum_told-in-Refused-1.given.1
     ∙ sym (ap verdict_of (no_of_lent _ _ _ _ _
-    (refused_some k.check_lent.result _ _ _ _ (k.check_lent.ensures list) c.enum-told2.given.1)))))
+    (refused_some k.check_lent-lent_verdict.result _ _ _ _ (k.check_lent-lent_verdict.ensures list) c.enum_told-in-Refused-1.given.1)))))

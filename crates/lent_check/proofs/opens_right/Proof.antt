@@ -10,15 +10,15 @@ use Rattle.lent_check.proofs.Steps.{opens_from, opens_start, opens_no, opens_on,
 use Rattle.lent_check.proofs.opens_right.Statement.{statement}
 use Rattle.lent_check.proofs.opens_right.Tie as tie
 
-abbrev invariant-loop : tie.invariant-loop
+abbrev invariant-loop : tie.invariant-loop-instruction
 invariant-loop pack store workflows instructions partitions bytes words instruction₀ instruction =
     (instruction ≤ instructions) × (opens_from pack store instructions instruction ≡ opens_right pack store)
 
-abbrev decreases-loop : tie.decreases-loop
+abbrev decreases-loop : tie.decreases-loop-instruction
 decreases-loop pack store workflows instructions partitions bytes words instruction₀ instruction = instructions - instruction
 
 -- from where the loop stands back to the start
-abbrev start : tie.At-loop invariant-loop decreases-loop → tie.Start invariant-loop decreases-loop
+abbrev start : tie.At-loop-instruction invariant-loop decreases-loop → tie.Start invariant-loop decreases-loop
 start lp = lp.before.before.before.before.before.before
 
 pub opens_right_spec : {M : Type 1} → statement M
@@ -34,7 +34,7 @@ opens_right_spec =
     (λ c. search rules)
     (λ c. search rules)
     (λ c. search rules)
-    (λ c. (search rules, opens_start _ _ _ c.before.first_of.ensures))
+    (λ c. (search rules, opens_start _ _ _ c.before.first_of-instructions.ensures))
     (λ c. search rules)
     (λ c. search rules)
     (λ c. search rules)
@@ -42,19 +42,19 @@ opens_right_spec =
     (λ c.
     let l = c.before.before.before in
     let s = (start l).args in
-    sym (opens_no s.pack.now s.store.now _ l.loop.instruction (count s.pack.now) _ _ (omega arith) refl
-    l.before.before.first_of.ensures l.before.partition_count.ensures
-    c.before.opens_below.ensures (not-true _ c.if1.true))
-    ∙ l.loop.invariant.1)
+    sym (opens_no s.pack.now s.store.now _ l.loop-instruction.instruction (count s.pack.now) _ _ (omega arith) refl
+    l.before.before.first_of-instructions.ensures l.before.partition_count-partitions.ensures
+    c.before.opens_below.ensures (not-true _ c.if-not-opens_below.true))
+    ∙ l.loop-instruction.invariant.1)
     (λ c. search rules)
     (λ c. search rules)
     (λ c. (
       search rules,
       let l = c.before.before.before in
           let s = (start l).args in
-          sym (opens_on s.pack.now s.store.now _ l.loop.instruction (count s.pack.now) _ _ (omega arith) refl
-          l.before.before.first_of.ensures l.before.partition_count.ensures
-          c.before.opens_below.ensures (not-false _ c.if1.false))
-          ∙ l.loop.invariant.1,
+          sym (opens_on s.pack.now s.store.now _ l.loop-instruction.instruction (count s.pack.now) _ _ (omega arith) refl
+          l.before.before.first_of-instructions.ensures l.before.partition_count-partitions.ensures
+          c.before.opens_below.ensures (not-false _ c.if-not-opens_below.false))
+          ∙ l.loop-instruction.invariant.1,
     ))
-    (λ c. sym (opens_done _ _ _ _ (omega arith)) ∙ c.before.loop.invariant.1))
+    (λ c. sym (opens_done _ _ _ _ (omega arith)) ∙ c.before.loop-instruction.invariant.1))

@@ -12,16 +12,16 @@ use Rattle.lent_check.proofs.sound.Statement.{statement}
 use Rattle.lent_check.proofs.sound.Tie as tie
 
 -- from the book's answer back to the start
-abbrev start : tie.After-booked → tie.Start
+abbrev start : tie.In-Value-2 → tie.Start
 start c = c.before.before.before.before.before
 
 -- the workflow that the book has is below m
-below : (c : tie.After-booked) → c.booked.given.0.0 < count (start c).args.pack.now
+below : (c : tie.In-Value-2) → c.booked-1.given.0.0 < count (start c).args.pack.now
 below c =
     let k = c.before.before in
     let s = k.before.before.before in
-    workflow_below s.args.pack.now s.args.store.now s.args.a.id _ k.booked_workflow.ensures.1 s.requires.2
-    (got_some _ k.booked_workflow.result k.booked_workflow.ensures.0 _ c.booked.given.1)
+    workflow_below s.args.pack.now s.args.store.now s.args.a.id _ k.booked_workflow-booked.ensures.1 s.requires.2
+    (got_some _ k.booked_workflow-booked.result k.booked_workflow-booked.ensures.0 _ c.booked-1.given.1)
 
 pub sound_spec : {M : Type 1} → statement M
 unfolding Q.inside_at
@@ -38,9 +38,9 @@ sound_spec =
     let g = o.before.before in
     let k = g.before.before in
     let s = k.before.before.before in
-    sym (sound_long s.args.pack.now (book_rows s.args.store.now) s.args.a k.booked_workflow.ensures.1
-    k.booked_workflow.result _
-    k.booked_workflow.ensures.0 g.booked.given.1 s.requires.0 (below g) _ o.operations_part.ensures c.if1.true))
+    sym (sound_long s.args.pack.now (book_rows s.args.store.now) s.args.a k.booked_workflow-booked.ensures.1
+    k.booked_workflow-booked.result _
+    k.booked_workflow-booked.ensures.0 g.booked-1.given.1 s.requires.0 (below g) _ o.operations_part-ops.ensures c.if-ops-position.true))
     (λ c κs. (search rules, refl))
     (λ c.
     let l = c.before.before in
@@ -48,10 +48,10 @@ sound_spec =
     let g = o.before.before in
     let k = g.before.before in
     let s = k.before.before.before in
-    sym (sound_inside s.args.pack.now (book_rows s.args.store.now) s.args.a k.booked_workflow.ensures.1
-    k.booked_workflow.result _
-    k.booked_workflow.ensures.0 g.booked.given.1 s.requires.0 (below g) _ o.operations_part.ensures l.if1.false
-    (sym c.before.is_inside.ensures ∙ c.if2.true)))
+    sym (sound_inside s.args.pack.now (book_rows s.args.store.now) s.args.a k.booked_workflow-booked.ensures.1
+    k.booked_workflow-booked.result _
+    k.booked_workflow-booked.ensures.0 g.booked-1.given.1 s.requires.0 (below g) _ o.operations_part-ops.ensures l.if-ops-position.false
+    (sym c.before.is_inside.ensures ∙ c.if-is_inside.true)))
     (λ c. search rules)
     (λ c.
     let l = c.before.before.before in
@@ -59,13 +59,13 @@ sound_spec =
     let g = o.before.before in
     let k = g.before.before in
     let s = k.before.before.before in
-    sym (sound_rest s.args.pack.now (book_rows s.args.store.now) s.args.a k.booked_workflow.ensures.1
-    k.booked_workflow.result _
-    k.booked_workflow.ensures.0 g.booked.given.1 s.requires.0 (below g) _ o.operations_part.ensures l.if1.false
-    (sym c.before.before.is_inside.ensures ∙ c.before.if2.false)))
+    sym (sound_rest s.args.pack.now (book_rows s.args.store.now) s.args.a k.booked_workflow-booked.ensures.1
+    k.booked_workflow-booked.result _
+    k.booked_workflow-booked.ensures.0 g.booked-1.given.1 s.requires.0 (below g) _ o.operations_part-ops.ensures l.if-ops-position.false
+    (sym c.before.before.is_inside.ensures ∙ c.before.if-is_inside.false)))
     (λ c.
     let k = c.before.before in
     let s = k.before.before.before in
-    sym (sound_none s.args.pack.now (book_rows s.args.store.now) s.args.a k.booked_workflow.ensures.1
-    k.booked_workflow.result k.booked_workflow.ensures.0
-    c.enum_told.given.1)))
+    sym (sound_none s.args.pack.now (book_rows s.args.store.now) s.args.a k.booked_workflow-booked.ensures.1
+    k.booked_workflow-booked.result k.booked_workflow-booked.ensures.0
+    c.enum_told-1.given.1)))

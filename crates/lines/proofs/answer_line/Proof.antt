@@ -20,8 +20,8 @@ answer_line_spec =
     let d3 = d4.before.before.before.before in
     let d2 = d3.before.before.before.before in
     let d1 = d2.before.before.before.before in (
-      appended_then d1.append_number.ensures.0
-          (appended_then d2.append_byte.ensures (appended_then d3.append_answer.ensures.0 d4.append_byte2.ensures)),
+      appended_then d1.append_number-written.ensures.0
+          (appended_then d2.append_byte-written.ensures (appended_then d3.append_answer-written.ensures.0 d4.append_byte.ensures)),
       omega
           arith,
     )))

@@ -16,4 +16,4 @@ append_field_spec =
     (λ c. search rules)
     (λ c. let d2 = c.before.before in
     let d1 = d2.before.before.before.before in
-    (appended_then d1.append_byte.ensures d2.append_number.ensures.0, omega arith)))
+    (appended_then d1.append_byte-written.ensures d2.append_number.ensures.0, omega arith)))

@@ -18,4 +18,4 @@ append_taken_spec =
     (λ c. search rules)
     (λ c. let d2 = c.before.before in
     let d1 = d2.before.before.before.before in
-    (appended_then d1.append_bytes.ensures d2.append_field.ensures.0, omega arith)))
+    (appended_then d1.append_bytes-written.ensures d2.append_field.ensures.0, omega arith)))

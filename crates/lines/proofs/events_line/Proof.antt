@@ -19,4 +19,4 @@ events_line_spec =
     (λ c. let d3 = c.before.before in
     let d2 = d3.before.before.before.before in
     let d1 = d2.before.before.before.before in
-    (appended_then d1.append_bytes.ensures (appended_then d2.append_field.ensures.0 d3.append_byte.ensures), omega arith)))
+    (appended_then d1.append_bytes-written.ensures (appended_then d2.append_field-written.ensures.0 d3.append_byte.ensures), omega arith)))

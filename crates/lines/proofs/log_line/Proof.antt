@@ -25,9 +25,9 @@ log_line_spec =
     let d3 = d4.before.before.before.before in
     let d2 = d3.before.before.before.before in
     let d1 = d2.before.before.before.before in (
-      appended_then d1.append_bytes.ensures
-          (appended_then d2.append_field.ensures.0
-          (appended_then d3.append_field2.ensures.0
-          (appended_then d4.append_field3.ensures.0 (appended_then d5.append_field4.ensures.0 d6.append_byte.ensures)))),
+      appended_then d1.append_bytes-written.ensures
+          (appended_then d2.append_field-written.ensures.0
+          (appended_then d3.append_field-written-2.ensures.0
+          (appended_then d4.append_field-written-3.ensures.0 (appended_then d5.append_field-written-4.ensures.0 d6.append_byte.ensures)))),
       omega arith,
     )))

@@ -10,12 +10,12 @@ stored_line_spec =
     tie.close
     (tie.spec
     (λ c κs. search rules)
-    (λ c κs. sym c.before.before.is_data.ensures ∙ c.before.if1.true)
+    (λ c κs. sym c.before.before.is_data.ensures ∙ c.before.if-is_data.true)
     (λ c κs. search rules)
     (λ c. search rules)
     (λ c. let d = c.before.before in
     let b = d.before.before.before.before in (
-      data_line _ _ _ (sym b.is_data.ensures ∙ d.before.before.before.if1.true)
+      data_line _ _ _ (sym b.is_data.ensures ∙ d.before.before.before.if-is_data.true)
           (rw (← d.before.data_of.ensures) d.row_Line.ensures.0),
       d.row_Line.ensures.1,
     ))
@@ -25,7 +25,7 @@ stored_line_spec =
     (λ c. search rules)
     (λ c. let d = c.before.before in
     let b = d.before.before.before.before.before in (
-      log_line_lem _ _ _ (sym b.is_data.ensures ∙ d.before.before.before.before.if1.false)
+      log_line_lem _ _ _ (sym b.is_data.ensures ∙ d.before.before.before.before.if-is_data.false)
           (rw (← d.before.before.id_of.ensures, ← d.before.step_of_lem.ensures) d.log_line_lem.ensures.0),
       d.log_line_lem.ensures.1,
     )))

@@ -17,17 +17,17 @@ use Rattle.logged.proofs.Moves.{used_up, stands_further, still_sought, no_furthe
 use Rattle.logged.proofs.follow_log.Statement.{statement}
 use Rattle.logged.proofs.follow_log.Tie as tie
 
-abbrev invariant-loop : tie.invariant-loop
+abbrev invariant-loop : tie.invariant-loop-moves
 invariant-loop ops operands store id place₀ step₀ moves₀ place step moves =
     StandsAt ops operands place step
     × (reply_from (contents_of (store_of store)).log id (code_of ops operands) (length ops - moves) (some (at (going (place_of place)) step))
     ≡ reply_from (contents_of (store_of store)).log id (code_of ops operands) (length ops) (some (at (going (place_of place₀)) 0)))
 
-abbrev decreases-loop : tie.decreases-loop
+abbrev decreases-loop : tie.decreases-loop-moves
 decreases-loop ops operands store id place₀ step₀ moves₀ place step moves = length ops - moves
 
 -- from where the loop stands back to the start
-abbrev start : tie.At-loop invariant-loop decreases-loop → tie.Start invariant-loop decreases-loop
+abbrev start : tie.At-loop-moves invariant-loop decreases-loop → tie.Start invariant-loop decreases-loop
 start lp = lp.before.before.before.before
 
 pub follow_log_spec : {M : Type 1} → statement M
@@ -37,23 +37,23 @@ follow_log_spec =
     invariant-loop
     decreases-loop
     (λ c. (c.before.before.before.requires.1, rw sub-zero refl))
-    (λ c κs. ((start c.before).pre.0, c.before.loop.invariant.0))
+    (λ c κs. ((start c.before).requires.0, c.before.loop-moves.invariant.0))
     (λ c. search rules)
     (λ c.
     let m = c.before.before.before in
     let lp = m.before.before in
     ap by_reply
-    (sym (comes_to _ _ _ (start lp).requires.0 lp.loop.place _ lp.loop.invariant.0 _ _ m.move_by_log.result
-    m.move_by_log.ensures _ _ m.before.loop-test.true _ c.before.led.given.1)
-    ∙ lp.loop.invariant.1))
+    (sym (comes_to _ _ _ (start lp).requires.0 lp.loop-moves.place _ lp.loop-moves.invariant.0 _ _ m.move_by_log-stage.result
+    m.move_by_log-stage.ensures _ _ m.before.loop-moves-test.true _ c.before.led-1.given.1)
+    ∙ lp.loop-moves.invariant.1))
     (λ c. search rules)
     (λ c.
     let m = c.before.before in
     let lp = m.before.before in
     ap by_reply
-    (sym (no_further _ _ _ (start lp).requires.0 lp.loop.place _ lp.loop.invariant.0 _ _ m.move_by_log.result
-    m.move_by_log.ensures _ _ m.before.loop-test.true c.enum_told.given.1)
-    ∙ lp.loop.invariant.1))
+    (sym (no_further _ _ _ (start lp).requires.0 lp.loop-moves.place _ lp.loop-moves.invariant.0 _ _ m.move_by_log-stage.result
+    m.move_by_log-stage.ensures _ _ m.before.loop-moves-test.true c.enum_told-1.given.1)
+    ∙ lp.loop-moves.invariant.1))
     (λ c. search rules)
     (λ c. search rules)
     (λ c. search rules)
@@ -61,13 +61,13 @@ follow_log_spec =
     let t = c.before in
     let m = t.before.before in
     let lp = m.before.before in (
-      stands_further _ _ _ (start lp).requires.0 lp.loop.place _ lp.loop.invariant.0 _ _ m.move_by_log.result m.move_by_log.ensures
-          t.enum-told2.given.1,
+      stands_further _ _ _ (start lp).requires.0 lp.loop-moves.place _ lp.loop-moves.invariant.0 _ _ m.move_by_log-stage.result m.move_by_log-stage.ensures
+          t.enum_told-in-UnderWay-1.given.1,
       sym
-          (still_sought _ _ _ (start lp).requires.0 lp.loop.place _ lp.loop.invariant.0 _ _ m.move_by_log.result
-          m.move_by_log.ensures _ _ m.before.loop-test.true t.enum-told2.given.1)
-          ∙ lp.loop.invariant.1,
+          (still_sought _ _ _ (start lp).requires.0 lp.loop-moves.place _ lp.loop-moves.invariant.0 _ _ m.move_by_log-stage.result
+          m.move_by_log-stage.ensures _ _ m.before.loop-moves-test.true t.enum_told-in-UnderWay-1.given.1)
+          ∙ lp.loop-moves.invariant.1,
     ))
     (λ c.
     let lp = c.before in
-    ap by_reply (sym (used_up _ _ _ _ _ c.loop-test.false _ _) ∙ lp.loop.invariant.1)))
+    ap by_reply (sym (used_up _ _ _ _ _ c.loop-moves-test.false _ _) ∙ lp.loop-moves.invariant.1)))

@@ -6,7 +6,7 @@ use Rattle.logged.proofs.move_by_log.Statement.{statement}
 use Rattle.logged.proofs.move_by_log.Tie as tie
 
 -- from what the request does next back to the start
-abbrev start : tie.After-next-of → tie.Start
+abbrev start : tie.After-next_of-upcoming → tie.Start
 start n = n.before.before.before.before
 
 pub move_by_log_spec : {M : Type 1} → statement M
@@ -20,26 +20,26 @@ move_by_log_spec =
     let x = c.before in
     let n = x.before.before.before in
     let s = start n in
-    may_seek _ _ _ s.pre.0 s.args.from _ s.pre.1 n.next_of.result n.next_of.ensures _ x.next.given.1)
+    may_seek _ _ _ s.requires.0 s.args.from _ s.requires.1 n.next_of-upcoming.result n.next_of-upcoming.ensures _ x.next-1.given.1)
     (λ c κs.
     let x = c.before.before in
     let n = x.before.before.before in
     let s = start n in
-    may_pass _ _ _ s.pre.0 s.args.from _ s.pre.1 n.next_of.result n.next_of.ensures _ x.next.given.1)
+    may_pass _ _ _ s.requires.0 s.args.from _ s.requires.1 n.next_of-upcoming.result n.next_of-upcoming.ensures _ x.next-1.given.1)
     (λ c. search rules)
     (λ c.
     let n = c.before.before.before in
     let s = start n in
-    goes_on _ _ _ s.pre.0 s.args.from _ s.pre.1 n.next_of.result n.next_of.ensures _ _ c.enum_told.given.1)
+    goes_on _ _ _ s.requires.0 s.args.from _ s.requires.1 n.next_of-upcoming.result n.next_of-upcoming.ensures _ _ c.enum_told-1.given.1)
     (λ c.
     let l = c.before in
     let x = l.before.before in
     let n = x.before.before.before in
     let s = start n in
-    c.pass_block.ensures s.args.operands.now _ l.log_row.ensures
-    ∙ passes _ _ _ s.pre.0 s.args.from _ s.pre.1 n.next_of.result n.next_of.ensures _ x.next.given.1 _ _)
+    c.pass_block.ensures s.args.operands.now _ l.log_row-row.ensures
+    ∙ passes _ _ _ s.requires.0 s.args.from _ s.requires.1 n.next_of-upcoming.result n.next_of-upcoming.ensures _ x.next-1.given.1 _ _)
     (λ c.
     let x = c.before in
     let n = x.before.before.before in
     let s = start n in
-    replies _ _ _ s.pre.0 s.args.from _ s.pre.1 n.next_of.result n.next_of.ensures _ _ _ x.next2.given.1))
+    replies _ _ _ s.requires.0 s.args.from _ s.requires.1 n.next_of-upcoming.result n.next_of-upcoming.ensures _ _ _ x.next-in-Says-1.given.1))

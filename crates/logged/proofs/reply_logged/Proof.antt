@@ -7,7 +7,7 @@ use Rattle.logged.proofs.reply_logged.Statement.{statement}
 use Rattle.logged.proofs.reply_logged.Tie as tie
 
 -- from what was got of the workflow back to the start
-abbrev start : tie.After-booked-workflow → tie.Start
+abbrev start : tie.After-booked_workflow-booked → tie.Start
 start b = b.before.before.before
 
 pub reply_logged_spec : {M : Type 1} → statement M
@@ -25,16 +25,16 @@ reply_logged_spec =
     let k = c.before.before.before.before.before in
     let b = k.before.before in
     let s = start b in (
-      accepted_laid _ s.pre.0,
-      below _ _ _ b.booked_workflow.ensures.1 _ b.booked_workflow.ensures.0 s.pre _ k.booked.given.1,
+      accepted_laid _ s.requires.0,
+      below _ _ _ b.booked_workflow-booked.ensures.1 _ b.booked_workflow-booked.ensures.0 s.requires _ k.booked-1.given.1,
     ))
     (λ c. search rules)
     (λ c κs.
     let k = c.before.before.before.before.before.before in
     let b = k.before.before in
     let s = start b in (
-      accepted_laid _ s.pre.0,
-      below _ _ _ b.booked_workflow.ensures.1 _ b.booked_workflow.ensures.0 s.pre _ k.booked.given.1,
+      accepted_laid _ s.requires.0,
+      below _ _ _ b.booked_workflow-booked.ensures.1 _ b.booked_workflow-booked.ensures.0 s.requires _ k.booked-1.given.1,
     ))
     (λ c κs.
     let f = c.before.before.before.before in
@@ -42,15 +42,15 @@ reply_logged_spec =
     let k = y.before.before in
     let b = k.before.before in
     let s = start b in (
-      followed _ _ _ b.booked_workflow.ensures.1 _ b.booked_workflow.ensures.0 s.pre _ k.booked.given.1 _ _
-          c.before.operations_part.ensures c.operands_part.ensures,
-      stands _ _ _ b.booked_workflow.ensures.1 _ b.booked_workflow.ensures.0 s.pre _ k.booked.given.1 _ _
-          c.before.operations_part.ensures c.operands_part.ensures y.booked_request.result f.started.result
-          y.booked_request.ensures f.started.ensures,
+      followed _ _ _ b.booked_workflow-booked.ensures.1 _ b.booked_workflow-booked.ensures.0 s.requires _ k.booked-1.given.1 _ _
+          c.before.operations_part-ops.ensures c.operands_part-operands.ensures,
+      stands _ _ _ b.booked_workflow-booked.ensures.1 _ b.booked_workflow-booked.ensures.0 s.requires _ k.booked-1.given.1 _ _
+          c.before.operations_part-ops.ensures c.operands_part-operands.ensures y.booked_request-request.result f.started-agent.result
+          y.booked_request-request.ensures f.started-agent.ensures,
     ))
     (λ c.
     let b = c.before.before in
-    unbooked _ _ _ b.booked_workflow.ensures.1 _ b.booked_workflow.ensures.0 c.enum_told.given.1)
+    unbooked _ _ _ b.booked_workflow-booked.ensures.1 _ b.booked_workflow-booked.ensures.0 c.enum_told-1.given.1)
     (λ c.
     let o = c.before in
     let f = o.before.before.before.before in
@@ -58,6 +58,6 @@ reply_logged_spec =
     let k = y.before.before in
     let b = k.before.before in
     let s = start b in
-    by_log _ _ _ b.booked_workflow.ensures.1 _ b.booked_workflow.ensures.0 s.pre _ k.booked.given.1 _ _
-    o.before.operations_part.ensures o.operands_part.ensures y.booked_request.result f.started.result
-    y.booked_request.ensures f.started.ensures _ c.follow_log.ensures))
+    by_log _ _ _ b.booked_workflow-booked.ensures.1 _ b.booked_workflow-booked.ensures.0 s.requires _ k.booked-1.given.1 _ _
+    o.before.operations_part-ops.ensures o.operands_part-operands.ensures y.booked_request-request.result f.started-agent.result
+    y.booked_request-request.ensures f.started-agent.ensures _ c.follow_log.ensures))

@@ -20,10 +20,10 @@ entry_of_spec =
     (λ c.
     let o = c.before.before.before.before in
     let op = operation_of o.before.args.byte in
-    let e = c.before.before.before.packed_of.ensures ∙ ap packed_of o.operation_of.ensures in
+    let e = c.before.before.before.packed_of-entry.ensures ∙ ap packed_of o.operation_of.ensures in
     λ i.
     record {
-      side = c.before.before.side_in.ensures (side_of op) (operand_of op) (fixed_of op) e i;
+      side = c.before.before.side_in-side.ensures (side_of op) (operand_of op) (fixed_of op) e i;
       operand = c.before.Operand-in.ensures (side_of op) (operand_of op) (fixed_of op) e i;
       fixed = c.fixed_in.ensures (side_of op) (operand_of op) (fixed_of op) e i;
     }))

@@ -9,11 +9,11 @@ pub operand_in_spec : {M : Type 1} → statement M
 operand_in_spec =
     tie.close
     (tie.spec
-    (λ c s o f e. is_below8 o (sym (operand_bits_lem _ s o f e) ∙ sym (and_mask _ 2) ∙ c.if1.true))
-    (λ c s o f e. is_jump_lem o (sym (operand_bits_lem _ s o f e) ∙ sym (and_mask _ 2) ∙ c.if2.true))
-    (λ c s o f e. is_zero o (sym (operand_bits_lem _ s o f e) ∙ sym (and_mask _ 2) ∙ c.if3.true))
+    (λ c s o f e. is_below8 o (sym (operand_bits_lem _ s o f e) ∙ sym (and_mask _ 2) ∙ c.if-bits-eq1.true))
+    (λ c s o f e. is_jump_lem o (sym (operand_bits_lem _ s o f e) ∙ sym (and_mask _ 2) ∙ c.if-bits-eq2.true))
+    (λ c s o f e. is_zero o (sym (operand_bits_lem _ s o f e) ∙ sym (and_mask _ 2) ∙ c.if-bits-eq3.true))
     (λ c s o f e.
     is_any o
-    (λ q. c.before.before.if1.false (and_mask _ 2 ∙ operand_bits_lem _ s o f e ∙ q))
-    (λ q. c.before.if2.false (and_mask _ 2 ∙ operand_bits_lem _ s o f e ∙ q))
-    (λ q. c.if3.false (and_mask _ 2 ∙ operand_bits_lem _ s o f e ∙ q))))
+    (λ q. c.before.before.if-bits-eq1.false (and_mask _ 2 ∙ operand_bits_lem _ s o f e ∙ q))
+    (λ q. c.before.if-bits-eq2.false (and_mask _ 2 ∙ operand_bits_lem _ s o f e ∙ q))
+    (λ q. c.if-bits-eq3.false (and_mask _ 2 ∙ operand_bits_lem _ s o f e ∙ q))))

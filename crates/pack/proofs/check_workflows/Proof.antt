@@ -17,108 +17,108 @@ use Rattle.pack.proofs.Workflows.{operations_are, operands_are, parts_of_lem}
 use Rattle.pack.proofs.check_workflows.Statement.{statement}
 use Rattle.pack.proofs.check_workflows.Tie as tie
 
-abbrev invariant-loop : tie.invariant-loop
+abbrev invariant-loop : tie.invariant-loop-workflow
 invariant-loop pack m operations operands first₀ workflow₀ first workflow =
     (workflow ≤ m) × (first ≡ first_of pack workflow)
     × (first_no (workflow_no pack) m 0 ≡ first_no (workflow_no pack) (m - workflow) workflow)
 
-abbrev decreases-loop : tie.decreases-loop
+abbrev decreases-loop : tie.decreases-loop-workflow
 decreases-loop pack m operations operands first₀ workflow₀ first workflow = m - workflow
 
-loop_holds : tie.Need-loop-init invariant-loop decreases-loop
+loop_holds : tie.Need-loop-workflow-init invariant-loop decreases-loop
 unfolding first_of
 loop_holds c =
     let p = c.before.before.before.before.args.pack.now in
     (omega arith, refl, ap (λ n. first_no (workflow_no p) n 0) (omega arith))
 
 -- where the call began, and the pack that it was lent, from the loop on
-abbrev began : tie.At-loop invariant-loop decreases-loop → tie.Start invariant-loop decreases-loop
+abbrev began : tie.At-loop-workflow invariant-loop decreases-loop → tie.Start invariant-loop decreases-loop
 began l = l.before.before.before.before.before
 
-abbrev lent : tie.At-loop invariant-loop decreases-loop → List ℕ
+abbrev lent : tie.At-loop-workflow invariant-loop decreases-loop → List ℕ
 lent l = (began l).args.pack.now
 
 -- the parts of a workflow are within the pack
-module _ (c : tie.After-size-at invariant-loop decreases-loop) where
-  few : c.before.before.loop.first + c.size_at.result ≤ 2048
+module _ (c : tie.After-size_at-size invariant-loop decreases-loop) where
+  few : c.before.before.loop-workflow.first + c.size_at-size.result ≤ 2048
   few =
       let l = c.before.before in
       let s = began l in
       omega (
         arith,
-        few_instructions s.args.pack.now s.pre l.loop.workflow c.before.loop-test.true,
-        c.size_at.ensures,
-        l.loop.invariant.1,
+        few_instructions s.args.pack.now s.requires l.loop-workflow.workflow c.before.loop-workflow-test.true,
+        c.size_at-size.ensures,
+        l.loop-workflow.invariant.1,
       )
 
   operations_fit : let l = c.before.before in
-      l.before.before.operations_begin.result + l.loop.first + c.size_at.result ≤ length
+      l.before.before.operations_begin-operations.result + l.loop-workflow.first + c.size_at-size.result ≤ length
       (lent l)
   operations_fit =
       let l = c.before.before in
       let s = began l in
       omega (
         arith,
-        operations_within s.args.pack.now s.pre l.loop.workflow c.before.loop-test.true,
-        l.before.before.operations_begin.ensures,
-        c.size_at.ensures,
-        l.loop.invariant.1,
+        operations_within s.args.pack.now s.requires l.loop-workflow.workflow c.before.loop-workflow-test.true,
+        l.before.before.operations_begin-operations.ensures,
+        c.size_at-size.ensures,
+        l.loop-workflow.invariant.1,
       )
 
   operands_fit : let l = c.before.before in
-      l.before.operands_begin.result + 4 * l.loop.first + 4 * c.size_at.result ≤ length
+      l.before.operands_begin-operands.result + 4 * l.loop-workflow.first + 4 * c.size_at-size.result ≤ length
       (lent l)
   operands_fit =
       let l = c.before.before in
       let s = began l in
       omega (
         arith,
-        operands_within s.args.pack.now s.pre l.loop.workflow c.before.loop-test.true,
-        l.before.operands_begin.ensures,
-        c.size_at.ensures,
-        l.loop.invariant.1,
+        operands_within s.args.pack.now s.requires l.loop-workflow.workflow c.before.loop-workflow-test.true,
+        l.before.operands_begin-operands.ensures,
+        c.size_at-size.ensures,
+        l.loop-workflow.invariant.1,
       )
 
   -- the pack is short
   short : length (lent c.before.before) ≤ 10273
-  short = let s = began c.before.before in omega (arith, s.pre.whole, s.pre.few, s.pre.short)
+  short = let s = began c.before.before in omega (arith, s.requires.whole, s.requires.few, s.requires.short)
 
 -- the parts in hand are the workflow's
-module _ (c : tie.After-part2 invariant-loop decreases-loop) where
+module _ (c : tie.After-part invariant-loop decreases-loop) where
   operations_here : let l = c.before.before.before.before in
-      c.before.part.result.now ≡ operations_of (lent l) l.loop.workflow
+      c.before.part-ops.result.now ≡ operations_of (lent l) l.loop-workflow.workflow
   operations_here =
       let z = c.before.before in
       let l = z.before.before in
-      operations_are _ _ _ _ l.loop.invariant.1 z.size_at.ensures _ _ l.before.before.operations_begin.ensures
-      c.before.part.ensures
+      operations_are _ _ _ _ l.loop-workflow.invariant.1 z.size_at-size.ensures _ _ l.before.before.operations_begin-operations.ensures
+      c.before.part-ops.ensures
 
   operands_here : let l = c.before.before.before.before in
-      c.part2.result.now ≡ operands_of (lent l) l.loop.workflow
+      c.part.result.now ≡ operands_of (lent l) l.loop-workflow.workflow
   operands_here =
       let z = c.before.before in
       let l = z.before.before in
-      operands_are _ _ _ _ l.loop.invariant.1 z.size_at.ensures _ _ l.before.operands_begin.ensures c.part2.ensures
+      operands_are _ _ _ _ l.loop-workflow.invariant.1 z.size_at-size.ensures _ _ l.before.operands_begin-operands.ensures c.part.ensures
 
   workflow_here : let l = c.before.before.before.before in
-      code_no l.loop.workflow c.before.part.result.now c.part2.result.now ≡ workflow_no
-      (lent l) l.loop.workflow
+      code_no l.loop-workflow.workflow c.before.part-ops.result.now c.part.result.now ≡ workflow_no
+      (lent l) l.loop-workflow.workflow
   workflow_here = parts_of_lem _ _ _ _ operations_here operands_here
 
-  sized : (1 ≤ length c.before.part.result.now) × (length c.part2.result.now ≡ 4 * length c.before.part.result.now)
+  sized : (1 ≤ length c.before.part-ops.result.now) × (length c.part.result.now ≡ 4 * length c.before.part-ops.result.now)
   sized =
       let t = c.before.before.before in
       let l = t.before in
       let s = began l in
-      let a = ap length operations_here ∙ length_operations s.args.pack.now s.pre l.loop.workflow t.loop-test.true in
-      let b = ap length operands_here ∙ length_operands s.args.pack.now s.pre l.loop.workflow t.loop-test.true in
-      (omega (arith, a, (s.pre.sizes l.loop.workflow t.loop-test.true).0), omega (arith, a, b))
+      let a = ap length operations_here ∙ length_operations s.args.pack.now s.requires l.loop-workflow.workflow t.loop-workflow-test.true in
+      let b = ap length operands_here ∙ length_operands s.args.pack.now s.requires l.loop-workflow.workflow t.loop-workflow-test.true in
+      (omega (arith, a, (s.requires.sizes l.loop-workflow.workflow t.loop-workflow-test.true).0), omega (arith, a, b))
 
 -- the verdict on a workflow
-told : (c : tie.After-check-workflow invariant-loop decreases-loop) →
+told : (c : tie.After-check_workflow-v invariant-loop decreases-loop) →
     let l = c.before.before.before.before.before in
-    c.check_workflow.result ≡ verdict_of (workflow_no (lent l) l.loop.workflow)
-told c = c.check_workflow.ensures ∙ ap verdict_of (workflow_here c.before)
+    c.check_workflow-v.result ≡ verdict_of (workflow_no (lent l) l.loop-workflow.workflow)
+told c = c.check_workflow-v.ensures ∙ ap verdict_of (workflow_here c.before)
 
 pub check_workflows_spec : {M : Type 1} → statement M
 check_workflows_spec =
@@ -131,7 +131,7 @@ check_workflows_spec =
     (λ c κs. search rules)
     (λ c κs. search rules)
     loop_holds
-    (λ c κs. ((began c.before).pre, c.loop-test.true))
+    (λ c κs. ((began c.before).requires, c.loop-workflow-test.true))
     (λ c. omega (arith, operations_fit c, short c))
     (λ c κs. operations_fit c)
     (λ c. omega (arith, few c.before))
@@ -143,7 +143,7 @@ check_workflows_spec =
     (λ c.
     let k = c.before.before in
     let t = k.before.before.before.before in
-    first_stop _ _ _ t.loop-test.true _ _ _ _ (told k) c.enum_told.given.1 ∙ ap verdict_of (sym t.before.loop.invariant.2))
+    first_stop _ _ _ t.loop-workflow-test.true _ _ _ _ (told k) c.enum_told-1.given.1 ∙ ap verdict_of (sym t.before.loop-workflow.invariant.2))
     (λ c. search rules)
     (λ c. omega (arith, few c.before.before.before.before.before))
     (λ c. search rules)
@@ -156,10 +156,10 @@ check_workflows_spec =
       omega arith,
       omega (
         arith,
-        first_next (lent l) l.loop.workflow,
-        l.loop.invariant.1,
-        z.size_at.ensures,
+        first_next (lent l) l.loop-workflow.workflow,
+        l.loop-workflow.invariant.1,
+        z.size_at-size.ensures,
       ),
-      l.loop.invariant.2 ∙ first_yes _ _ _ t.loop-test.true _ (told k) c.enum-told2.given.1,
+      l.loop-workflow.invariant.2 ∙ first_yes _ _ _ t.loop-workflow-test.true _ (told k) c.enum_told-in_default-1.given.1,
     ))
-    (λ c. ap verdict_of (sym (c.before.loop.invariant.2 ∙ first_done _ _ _ c.loop-test.false))))
+    (λ c. ap verdict_of (sym (c.before.loop-workflow.invariant.2 ∙ first_done _ _ _ c.loop-workflow-test.false))))

@@ -11,11 +11,11 @@ use Rattle.pack.proofs.Sizes.{size_low, size_high, size_in}
 use Rattle.pack.proofs.sizes_in_range.Statement.{statement}
 use Rattle.pack.proofs.sizes_in_range.Tie as tie
 
-abbrev invariant-loop : tie.invariant-loop
+abbrev invariant-loop : tie.invariant-loop-workflow
 invariant-loop pack m workflow₀ workflow =
     (workflow ≤ m) × (each m (size_right pack) ≡ each_from (size_right pack) (m - workflow) workflow)
 
-abbrev decreases-loop : tie.decreases-loop
+abbrev decreases-loop : tie.decreases-loop-workflow
 decreases-loop pack m workflow₀ workflow = m - workflow
 
 pub sizes_in_range_spec : {M : Type 1} → statement M
@@ -30,18 +30,18 @@ sizes_in_range_spec =
     (λ c κs. search rules)
     (λ c.
     let l = c.before.before in
-    sym (l.before.loop.invariant.1 ∙ each_fails _ _ _ l.loop-test.true (size_low _ _ _ c.before.read16.ensures c.if1.true)))
+    sym (l.before.loop-workflow.invariant.1 ∙ each_fails _ _ _ l.loop-workflow-test.true (size_low _ _ _ c.before.read16-size.ensures c.if-size-lt1.true)))
     (λ c.
     let l = c.before.before.before in
-    sym (l.before.loop.invariant.1
-    ∙ each_fails _ _ _ l.loop-test.true (size_high _ _ _ c.before.before.read16.ensures c.if2.true)))
+    sym (l.before.loop-workflow.invariant.1
+    ∙ each_fails _ _ _ l.loop-workflow-test.true (size_high _ _ _ c.before.before.read16-size.ensures c.if-size-gt256.true)))
     (λ c. search rules)
     (λ c. search rules)
     (λ c.
     let l = c.before.before.before in (
       omega arith,
-      l.before.loop.invariant.1
-          ∙ each_more _ _ _ l.loop-test.true
-          (size_in _ _ _ c.before.before.read16.ensures c.before.if1.false c.if2.false),
+      l.before.loop-workflow.invariant.1
+          ∙ each_more _ _ _ l.loop-workflow-test.true
+          (size_in _ _ _ c.before.before.read16-size.ensures c.before.if-size-lt1.false c.if-size-gt256.false),
     ))
-    (λ c. sym (c.before.loop.invariant.1 ∙ each_none _ _ _ c.loop-test.false)))
+    (λ c. sym (c.before.loop-workflow.invariant.1 ∙ each_none _ _ _ c.loop-workflow-test.false)))

@@ -132,22 +132,22 @@ module _ {M : Type 1} {𝓤 : Ura M} (𝓛 : Logic 𝓤) (mem : Memory → SProp
   abbrev to_words : (Words 𝓛 mem run).Ghost
   to_words = (((κ, tt), (q, tt), tt, (d, tt), (mach ∷ [], tt)), tt)
 
-  goes_bytes : ent 𝓤 (⋆ 𝓛 (‵ Own ∷ (‵ (flft κ q) ⊛ ‵ ftrue) ∷ [])) ((Bytes 𝓛 mem run).pre to_bytes)
+  goes_bytes : ent 𝓤 (⋆ 𝓛 (‵ Own ∷ (‵ (flft κ q) ⊛ ‵ ftrue) ∷ [])) ((Bytes 𝓛 mem run).requires to_bytes)
   goes_bytes = qed 𝓛 (‵ Own ∷ (‵ (flft κ q) ⊛ ‵ ftrue) ∷ []) ∵ nothing ! $ move ! (1 ∷ 0 ∷ []) $ fjoin ! $ move ! (1 ∷ 0 ∷ []) $
       join ! $ frame ! $ done !
 
-  goes_words : ent 𝓤 (⋆ 𝓛 (‵ Own ∷ (‵ (flft κ q) ⊛ ‵ ftrue) ∷ [])) ((Words 𝓛 mem run).pre to_words)
+  goes_words : ent 𝓤 (⋆ 𝓛 (‵ Own ∷ (‵ (flft κ q) ⊛ ‵ ftrue) ∷ [])) ((Words 𝓛 mem run).requires to_words)
   goes_words = qed 𝓛 (‵ Own ∷ (‵ (flft κ q) ⊛ ‵ ftrue) ∷ []) ∵ nothing ! $ move ! (1 ∷ 0 ∷ []) $ fjoin ! $ move ! (1 ∷ 0 ∷ []) $
       join ! $ frame ! $ done !
 
   -- what the struct owns, three times, and what `operations` asks of one
-  begins : ent 𝓤 (on_entry 𝓛 fn.signature (κ, tt) (q, tt) (d, (i, tt)) at) (sep 𝓤 ((Bytes 𝓛 mem run).pre to_bytes) (sep 𝓤 (sem 𝓛 Own) (sem 𝓛 Own)))
+  begins : ent 𝓤 (on_entry 𝓛 fn.signature (κ, tt) (q, tt) (d, (i, tt)) at) (sep 𝓤 ((Bytes 𝓛 mem run).requires to_bytes) (sep 𝓤 (sem 𝓛 Own) (sem 𝓛 Own)))
   begins =
       qed 𝓛 ((‵ (flft κ q) ⊛ ‵ ftrue) ∷ ‵ (owns (B (κ, tt) ∷ usize ∷ []) (d, (i, tt)) at) ∷ []) ∵
       move ! (1 ∷ []) $ fsplit ! $ move ! (1 ∷ []) $ drop ! $ use1 𝓛 (‵ Own ⊛ ‵ Own) ((LL.copy D (T'.the_copy (named_lft 1 0 tt (κ, tt)))
       𝓛).twice d (mach ∷ [])) $ split ! $
       use1 𝓛 (‵ Own ⊛ ‵ Own) ((LL.copy D (T'.the_copy (named_lft 1 0 tt (κ, tt))) 𝓛).twice d (mach ∷ [])) $ split ! $
-      move ! (0 ∷ 3 ∷ []) $ use2 𝓛 (raw ((Bytes 𝓛 mem run).pre to_bytes)) goes_bytes $ done !
+      move ! (0 ∷ 3 ∷ []) $ use2 𝓛 (raw ((Bytes 𝓛 mem run).requires to_bytes)) goes_bytes $ done !
 
   -- the call of `instruction_in`, at the parts s and t with the machine values u and v
   abbrev passed : Val → Val → Vals callee.signature (κ, tt)
@@ -157,7 +157,7 @@ module _ {M : Type 1} {𝓤 : Ura M} (𝓛 : Logic 𝓤) (mem : Memory → SProp
   to_callee s t u v = (((κ, tt), (q, tt), tt, (s, (t, (i, tt))), passed u v), tt)
 
   goes_callee : (s t : Bor (List ℕ)) (u v : Val) → ent 𝓤 (⋆ 𝓛 ((‵ (Part s u) ⊛ ‵ (Part t v)) ∷ (‵ (flft κ q) ⊛ ‵ ftrue) ∷ []))
-      ((Callee 𝓛 mem run).pre (to_callee s t u v))
+      ((Callee 𝓛 mem run).requires (to_callee s t u v))
   goes_callee s t u v =
       qed 𝓛 ((‵ (Part s u) ⊛ ‵ (Part t v)) ∷ (‵ (flft κ q) ⊛ ‵ ftrue) ∷ []) ∵
       split ! $ nothing ! $ owned ! usize (Is usize) (uint_Makes 𝓛 w64) i _ (refl, fi) $ fjoin ! $ move ! (2 ∷ 0 ∷ []) $ fjoin ! $
@@ -201,7 +201,7 @@ module _ {M : Type 1} {𝓤 : Ura M} (𝓛 : Logic 𝓤) (mem : Memory → SProp
         alloc1 ! (λ l₀. alloc1 ! (λ l₁. alloc1 ! (λ l₂. alloc1 ! (λ l₃. alloc1 ! (λ l₄. alloc1 ! (λ l₅. alloc1 ! (λ l₆. alloc0 ! $
         params1 ! $ pass1 ! (init ! 10 refl wt) $ pass1 ! (init ! 8 refl (tt, record { fits = fi })) $ pass0 ! $
         assigns ! (of_opd ! (load ! (from ! (stop !)) (look ! 10 refl))) (from ! (stop !)) (init ! 4 refl wtᵉ) $
-        move ! (14 ∷ []) $ use1 𝓛 (raw ((Bytes 𝓛 mem run).pre to_bytes) ⊛ (‵ Own ⊛ ‵ Own)) begins $ split ! $
+        move ! (14 ∷ []) $ use1 𝓛 (raw ((Bytes 𝓛 mem run).requires to_bytes) ⊛ (‵ Own ⊛ ‵ Own)) begins $ split ! $
         calls_at ! fm (Bytes 𝓛 mem run) known_bytes to_bytes (and_then ! (load ! (from ! (stop !)) (look ! 6 refl)) (no_more !)) (λ u.
         use1 𝓛 (later (some (λ (s : Bor (List ℕ)). ((‵ (flft κ q) ⊛ ‵ ftrue) ⊛ ‵ (Part s u)) ⊛ raw (ensured 𝓛 bytes.ended
         (bytes.clauses 𝓛 mem run) (κ, tt) (d, tt) tt s)))) (id⊢ 𝓤 _) $ await ! tt $ pick ! (λ s.
@@ -211,7 +211,7 @@ module _ {M : Type 1} {𝓤 : Ura M} (𝓛 : Logic 𝓤) (mem : Memory → SProp
         peeks ! (ShrSlice (named 0) κ u8) (Is (ShrSlice (named 0) κ u8)) (shows 𝓛 (ShrSlice (named 0) κ u8)) s (u ∷ []) (λ is.
         land ! (from ! (stop !)) (init ! 9 refl ((shr_slice_Lawful 𝓛 erased κ u8).typed s _ is).0) $
         assigns ! (of_opd ! (load ! (from ! (stop !)) (look ! 13 refl))) (from ! (stop !)) (init ! 3 refl wtᵉ) $
-        move ! (2 ∷ []) $ split ! $ move ! (0 ∷ 3 ∷ []) $ use2 𝓛 (raw ((Words 𝓛 mem run).pre to_words)) goes_words $
+        move ! (2 ∷ []) $ split ! $ move ! (0 ∷ 3 ∷ []) $ use2 𝓛 (raw ((Words 𝓛 mem run).requires to_words)) goes_words $
         calls_at ! fm (Words 𝓛 mem run) known_words to_words (and_then ! (load ! (from ! (stop !)) (look ! 3 refl)) (no_more !)) (λ v.
         use1 𝓛 (later (some (λ (t : Bor (List ℕ)). ((‵ (flft κ q) ⊛ ‵ ftrue) ⊛ ‵ (Part t v)) ⊛ raw (ensured 𝓛 words.ended
         (words.clauses 𝓛 mem run) (κ, tt) (d, tt) tt t)))) (id⊢ 𝓤 _) $ await ! tt $ pick ! (λ t.
@@ -220,7 +220,7 @@ module _ {M : Type 1} {𝓤 : Ura M} (𝓛 : Logic 𝓤) (mem : Memory → SProp
         -- [the operand bytes; the token; what the struct owns; the operation bytes; _6; …]
         peeks ! (ShrSlice (named 0) κ u8) (Is (ShrSlice (named 0) κ u8)) (shows 𝓛 (ShrSlice (named 0) κ u8)) t (v ∷ []) (λ is'.
         land ! (from ! (stop !)) (init ! 6 refl ((shr_slice_Lawful 𝓛 erased κ u8).typed t _ is').0) $
-        move ! (3 ∷ 0 ∷ 1 ∷ []) $ join ! $ use2 𝓛 (raw ((Callee 𝓛 mem run).pre (to_callee s t u v))) (goes_callee s t u v) $
+        move ! (3 ∷ 0 ∷ 1 ∷ []) $ join ! $ use2 𝓛 (raw ((Callee 𝓛 mem run).requires (to_callee s t u v))) (goes_callee s t u v) $
         calls_at ! fm (Callee 𝓛 mem run) known (to_callee s t u v) (and_then ! (load ! (from ! (stop !)) (look ! 8 refl))
         (and_then ! (load ! (from ! (stop !)) (look ! 4 refl)) (and_then ! (load ! (from ! (stop !)) (look ! 10 refl)) (no_more !)))) (λ z.
         use1 𝓛 (later (some (λ (x : Instruction). ((‵ (flft κ q) ⊛ ‵ ftrue) ⊛ ‵ ((S.the_row).own_val x (z ∷ []))) ⊛ raw (ensured

@@ -8,9 +8,9 @@ pub instruction_in_spec : {M : Type 1} → statement M
 instruction_in_spec =
     tie.close
     (tie.spec
-    (λ c. past_end _ _ _ c.if1.true)
+    (λ c. past_end _ _ _ c.if-bytes-index.true)
     (λ c. search rules)
-    (λ c. without_word _ _ _ c.before.before.if1.false c.before.if2.true)
+    (λ c. without_word _ _ _ c.before.before.if-bytes-index.false c.before.if-words-index.true)
     (λ c. search rules)
     (λ c κs. search rules)
-    (λ c. with_word _ _ _ c.before.before.before.if1.false _ c.word_in.ensures))
+    (λ c. with_word _ _ _ c.before.before.before.if-bytes-index.false _ c.word_in.ensures))

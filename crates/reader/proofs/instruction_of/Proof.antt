@@ -109,13 +109,13 @@ module _ {M : Type 1} {𝓤 : Ura M} (𝓛 : Logic 𝓤) (mem : Memory → SProp
   to_open = (((κ, tt), (q, tt), tt, (s, (w, tt)), (v ∷ [], (vint w32 w ∷ [], tt))), tt)
 
   goes_open : ent 𝓤 (on_entry 𝓛 fn.signature (κ, tt) (q, tt) (s, (w, (i, tt))) at)
-      (sep 𝓤 ((Open 𝓛 mem run).pre to_open) (sem 𝓛 Own))
+      (sep 𝓤 ((Open 𝓛 mem run).requires to_open) (sem 𝓛 Own))
   goes_open =
       qed 𝓛 ((‵ (flft κ q) ⊛ ‵ ftrue) ∷ ‵ (owns (ShrSlice (named 0) κ u8 ∷ u32 ∷ usize ∷ []) (s, (w, (i, tt))) at) ∷ []) ∵
       move ! (1 ∷ []) $ fsplit ! $ move ! (1 ∷ []) $ drop ! $ use1 𝓛 (‵ Own ⊛ ‵ Own)
       ((shr_slice_copy 𝓛 (named 0) κ u8).twice s (v ∷ [])) $ split ! $
       nothing ! $ owned ! u32 (Is u32) (uint_Makes 𝓛 w32) w _ (refl, fw) $ fjoin ! $ move ! (1 ∷ 0 ∷ []) $ fjoin ! $ move !
-      (2 ∷ 0 ∷ []) $ use2 𝓛 (raw ((Open 𝓛 mem run).pre to_open))
+      (2 ∷ 0 ∷ []) $ use2 𝓛 (raw ((Open 𝓛 mem run).requires to_open))
       (qed 𝓛 ((‵ (flft κ q) ⊛ ‵ ftrue) ∷ ‵
       (owns (ShrSlice (named 0) κ u8 ∷ u32 ∷ []) (s, (w, tt)) (v ∷ [], (vint w32 w ∷ [], tt))) ∷ []) ∵ join ! $ frame ! $ done !) $
       frame ! $ done !
@@ -128,7 +128,7 @@ module _ {M : Type 1} {𝓤 : Ura M} (𝓛 : Logic 𝓤) (mem : Memory → SProp
   to_instruction_at r u = (((κ, tt), (q, tt), tt, (r, (i, tt)), (u ∷ [], (vint w64 i ∷ [], tt))), tt)
 
   goes_instruction_at : (r : Reader) (u : Val) →
-      ent 𝓤 (⋆ 𝓛 (‵ ((B (κ, tt)).own_val r (u ∷ [])) ∷ (‵ (flft κ q) ⊛ ‵ ftrue) ∷ [])) ((At 𝓛 mem run).pre (to_instruction_at r u))
+      ent 𝓤 (⋆ 𝓛 (‵ ((B (κ, tt)).own_val r (u ∷ [])) ∷ (‵ (flft κ q) ⊛ ‵ ftrue) ∷ [])) ((At 𝓛 mem run).requires (to_instruction_at r u))
   goes_instruction_at r u =
       qed 𝓛 (‵ ((B (κ, tt)).own_val r (u ∷ [])) ∷ (‵ (flft κ q) ⊛ ‵ ftrue) ∷ []) ∵ nothing ! $ owned ! usize (Is usize)
       (uint_Makes 𝓛 w64) i _ (refl, fi) $ fjoin ! $ move ! (1 ∷ 0 ∷ []) $ fjoin ! $ move ! (1 ∷ 0 ∷ []) $ join ! $ frame ! $ done !
@@ -159,7 +159,7 @@ module _ {M : Type 1} {𝓤 : Ura M} (𝓛 : Logic 𝓤) (mem : Memory → SProp
         (λ l₃. alloc1 ! (λ l₄. alloc0 ! $ params1 ! $ pass1 !
         (init ! 6 refl ((shr_slice_Lawful 𝓛 (named 0) κ u8).typed s (v ∷ []) p).0) $
         pass1 ! (init ! 4 refl (tt, record { fits = fw })) $ pass1 ! (init ! 2 refl (tt, record { fits = fi })) $ pass0 ! $
-        move ! (10 ∷ []) $ use1 𝓛 (raw ((Open 𝓛 mem run).pre to_open) ⊛ ‵ Own) goes_open $ split ! $
+        move ! (10 ∷ []) $ use1 𝓛 (raw ((Open 𝓛 mem run).requires to_open) ⊛ ‵ Own) goes_open $ split ! $
         calls_at ! fm (Open 𝓛 mem run) known_open to_open
         (and_then ! (load ! (from ! (stop !)) (look ! 8 refl)) (and_then ! (load ! (from ! (stop !)) (look ! 6 refl)) (no_more !)))
         (λ u.
@@ -169,7 +169,7 @@ module _ {M : Type 1} {𝓤 : Ura M} (𝓛 : Logic 𝓤) (mem : Memory → SProp
         -- [what the struct owns; the token; what s owns; room for _4; …; _3; …; _2; …; _1; …; room for _0; …]
         peeks ! (B (κ, tt)) (Is (B (κ, tt))) (shows 𝓛 (B (κ, tt))) r (u ∷ []) (λ is.
         land ! (from ! (stop !)) (init ! 3 refl ((LL.lawful (T.the_type αᵉ) (T'.the_laws αᵉ) 𝓛).typed r _ is).0) $
-        use2 𝓛 (raw ((At 𝓛 mem run).pre (to_instruction_at r u))) (goes_instruction_at r u) $
+        use2 𝓛 (raw ((At 𝓛 mem run).requires (to_instruction_at r u))) (goes_instruction_at r u) $
         calls_at ! fm (At 𝓛 mem run) known_instruction_at (to_instruction_at r u)
         (and_then ! (load ! (from ! (stop !)) (look ! 2 refl)) (and_then ! (load ! (from ! (stop !)) (look ! 4 refl)) (no_more !)))
         (λ u'.

@@ -108,13 +108,13 @@ module _ {M : Type 1} {𝓤 : Ura M} (𝓛 : Logic 𝓤) (mem : Memory → SProp
   Found o = o ≡ opening_of s.now w
 
   -- the token and what s owns give what the callee asks, and what s owns is kept
-  apart : ent 𝓤 (⋆ 𝓛 ((‵ (flft κ q) ⊛ ‵ ftrue) ∷ ‵ Own ∷ [])) (sep 𝓤 ((Callee 𝓛 mem run).pre to) (sem 𝓛 Own))
+  apart : ent 𝓤 (⋆ 𝓛 ((‵ (flft κ q) ⊛ ‵ ftrue) ∷ ‵ Own ∷ [])) (sep 𝓤 ((Callee 𝓛 mem run).requires to) (sem 𝓛 Own))
   apart =
       qed 𝓛 ((‵ (flft κ q) ⊛ ‵ ftrue) ∷ ‵ Own ∷ []) ∵ move ! (1 ∷ []) $ use1 𝓛 (‵ Own ⊛ ‵ Own)
       ((shr_slice_copy 𝓛 (named 0) κ u8).twice s (v ∷ [])) $ split ! $
       nothing ! $ owned ! u32 (Is u32) (uint_Makes 𝓛 w32) w _ (refl, fw) $ fjoin ! $ move ! (1 ∷ 0 ∷ []) $ fjoin ! $ move !
       (2 ∷ 0 ∷ []) $
-      use2 𝓛 (raw ((Callee 𝓛 mem run).pre to))
+      use2 𝓛 (raw ((Callee 𝓛 mem run).requires to))
       (qed 𝓛 ((‵ (flft κ q) ⊛ ‵ ftrue) ∷ ‵ (owns (ShrSlice (named 0) κ u8 ∷ u32 ∷ []) (s, (w, tt)) at) ∷ []) ∵ join ! $ frame ! $ done
       !) $ frame ! $ done !
 
@@ -149,7 +149,7 @@ module _ {M : Type 1} {𝓤 : Ura M} (𝓛 : Logic 𝓤) (mem : Memory → SProp
         (init ! 4 refl ((shr_slice_Lawful 𝓛 (named 0) κ u8).typed s (v ∷ []) p).0) $ pass1 !
         (init ! 2 refl (tt, record { fits = fw })) $ pass0 ! $
         -- [_3; …; _2; …; _1; …; room for _0; …; the token; what the parameters own]
-        move ! (9 ∷ []) $ fsplit ! $ move ! (10 ∷ 0 ∷ []) $ use2 𝓛 (raw ((Callee 𝓛 mem run).pre to) ⊛ ‵ Own) apart $ split ! $
+        move ! (9 ∷ []) $ fsplit ! $ move ! (10 ∷ 0 ∷ []) $ use2 𝓛 (raw ((Callee 𝓛 mem run).requires to) ⊛ ‵ Own) apart $ split ! $
         -- [what `opening_of` asks; what s owns; w's; _3; …; _2; …; _1; …]
         calls_at ! fm (Callee 𝓛 mem run) known to
         (and_then ! (load ! (from ! (stop !)) (look ! 7 refl)) (and_then ! (load ! (from ! (stop !)) (look ! 5 refl)) (no_more !)))

@@ -113,14 +113,14 @@ module _ {M : Type 1} {𝓤 : Ura M} (𝓛 : Logic 𝓤) (mem : Memory → SProp
   to = (((κ, tt), (q, tt), tt, (d.pack, (d.operations, (d.size, tt))), passed), tt)
 
   asked : ent 𝓤 (on_entry 𝓛 callee.signature (κ, tt) (q, tt) (d.pack, (d.operations, (d.size, tt))) passed)
-      ((Callee 𝓛 mem run).pre to)
+      ((Callee 𝓛 mem run).requires to)
   asked = qed 𝓛 ((‵ (flft κ q) ⊛ ‵ ftrue) ∷ ‵
       (owns (ShrSlice (named 0) κ u8 ∷ usize ∷ usize ∷ []) (d.pack, (d.operations, (d.size, tt))) passed) ∷ []) ∵ join ! $ frame ! $
       done !
 
   -- what the struct owns gives what the callee asks, and is kept
   apart : d.operations < 2 ^ 64 → d.size < 2 ^ 64 →
-      ent 𝓤 (on_entry 𝓛 fn.signature (κ, tt) (q, tt) (d, tt) at) (sep 𝓤 ((Callee 𝓛 mem run).pre to) (sem 𝓛 Own))
+      ent 𝓤 (on_entry 𝓛 fn.signature (κ, tt) (q, tt) (d, tt) at) (sep 𝓤 ((Callee 𝓛 mem run).requires to) (sem 𝓛 Own))
   apart fb fs =
       qed 𝓛 ((‵ (flft κ q) ⊛ ‵ ftrue) ∷ ‵ (owns (B (κ, tt) ∷ []) (d, tt) at) ∷ []) ∵
       move ! (1 ∷ []) $ fsplit ! $ move ! (1 ∷ []) $ drop ! $ use1 𝓛 (‵ Own ⊛ ‵ Own)
@@ -131,7 +131,7 @@ module _ {M : Type 1} {𝓤 : Ura M} (𝓛 : Logic 𝓤) (mem : Memory → SProp
       move ! (1 ∷ []) $ drop ! $ nothing ! $ owned ! usize (Is usize) (uint_Makes 𝓛 w64) d.size _
       (refl, fs) $ fjoin ! $ owned ! usize (Is usize) (uint_Makes 𝓛 w64) d.operations _ (refl, fb) $ fjoin ! $ move !
       (1 ∷ 0 ∷ []) $ fjoin ! $
-      move ! (2 ∷ 0 ∷ []) $ use2 𝓛 (raw ((Callee 𝓛 mem run).pre to)) asked $ frame ! $ done !)
+      move ! (2 ∷ 0 ∷ []) $ use2 𝓛 (raw ((Callee 𝓛 mem run).requires to)) asked $ frame ! $ done !)
 
   -- of the callee's `ensured`, the clause alone: it has no `&mut`, so what is said of last values is dropped
   said : (r : Bor (List ℕ)) →
@@ -161,7 +161,7 @@ module _ {M : Type 1} {𝓤 : Ura M} (𝓛 : Logic 𝓤) (mem : Memory → SProp
         (init ! 2 refl (tt, wt.1.1.1.1.0)) $
         assigns ! (of_opd ! (load ! (from ! (fld ! refl (stop !))) (look_in ! 6 (sub ! 5 refl (whole !))))) (from ! (stop !))
         (init ! 0 refl (tt, wt.1.1.1.1.1.1.0)) $
-        move ! (10 ∷ []) $ use1 𝓛 (raw ((Callee 𝓛 mem run).pre to) ⊛ ‵ Own)
+        move ! (10 ∷ []) $ use1 𝓛 (raw ((Callee 𝓛 mem run).requires to) ⊛ ‵ Own)
         (apart wt.1.1.1.1.0.fits wt.1.1.1.1.1.1.0.fits) $ split ! $
         calls_at ! fm (Callee 𝓛 mem run) known to
         (and_then ! (load ! (from ! (stop !)) (look ! 6 refl))

@@ -9,18 +9,18 @@ use Rattle.retiring.proofs.Logs.{logs_none, logs_more}
 use Rattle.retiring.proofs.retire_logs.Statement.{statement}
 use Rattle.retiring.proofs.retire_logs.Tie as tie
 
-abbrev invariant-loop : tie.invariant-loop
+abbrev invariant-loop : tie.invariant-loop-partition
 invariant-loop store₀ floor parts low partition₀ store partition =
     (partition ≤ parts) × (length store ≡ length store₀) × LogsFrom floor store₀ store partition
 
-abbrev decreases-loop : tie.decreases-loop
+abbrev decreases-loop : tie.decreases-loop-partition
 decreases-loop store₀ floor parts low partition₀ store partition = parts - partition
 
 -- where P is read and the beginning, from the loop
-abbrev counted : tie.At-loop invariant-loop decreases-loop → tie.After-partition-count invariant-loop decreases-loop
+abbrev counted : tie.At-loop-partition invariant-loop decreases-loop → tie.After-partition_count-parts invariant-loop decreases-loop
 counted lp = lp.before.before
 
-abbrev start : tie.At-loop invariant-loop decreases-loop → tie.Start invariant-loop decreases-loop
+abbrev start : tie.At-loop-partition invariant-loop decreases-loop → tie.Start invariant-loop decreases-loop
 start lp = (counted lp).before.before.before
 
 pub retire_logs_spec : {M : Type 1} → statement M
@@ -34,23 +34,23 @@ retire_logs_spec =
     (λ c. let st = c.before.before.before.before in
     (omega arith, refl, logs_none st.args.floor st.args.store.now st.requires))
     (λ c κs. let lp = c.before.before in
-    let g = lp.loop.invariant.2 in
-    (g.sound, omega (arith, c.before.loop-test.true, (counted lp).partition_count.ensures, g.parts)))
+    let g = lp.loop-partition.invariant.2 in
+    (g.sound, omega (arith, c.before.loop-partition-test.true, (counted lp).partition_count-parts.ensures, g.parts)))
     (λ c. let il = c.before.before.before.before in
     let lp = il.before in
-    omega (arith, il.loop-test.true, (counted lp).partition_count.ensures, (start lp).requires.formed.shape.parts_high))
-    (λ c. omega (arith, c.before.before.before.before.loop-test.true))
+    omega (arith, il.loop-partition-test.true, (counted lp).partition_count-parts.ensures, (start lp).requires.formed.shape.parts_high))
+    (λ c. omega (arith, c.before.before.before.before.loop-partition-test.true))
     (λ c. let kf = c.before.before in
     let il = kf.before.before in
     let lp = il.before in
     let a = (start lp).args in (
-      omega (arith, il.loop-test.true),
-      kf.keep_from.auto.0 ∙ lp.loop.invariant.1,
-      logs_more a.floor a.store.now lp.loop.store kf.keep_from.new.0 lp.loop.partition lp.before.log_key_lem.result
-          lp.loop.invariant.2 lp.before.log_key_lem.ensures.0 kf.keep_from.ensures.0,
+      omega (arith, il.loop-partition-test.true),
+      kf.keep_from.auto.0 ∙ lp.loop-partition.invariant.1,
+      logs_more a.floor a.store.now lp.loop-partition.store kf.keep_from.new.0 lp.loop-partition.partition lp.before.log_key_lem.result
+          lp.loop-partition.invariant.2 lp.before.log_key_lem.ensures.0 kf.keep_from.ensures.0,
     ))
-    (λ c. c.before.loop.invariant.1)
+    (λ c. c.before.loop-partition.invariant.1)
     (λ c. let lp = c.before in
     let a = (start lp).args in
-    subst (LogsFrom a.floor a.store.now lp.loop.store)
-    (omega (arith, c.loop-test.false, lp.loop.invariant.0, (counted lp).partition_count.ensures)) lp.loop.invariant.2))
+    subst (LogsFrom a.floor a.store.now lp.loop-partition.store)
+    (omega (arith, c.loop-partition-test.false, lp.loop-partition.invariant.0, (counted lp).partition_count-parts.ensures)) lp.loop-partition.invariant.2))

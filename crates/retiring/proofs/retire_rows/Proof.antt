@@ -7,10 +7,10 @@ use Rattle.retiring.proofs.retire_rows.Statement.{statement}
 use Rattle.retiring.proofs.retire_rows.Tie as tie
 
 -- where P is read and the beginning, from where the keys are in hand
-abbrev counted : tie.After-floor-key → tie.After-partition-count
+abbrev counted : tie.After-floor_key-key → tie.After-partition_count-parts
 counted c = c.before.before
 
-abbrev start : tie.After-floor-key → tie.Start
+abbrev start : tie.After-floor_key-key → tie.Start
 start c = (counted c).before.before.before
 
 pub retire_rows_spec : {M : Type 1} → statement M
@@ -24,9 +24,9 @@ retire_rows_spec =
     let pc = counted fk in
     let st = start fk in
     let a = st.args in (
-      ((store_ok a.store.now st.pre.0).0, omega (arith, pc.partition_count.ensures)),
-      book_asked a.store.now a.floor fk.before.book_key_lem.ensures.1 st.pre.0 st.pre.1 pc.partition_count.result
-          fk.before.book_key_lem.result fk.floor_key_lem.result pc.partition_count.ensures fk.before.book_key_lem.ensures.0
+      ((store_ok a.store.now st.requires.0).0, omega (arith, pc.partition_count-parts.ensures)),
+      book_asked a.store.now a.floor fk.before.book_key_lem.ensures.1 st.requires.0 st.requires.1 pc.partition_count-parts.result
+          fk.before.book_key_lem.result fk.floor_key_lem.result pc.partition_count-parts.ensures fk.before.book_key_lem.ensures.0
           fk.floor_key_lem.ensures,
     ))
     (λ c κs. c.before.before.before.keep_and_put.ensures.sound)
@@ -37,7 +37,7 @@ retire_rows_spec =
     let pc = counted fk in
     let st = start fk in
     let a = st.args in
-    made a.store.now a.floor fk.before.book_key_lem.ensures.1 st.pre.0 st.pre.1 kp.keep_and_put.new.0
-    rl.retire_logs.new.0 pc.partition_count.result fk.before.book_key_lem.result fk.floor_key_lem.result
-    pc.partition_count.ensures fk.before.book_key_lem.ensures.0 fk.floor_key_lem.ensures kp.keep_and_put.ensures
+    made a.store.now a.floor fk.before.book_key_lem.ensures.1 st.requires.0 st.requires.1 kp.keep_and_put.new.0
+    rl.retire_logs.new.0 pc.partition_count-parts.result fk.before.book_key_lem.result fk.floor_key_lem.result
+    pc.partition_count-parts.ensures fk.before.book_key_lem.ensures.0 fk.floor_key_lem.ensures kp.keep_and_put.ensures
     rl.retire_logs.ensures))

@@ -19,18 +19,18 @@ use Rattle.runtime.proofs.add.Statement.{statement}
 use Rattle.runtime.proofs.add.Tie as tie
 
 -- where the call began, from a yes to 1 to 14 and 25 on
-abbrev start : tie.After-enum-told → tie.Start
+abbrev start : tie.In-Accepted → tie.Start
 start c = c.before.before.before.before.before
 
 -- 1 to 14 and 25 say yes
-begun : (c : tie.After-enum-told) →
+begun : (c : tie.In-Accepted) →
     let a = (start c).args in
     list_refusal a.pack.now (record { store = a.store.now; records = a.agents; list = a.list }) ≡ none
-begun c = let k = c.before.before in accepted_none k.check_to_25.result _ k.check_to_25.ensures c.enum_told.given.1
+begun c = let k = c.before.before in accepted_none k.check_to_25-v.result _ k.check_to_25-v.ensures c.enum_told-1.given.1
 
 -- 26 says yes too
-room : (c : tie.Else1) → let a = (start c.before.before).args in can_list a.id (worklist_of a.list) ≡ true
-room c = sym c.before.can_list.ensures ∙ not-false _ c.if1.false
+room : (c : tie.Else-not-can_list) → let a = (start c.before.before).args in can_list a.id (worklist_of a.list) ≡ true
+room c = sym c.before.can_list.ensures ∙ not-false _ c.if-not-can_list.false
 
 pub add_spec : {M : Type 1} → statement M
 unfolding Contents.contents_of
@@ -44,7 +44,7 @@ add_spec =
     (λ c.
     let k = c.before.before in
     is_unlisted _ _ _ _ 26 0 0
-    (add_26 _ _ (begun k.before) _ (sym k.can_list.ensures ∙ not-true _ c.before.if1.true)) c.unlisted.ensures)
+    (add_26 _ _ (begun k.before) _ (sym k.can_list.ensures ∙ not-true _ c.before.if-not-can_list.true)) c.unlisted.ensures)
     (λ c κs. (store_ok _ (lent_store _ _ (list_lent _ _ (begun c.before.before)))).0)
     (λ c. search rules)
     (λ c κs.
@@ -61,8 +61,8 @@ add_spec =
     let t = e.before.before in
     let s = (start t).args in
     adds _ _ (begun t) s.id (room e) _
-    (booked_some (book_rows s.store.now) s.id k.booked_workflow.ensures.1 k.booked_workflow.result
-    k.booked_workflow.ensures.0 _ y.enum-told2.given.1)
+    (booked_some (book_rows s.store.now) s.id k.booked_workflow-g.ensures.1 k.booked_workflow-g.result
+    k.booked_workflow-g.ensures.0 _ y.enum_told-in-Value-1.given.1)
     _ c.with_id.ensures)
     (λ c.
     let y = c.before in
@@ -72,12 +72,12 @@ add_spec =
     let s = (start t).args in
     is_unlisted _ _ _ _ 20 0 0
     (add_20 _ _ (begun t) s.id (room e)
-    (booked_none (book_rows s.store.now) s.id k.booked_workflow.ensures.1 k.booked_workflow.result
-    k.booked_workflow.ensures.0 y.enum-told3.given.1))
-    c.unlisted2.ensures)
+    (booked_none (book_rows s.store.now) s.id k.booked_workflow-g.ensures.1 k.booked_workflow-g.result
+    k.booked_workflow-g.ensures.0 y.enum_told-in-Absent-1.given.1))
+    c.unlisted-in-Absent.ensures)
     (λ c.
     let v = c.before.before in
     let k = v.before.before in
     is_unlisted _ _ _ _ _ _ _
-    (add_stops _ _ _ (refused_some k.check_to_25.result _ _ _ _ k.check_to_25.ensures v.v.given.1) _)
-    c.unlisted3.ensures))
+    (add_stops _ _ _ (refused_some k.check_to_25-v.result _ _ _ _ k.check_to_25-v.ensures v.v-1.given.1) _)
+    c.unlisted-in-Refused.ensures))

@@ -32,24 +32,24 @@ use Rattle.runtime.proofs.arrival.Statement.{statement}
 use Rattle.runtime.proofs.arrival.Tie as tie
 
 -- where the call began, from a yes to 1 to 16 on
-abbrev start : tie.After-enum-told → tie.Start
+abbrev start : tie.In-Accepted → tie.Start
 start c = c.before.before.before.before.before.before
 
 -- 1 to 16 say yes
-begun : (c : tie.After-enum-told) (list : Worklist) →
+begun : (c : tie.In-Accepted) (list : Worklist) →
     let a = (start c).args in
     first_sixteen a.pack.now (record { store = a.store.now; records = a.agents; list = list }) a.slot false ≡ none
-begun c list = let k = c.before.before in accepted_none k.check_to_16.result _ (k.check_to_16.ensures list) c.enum_told.given.1
+begun c list = let k = c.before.before in accepted_none k.check_to_16-v.result _ (k.check_to_16-v.ensures list) c.enum_told-1.given.1
 
-lent_yes : (c : tie.After-enum-told) (list : Worklist) →
+lent_yes : (c : tie.In-Accepted) (list : Worklist) →
     let a = (start c).args in
     lent_refusal a.pack.now (record { store = a.store.now; records = a.agents; list = list }) ≡ none
 lent_yes c list = let a = (start c).args in begun_lent _ _ a.slot false (begun c list)
 
-below : (c : tie.After-enum-told) → (start c).args.slot < 8
+below : (c : tie.In-Accepted) → (start c).args.slot < 8
 below c = begun_below _ _ _ false (begun c no_worklist)
 
-tidied : (c : tie.After-enum-told) → Tidy (start c).args.agents
+tidied : (c : tie.In-Accepted) → Tidy (start c).args.agents
 tidied c =
     let s = start c in
     tidy_typed s.args.pack.now (record { store = s.args.store.now; records = s.args.agents; list = no_worklist }) _
@@ -57,7 +57,7 @@ tidied c =
     (lent_14 _ _ (lent_yes c no_worklist))
 
 -- that yes, from behind 17
-abbrev yes_16 : tie.Else3 → tie.After-enum-told
+abbrev yes_16 : tie.Else-count_of-q → tie.In-Accepted
 yes_16 c = c.before.before.before.before.before.before.before
 
 -- what 30 asks: the floor that was read is the store's
@@ -66,7 +66,7 @@ unfolding contents_of
 floor_is c = c.floor.ensures
 
 -- behind 17 only 18 and 19 are left
-later : (c : tie.Else3) (list : Worklist) →
+later : (c : tie.Else-count_of-q) (list : Worklist) →
     let a = (start (yes_16 c)).args in
     refusal_for a.pack.now (record { store = a.store.now; records = a.agents; list = list })
     (Calls.arrival a.slot a.id a.q.workflow (asked a.q).arguments)
@@ -78,9 +78,9 @@ later c list =
     let t = yes_16 c in
     let s = (start t).args in
     arrival_left _ _ s.slot s.id s.q.workflow _ (begun t list)
-    ∙ booking_left s.id _ s.q.workflow (length (pack_of s.pack.now)) _ f.before.before.if1.false
-    (omega (arith, m.before.if2.false, floor_is f))
-    (omega (arith, c.if3.false, m.count_of.ensures, length_pack s.pack.now))
+    ∙ booking_left s.id _ s.q.workflow (length (pack_of s.pack.now)) _ f.before.before.if-id-eq0.false
+    (omega (arith, m.before.if-id-floor.false, floor_is f))
+    (omega (arith, c.if-count_of-q.false, m.count_of.ensures, length_pack s.pack.now))
 
 pub arrival_spec : {M : Type 1} → statement M
 unfolding state_of record_of Calls.rule Answers.answer_of
@@ -97,7 +97,7 @@ arrival_spec =
     λ list.
     is_refused _ _ _ _ 24 0 0
     (arrival_left _ _ s.slot s.id s.q.workflow _ (begun t list)
-    ∙ zero_no_lem s.id _ s.q.workflow (length (pack_of s.pack.now)) _ c.before.if1.true) c.refused.ensures)
+    ∙ zero_no_lem s.id _ s.q.workflow (length (pack_of s.pack.now)) _ c.before.if-id-eq0.true) c.refused.ensures)
     (λ c κs. (store_ok _ (lent_store _ _ (lent_yes c.before.before no_worklist))).0)
     (λ c κs. search rules)
     (λ c. search rules)
@@ -108,8 +108,8 @@ arrival_spec =
     λ list.
     is_refused _ _ _ _ 30 0 0
     (arrival_left _ _ s.slot s.id s.q.workflow _ (begun t list)
-    ∙ floor_no s.id _ s.q.workflow (length (pack_of s.pack.now)) _ f.before.before.if1.false
-    (omega (arith, c.before.if2.true, floor_is f))) c.refused2.ensures)
+    ∙ floor_no s.id _ s.q.workflow (length (pack_of s.pack.now)) _ f.before.before.if-id-eq0.false
+    (omega (arith, c.before.if-id-floor.true, floor_is f))) c.refused-then-id-floor.ensures)
     (λ c κs. omega (arith, (accepted_laid _ (lent_pack _ _ (lent_yes c.before.before.before.before no_worklist))).whole))
     (λ c κs. search rules)
     (λ c. search rules)
@@ -121,15 +121,15 @@ arrival_spec =
     λ list.
     is_refused _ _ _ _ 17 0 0
     (arrival_left _ _ s.slot s.id s.q.workflow _ (begun t list)
-    ∙ workflow_no_lem s.id _ s.q.workflow (length (pack_of s.pack.now)) _ f.before.before.if1.false
-    (omega (arith, m.before.if2.false, floor_is f))
-    (omega (arith, c.before.if3.true, m.count_of.ensures, length_pack s.pack.now)))
-    c.refused3.ensures)
+    ∙ workflow_no_lem s.id _ s.q.workflow (length (pack_of s.pack.now)) _ f.before.before.if-id-eq0.false
+    (omega (arith, m.before.if-id-floor.false, floor_is f))
+    (omega (arith, c.before.if-count_of-q.true, m.count_of.ensures, length_pack s.pack.now)))
+    c.refused-then-count_of-q.ensures)
     (λ c κs.
     let e = c.before in
     let f = e.before.before.before.before in (
       lent_store _ _ (lent_yes f.before.before.before no_worklist),
-      omega (arith, e.before.before.before.if2.false, f.floor.ensures),
+      omega (arith, e.before.before.before.if-id-floor.false, f.floor.ensures),
     ))
     (λ c. search rules)
     (λ c κs. search rules)
@@ -147,13 +147,13 @@ arrival_spec =
     let e = k.before.before in
     let t = yes_16 e in
     let s = (start t).args in
-    let yes_both = accepted_none k.book_request.result _ k.book_request.ensures.answer y.enum-told2.given.1 in
+    let yes_both = accepted_none k.book_request-b.result _ k.book_request-b.ensures.answer y.enum_told-in-Accepted-b-1.given.1 in
     λ list.
     is_done _ _ _ _ _ _ s.slot (some (record { id = s.id; course = Calls.start (asked s.q); step = 0 })) _ _ (tidied t) (below t)
     (later e list ∙ yes_both) (arrives (state_of (record { store = s.store.now; records = s.agents; list = list })) s.slot s.id
     (asked s.q) _
     (as_booked_lem _ s.id (asked s.q) yes_both))
-    (k.book_request.ensures.written yes_both) (ap (λ (o : Outcome). Answers.answer_of o.answer) c.done.ensures)
+    (k.book_request-b.ensures.written yes_both) (ap (λ (o : Outcome). Answers.answer_of o.answer) c.done.ensures)
     (ap (λ (o : Outcome). o.agents) c.done.ensures ∙ w.with_agent.ensures
     ∙ ap (set s.agents s.slot) w.before.started.ensures))
     (λ c. search rules)
@@ -163,13 +163,13 @@ arrival_spec =
     let e = k.before.before in
     let s = (start (yes_16 e)).args in
     λ list.
-    is_unbooked _ _ _ _ _ s.id (asked s.q) k.book_request.result k.book_request.ensures (later e list)
-    _ _ _ b.b.given.1 c.refused4.ensures)
+    is_unbooked _ _ _ _ _ s.id (asked s.q) k.book_request-b.result k.book_request-b.ensures (later e list)
+    _ _ _ b.b-1.given.1 c.refused-in-Refused-b.ensures)
     (λ c. search rules)
     (λ c.
     let v = c.before.before in
     let k = v.before.before in
     λ list.
     is_refused _ _ _ _ _ _ _
-    (arrival_stops _ _ _ _ _ _ _ (refused_some k.check_to_16.result _ _ _ _ (k.check_to_16.ensures list) v.v.given.1))
-    c.refused5.ensures))
+    (arrival_stops _ _ _ _ _ _ _ (refused_some k.check_to_16-v.result _ _ _ _ (k.check_to_16-v.ensures list) v.v-1.given.1))
+    c.refused-in-Refused.ensures))

@@ -18,18 +18,18 @@ use Rattle.runtime.proofs.done.Statement.{statement}
 use Rattle.runtime.proofs.done.Tie as tie
 
 -- where the call began, from a yes to 1 to 14 and 25 on
-abbrev start : tie.After-enum-told → tie.Start
+abbrev start : tie.In-Accepted → tie.Start
 start c = c.before.before.before.before.before
 
 -- 1 to 14 and 25 say yes
-begun : (c : tie.After-enum-told) →
+begun : (c : tie.In-Accepted) →
     let a = (start c).args in
     list_refusal a.pack.now (record { store = a.store.now; records = a.agents; list = a.list }) ≡ none
-begun c = let k = c.before.before in accepted_none k.check_to_25.result _ k.check_to_25.ensures c.enum_told.given.1
+begun c = let k = c.before.before in accepted_none k.check_to_25-v.result _ k.check_to_25-v.ensures c.enum_told-1.given.1
 
 -- the id is listed as taken
-taken : (c : tie.Else1) → let a = (start c.before.before).args in taken_on a.id (worklist_of a.list) ≡ true
-taken c = sym c.before.is_taken.ensures ∙ not-false _ c.if1.false
+taken : (c : tie.Else-not-is_taken) → let a = (start c.before.before).args in taken_on a.id (worklist_of a.list) ≡ true
+taken c = sym c.before.is_taken.ensures ∙ not-false _ c.if-not-is_taken.false
 
 pub done_spec : {M : Type 1} → statement M
 done_spec =
@@ -42,7 +42,7 @@ done_spec =
     (λ c.
     let k = c.before.before in
     is_unlisted _ _ _ _ 27 0 0
-    (done_not_taken _ _ (begun k.before) _ (sym k.is_taken.ensures ∙ not-true _ c.before.if1.true)) c.unlisted.ensures)
+    (done_not_taken _ _ (begun k.before) _ (sym k.is_taken.ensures ∙ not-true _ c.before.if-not-is_taken.true)) c.unlisted.ensures)
     (λ c κs. let l = list_lent _ _ (begun c.before.before) in (lent_pack _ _ l, lent_store _ _ l, lent_13 _ _ l))
     (λ c. search rules)
     (λ c κs. list_right _ _ (begun c.before.before.before.before.before))
@@ -58,8 +58,8 @@ done_spec =
     let e = k.before in
     let t = e.before.before in
     dones _ _ (begun t) (start t).args.id (taken e)
-    (ap (λ (o : Option Result). is_some o) (through_is _ _ (start t).args.id _ k.reply_logged.ensures _
-    y.enum-told2.given.1).0) _ c.without_id.ensures)
+    (ap (λ (o : Option Result). is_some o) (through_is _ _ (start t).args.id _ k.reply_logged-l.ensures _
+    y.enum_told-in-Through-1.given.1).0) _ c.without_id.ensures)
     (λ c.
     let y = c.before in
     let k = y.before.before in
@@ -67,8 +67,8 @@ done_spec =
     let t = e.before.before in
     is_unlisted _ _ _ _ 27 0 0
     (done_not_through _ _ (begun t) (start t).args.id (taken e)
-    (ap (λ (o : Option Result). is_some o) (not_yet_is _ _ (start t).args.id _ k.reply_logged.ensures
-    y.enum-told3.given.1).0)) c.unlisted2.ensures)
+    (ap (λ (o : Option Result). is_some o) (not_yet_is _ _ (start t).args.id _ k.reply_logged-l.ensures
+    y.enum_told-in-NotYet-1.given.1).0)) c.unlisted-in-NotYet.ensures)
     (λ c.
     let y = c.before in
     let k = y.before.before in
@@ -76,11 +76,11 @@ done_spec =
     let t = e.before.before in
     is_unlisted _ _ _ _ 27 0 0
     (done_not_through _ _ (begun t) (start t).args.id (taken e)
-    (unbooked_not_through _ _ _ (unbooked_is _ _ (start t).args.id _ k.reply_logged.ensures y.enum-told4.given.1)))
-    c.unlisted3.ensures)
+    (unbooked_not_through _ _ _ (unbooked_is _ _ (start t).args.id _ k.reply_logged-l.ensures y.enum_told-in-Unbooked-1.given.1)))
+    c.unlisted-in-Unbooked.ensures)
     (λ c.
     let v = c.before.before in
     let k = v.before.before in
     is_unlisted _ _ _ _ _ _ _
-    (done_stops _ _ _ (refused_some k.check_to_25.result _ _ _ _ k.check_to_25.ensures v.v.given.1) _)
-    c.unlisted4.ensures))
+    (done_stops _ _ _ (refused_some k.check_to_25-v.result _ _ _ _ k.check_to_25-v.ensures v.v-1.given.1) _)
+    c.unlisted-in-Refused.ensures))

@@ -19,17 +19,17 @@ order_spec =
     let k = c.before.before.before.before in
     let a = k.before.before.before.args in (
       λ pack records list.
-          order_done pack (record { store = a.store.now; records = records; list = list }) k.order.new.0 k.order.result
-          k.order.ensures
-          c.enum_told.given.1,
-      λ y. k.order.ensures.made c.enum_told.given.1,
+          order_done pack (record { store = a.store.now; records = records; list = list }) k.order-v.new.0 k.order-v.result
+          k.order-v.ensures
+          c.enum_told-1.given.1,
+      λ y. k.order-v.ensures.made c.enum_told-1.given.1,
     ))
     (λ c. search rules)
     (λ c.
     let k = c.before.before.before.before.before in
     let a = k.before.before.before.args in (
       λ pack records list.
-          order_refused pack (record { store = a.store.now; records = records; list = list }) k.order.new.0 k.order.result
-          k.order.ensures _ _ _ c.before.v.given.1,
+          order_refused pack (record { store = a.store.now; records = records; list = list }) k.order-v.new.0 k.order-v.result
+          k.order-v.ensures _ _ _ c.before.v-1.given.1,
       λ y. no_yes y,
     )))

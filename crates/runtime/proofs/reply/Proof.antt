@@ -10,12 +10,12 @@ use Rattle.runtime.proofs.reply.Statement.{statement}
 use Rattle.runtime.proofs.reply.Tie as tie
 
 -- where the call began, from a yes to 1 to 13 on
-abbrev start : tie.After-enum-told → tie.Start
+abbrev start : tie.In-Accepted → tie.Start
 start c = c.before.before.before.before.before
 
 -- 1 to 13 say yes
-to_13 : (c : tie.After-enum-told) → let a = (start c).args in first_thirteen a.pack.now a.store.now ≡ none
-to_13 c = let k = c.before.before in accepted_none k.check_to_13.result _ k.check_to_13.ensures c.enum_told.given.1
+to_13 : (c : tie.In-Accepted) → let a = (start c).args in first_thirteen a.pack.now a.store.now ≡ none
+to_13 c = let k = c.before.before in accepted_none k.check_to_13-v.result _ k.check_to_13-v.ensures c.enum_told-1.given.1
 
 pub reply_spec : {M : Type 1} → statement M
 reply_spec =
@@ -31,14 +31,14 @@ reply_spec =
     (λ c.
     let y = c.before in
     let k = y.before.before in
-    read_reply _ _ _ (to_13 k.before) _ (through_is _ _ _ _ k.reply_logged.ensures _ y.l.given.1))
+    read_reply _ _ _ (to_13 k.before) _ (through_is _ _ _ _ k.reply_logged-l.ensures _ y.l-1.given.1))
     (λ c.
     let k = c.before.before in
-    read_not_yet _ _ _ (to_13 k.before) (not_yet_is _ _ _ _ k.reply_logged.ensures c.enum-told2.given.1))
+    read_not_yet _ _ _ (to_13 k.before) (not_yet_is _ _ _ _ k.reply_logged-l.ensures c.enum_told-in-NotYet-1.given.1))
     (λ c.
     let k = c.before.before in
-    read_20 _ _ _ (to_13 k.before) (unbooked_is _ _ _ _ k.reply_logged.ensures c.enum-told3.given.1))
+    read_20 _ _ _ (to_13 k.before) (unbooked_is _ _ _ _ k.reply_logged-l.ensures c.enum_told-in-Unbooked-1.given.1))
     (λ c.
     let v = c.before in
     let k = v.before.before in
-    read_refused _ _ _ _ _ _ (refused_some k.check_to_13.result _ _ _ _ k.check_to_13.ensures v.v.given.1)))
+    read_refused _ _ _ _ _ _ (refused_some k.check_to_13-v.result _ _ _ _ k.check_to_13-v.ensures v.v-1.given.1)))

@@ -13,17 +13,17 @@ use Rattle.runtime.proofs.retire.Statement.{statement}
 use Rattle.runtime.proofs.retire.Tie as tie
 
 -- where the call began, from a yes to 1 to 14 and 25 on
-abbrev start : tie.After-enum-told → tie.Start
+abbrev start : tie.In-Accepted → tie.Start
 start c = c.before.before.before.before.before.before
 
 -- 1 to 14 and 25 say yes
-begun : (c : tie.After-enum-told) →
+begun : (c : tie.In-Accepted) →
     let a = (start c).args in
     list_refusal a.pack.now (record { store = a.store.now; records = a.agents; list = a.list }) ≡ none
-begun c = let k = c.before.before in accepted_none k.check_to_25.result _ k.check_to_25.ensures c.enum_told.given.1
+begun c = let k = c.before.before in accepted_none k.check_to_25-v.result _ k.check_to_25-v.ensures c.enum_told-1.given.1
 
 -- that yes, from behind the test of 28 on
-abbrev yes_25 : tie.After-all-retirable → tie.After-enum-told
+abbrev yes_25 : tie.After-all_retirable → tie.In-Accepted
 yes_25 c = c.before.before
 
 pub retire_spec : {M : Type 1} → statement M
@@ -42,7 +42,7 @@ retire_spec =
     (λ c.
     let k = c.before.before in
     is_no _ _ _ _ 28 0 0
-    (retire_28 _ _ (begun (yes_25 k)) _ (sym k.all_retirable.ensures ∙ not-true _ c.before.if1.true)) c.no_of.ensures)
+    (retire_28 _ _ (begun (yes_25 k)) _ (sym k.all_retirable.ensures ∙ not-true _ c.before.if-not-all_retirable.true)) c.no_of.ensures)
     (λ c κs. lent_store _ _ (list_lent _ _ (begun (yes_25 c.before.before))))
     (λ c κs. search rules)
     (λ c. search rules)
@@ -51,12 +51,12 @@ retire_spec =
     let e = b.before.before in
     let k = e.before in
     is_no _ _ _ _ 29 0 0
-    (retire_29 _ _ (begun (yes_25 k)) _ (sym k.all_retirable.ensures ∙ not-false _ e.if1.false)
-    (sym b.any_below.ensures ∙ not-true _ c.before.if2.true)) c.no_of2.ensures)
+    (retire_29 _ _ (begun (yes_25 k)) _ (sym k.all_retirable.ensures ∙ not-false _ e.if-not-all_retirable.false)
+    (sym b.any_below.ensures ∙ not-true _ c.before.if-not-any_below.true)) c.no_of-then-not-any_below.ensures)
     (λ c κs.
     let b = c.before.before in (
       lent_store _ _ (list_lent _ _ (begun (yes_25 b.before.before.before))),
-      ltb-true 0 _ (sym b.any_below.ensures ∙ not-false _ c.before.if2.false),
+      ltb-true 0 _ (sym b.any_below.ensures ∙ not-false _ c.before.if-not-any_below.false),
     ))
     (λ c. search rules)
     (λ c κs. search rules)
@@ -66,12 +66,12 @@ retire_spec =
     let e = w.before.before in
     let b = e.before in
     let k = b.before.before.before in
-    retires _ _ (begun (yes_25 k)) _ (sym k.all_retirable.ensures ∙ not-false _ b.before.before.if1.false)
-    (sym b.any_below.ensures ∙ not-false _ e.if2.false) _ w.retire_rows.ensures)
+    retires _ _ (begun (yes_25 k)) _ (sym k.all_retirable.ensures ∙ not-false _ b.before.before.if-not-all_retirable.false)
+    (sym b.any_below.ensures ∙ not-false _ e.if-not-any_below.false) _ w.retire_rows.ensures)
     (λ c. search rules)
     (λ c.
     let v = c.before.before in
     let k = v.before.before in
     is_no _ _ _ _ _ _ _
-    (retire_stops _ _ _ (refused_some k.check_to_25.result _ _ _ _ k.check_to_25.ensures v.v.given.1) _)
-    c.no_of3.ensures))
+    (retire_stops _ _ _ (refused_some k.check_to_25-v.result _ _ _ _ k.check_to_25-v.ensures v.v-1.given.1) _)
+    c.no_of-in-Refused.ensures))

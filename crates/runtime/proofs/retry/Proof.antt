@@ -29,31 +29,31 @@ use Rattle.runtime.proofs.retry.Statement.{statement}
 use Rattle.runtime.proofs.retry.Tie as tie
 
 -- where the call began, from a yes to 1 to 16 on
-abbrev start : tie.After-enum-told → tie.Start
+abbrev start : tie.In-Accepted → tie.Start
 start c = c.before.before.before.before.before
 
 -- 1 to 16 say yes
-begun : (c : tie.After-enum-told) (list : Worklist) →
+begun : (c : tie.In-Accepted) (list : Worklist) →
     let a = (start c).args in
     first_sixteen a.pack.now (record { store = a.store.now; records = a.agents; list = list }) a.slot false ≡ none
-begun c list = let k = c.before.before in accepted_none k.check_to_16.result _ (k.check_to_16.ensures list) c.enum_told.given.1
+begun c list = let k = c.before.before in accepted_none k.check_to_16-v.result _ (k.check_to_16-v.ensures list) c.enum_told-1.given.1
 
-lent_yes : (c : tie.After-enum-told) (list : Worklist) →
+lent_yes : (c : tie.In-Accepted) (list : Worklist) →
     let a = (start c).args in
     lent_refusal a.pack.now (record { store = a.store.now; records = a.agents; list = list }) ≡ none
 lent_yes c list = let a = (start c).args in begun_lent _ _ a.slot false (begun c list)
 
-below : (c : tie.After-enum-told) → (start c).args.slot < 8
+below : (c : tie.In-Accepted) → (start c).args.slot < 8
 below c = begun_below _ _ _ false (begun c no_worklist)
 
-tidied : (c : tie.After-enum-told) → Tidy (start c).args.agents
+tidied : (c : tie.In-Accepted) → Tidy (start c).args.agents
 tidied c =
     let s = start c in
     tidy_typed s.args.pack.now (record { store = s.args.store.now; records = s.args.agents; list = no_worklist }) _
     s.good.1.1.0
     (lent_14 _ _ (lent_yes c no_worklist))
 
-sounds : (c : tie.After-enum-told) → Sound (start c).args.store.now
+sounds : (c : tie.In-Accepted) → Sound (start c).args.store.now
 sounds c = (store_ok _ (lent_store _ _ (lent_yes c no_worklist))).0
 
 pub retry_spec : {M : Type 1} → statement M
@@ -80,16 +80,16 @@ retry_spec =
     let k = y.before.before in
     let t = k.before in
     let s = (start t).args in
-    let q : Request = record { workflow = y.g.given.0.0; arguments = arguments_of (value_in (book_rows s.store.now)) s.id } in
-    let known = booked_some (book_rows s.store.now) s.id k.booked_workflow.ensures.1 k.booked_workflow.result
-    k.booked_workflow.ensures.0 _ y.g.given.1 in
+    let q : Request = record { workflow = y.g-1.given.0.0; arguments = arguments_of (value_in (book_rows s.store.now)) s.id } in
+    let known = booked_some (book_rows s.store.now) s.id k.booked_workflow-g.ensures.1 k.booked_workflow-g.result
+    k.booked_workflow-g.ensures.0 _ y.g-1.given.1 in
     λ list.
     is_done _ _ _ _ _ _ s.slot (some (record { id = s.id; course = Calls.start q; step = 0 })) _ _ (tidied t) (below t)
     (retry_left _ _ s.slot s.id (begun t list) ∙ known_yes _ q known)
     (again_known _ (state_of (record { store = s.store.now; records = s.agents; list = list })) s.slot s.id q known)
     (wrote_nothing _) (ap (λ (o : Outcome). Answers.answer_of o.answer) c.done.ensures)
     (ap (λ (o : Outcome). o.agents) c.done.ensures ∙ w.with_agent.ensures
-    ∙ ap (set s.agents s.slot) (w.before.started.ensures ∙ ap (started_with s.id) r.booked_request.ensures)))
+    ∙ ap (set s.agents s.slot) (w.before.started.ensures ∙ ap (started_with s.id) r.booked_request-known.ensures)))
     (λ c.
     let y = c.before in
     let k = y.before.before in
@@ -98,12 +98,12 @@ retry_spec =
     λ list.
     is_refused _ _ _ _ 20 0 0
     (retry_left _ _ s.slot s.id (begun t list)
-    ∙ known_no _ (booked_none (book_rows s.store.now) s.id k.booked_workflow.ensures.1 k.booked_workflow.result
-    k.booked_workflow.ensures.0 y.enum-told2.given.1)) c.refused.ensures)
+    ∙ known_no _ (booked_none (book_rows s.store.now) s.id k.booked_workflow-g.ensures.1 k.booked_workflow-g.result
+    k.booked_workflow-g.ensures.0 y.enum_told-in-Absent-1.given.1)) c.refused.ensures)
     (λ c.
     let v = c.before.before in
     let k = v.before.before in
     λ list.
     is_refused _ _ _ _ _ _ _
-    (retry_stops _ _ _ _ _ (refused_some k.check_to_16.result _ _ _ _ (k.check_to_16.ensures list) v.v.given.1))
-    c.refused2.ensures))
+    (retry_stops _ _ _ _ _ (refused_some k.check_to_16-v.result _ _ _ _ (k.check_to_16-v.ensures list) v.v-1.given.1))
+    c.refused-in-Refused.ensures))

@@ -12,14 +12,14 @@ use Rattle.runtime.proofs.take.Statement.{statement}
 use Rattle.runtime.proofs.take.Tie as tie
 
 -- where the call began, from a yes to 1 to 14 and 25 on
-abbrev start : tie.After-enum-told → tie.Start
+abbrev start : tie.In-Accepted → tie.Start
 start c = c.before.before.before.before.before
 
 -- 1 to 14 and 25 say yes
-begun : (c : tie.After-enum-told) →
+begun : (c : tie.In-Accepted) →
     let a = (start c).args in
     list_refusal a.pack.now (record { store = a.store.now; records = a.agents; list = a.list }) ≡ none
-begun c = let k = c.before.before in accepted_none k.check_to_25.result _ k.check_to_25.ensures c.enum_told.given.1
+begun c = let k = c.before.before in accepted_none k.check_to_25-v.result _ k.check_to_25-v.ensures c.enum_told-1.given.1
 
 pub take_spec : {M : Type 1} → statement M
 take_spec =
@@ -31,19 +31,19 @@ take_spec =
     (λ c.
     let i = c.before in
     let k = i.before in
-    takes_one _ _ (begun k.before) _ (k.take_first.ensures.0 ∙ found_some k.take_first.result i.if1.true) _
-    k.take_first.ensures.1)
+    takes_one _ _ (begun k.before) _ (k.take_first-t.ensures.0 ∙ found_some k.take_first-t.result i.if-t.true) _
+    k.take_first-t.ensures.1)
     (λ c κs. search rules)
     (λ c. search rules)
     (λ c κs. search rules)
     (λ c.
     let k = c.before.before in
-    is_unlisted _ _ _ _ 27 0 0 (take_27 _ _ (begun k.before) (k.take_first.ensures.0 ∙ found_none k.take_first.result
-    c.before.if1.false))
+    is_unlisted _ _ _ _ 27 0 0 (take_27 _ _ (begun k.before) (k.take_first-t.ensures.0 ∙ found_none k.take_first-t.result
+    c.before.if-t.false))
     c.unlisted.ensures)
     (λ c.
     let v = c.before.before in
     let k = v.before.before in
     is_unlisted _ _ _ _ _ _ _
-    (take_stops _ _ _ (refused_some k.check_to_25.result _ _ _ _ k.check_to_25.ensures v.v.given.1))
-    c.unlisted2.ensures))
+    (take_stops _ _ _ (refused_some k.check_to_25-v.result _ _ _ _ k.check_to_25-v.ensures v.v-1.given.1))
+    c.unlisted-in-Refused.ensures))

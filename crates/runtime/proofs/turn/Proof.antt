@@ -21,24 +21,24 @@ use Rattle.runtime.proofs.turn.Statement.{statement}
 use Rattle.runtime.proofs.turn.Tie as tie
 
 -- where the call began, from a yes to 1 to 16 on
-abbrev start : tie.After-enum-told → tie.Start
+abbrev start : tie.In-Accepted → tie.Start
 start c = c.before.before.before.before.before.before
 
 -- 1 to 16 say yes
-begun : (c : tie.After-enum-told) (list : Worklist) →
+begun : (c : tie.In-Accepted) (list : Worklist) →
     let a = (start c).args in
     first_sixteen a.pack.now (record { store = a.store.now; records = a.t3; list = list }) a.slot true ≡ none
-begun c list = let k = c.before.before in accepted_none k.check_to_16.result _ (k.check_to_16.ensures list) c.enum_told.given.1
+begun c list = let k = c.before.before in accepted_none k.check_to_16-v.result _ (k.check_to_16-v.ensures list) c.enum_told-1.given.1
 
-lent_yes : (c : tie.After-enum-told) (list : Worklist) →
+lent_yes : (c : tie.In-Accepted) (list : Worklist) →
     let a = (start c).args in
     lent_refusal a.pack.now (record { store = a.store.now; records = a.t3; list = list }) ≡ none
 lent_yes c list = let a = (start c).args in begun_lent _ _ a.slot true (begun c list)
 
-below : (c : tie.After-enum-told) → (start c).args.slot < 8
+below : (c : tie.In-Accepted) → (start c).args.slot < 8
 below c = begun_below _ _ _ true (begun c no_worklist)
 
-tidied : (c : tie.After-enum-told) → Tidy (start c).args.t3
+tidied : (c : tie.In-Accepted) → Tidy (start c).args.t3
 tidied c =
     let s = start c in
     tidy_typed s.args.pack.now (record { store = s.args.store.now; records = s.args.t3; list = no_worklist }) _ s.good.1.1.0
@@ -61,14 +61,14 @@ turn_spec =
     let g = c.before.before.before.before in
     let t = g.before.before.before in
     λ list.
-    is_turned _ _ (start t).args.slot (begun t list) (tidied t) _ g.turn_agent.result _
-    g.turn_agent.ensures
-    (ap (outcome g.turn_agent.result.answer) c.with_agent.ensures))
+    is_turned _ _ (start t).args.slot (begun t list) (tidied t) _ g.turn_agent-t.result _
+    g.turn_agent-t.ensures
+    (ap (outcome g.turn_agent-t.result.answer) c.with_agent-all.ensures))
     (λ c. search rules)
     (λ c.
     let v = c.before.before in
     let k = v.before.before in
     λ list.
-    is_refused _ _ _ _ _ _ _ (turn_stops _ _ _ _ (refused_some k.check_to_16.result _ _ _ _ (k.check_to_16.ensures list)
-    v.v.given.1))
+    is_refused _ _ _ _ _ _ _ (turn_stops _ _ _ _ (refused_some k.check_to_16-v.result _ _ _ _ (k.check_to_16-v.ensures list)
+    v.v-1.given.1))
     c.refused.ensures))

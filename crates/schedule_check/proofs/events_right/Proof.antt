@@ -11,11 +11,11 @@ use Rattle.schedule_check.proofs.Steps.{event_right_lem, event_wrong}
 use Rattle.schedule_check.proofs.events_right.Statement.{statement}
 use Rattle.schedule_check.proofs.events_right.Tie as tie
 
-abbrev invariant-loop : tie.invariant-loop
+abbrev invariant-loop : tie.invariant-loop-event
 invariant-loop schedule requests events kinds indexes event₀ event =
     (event ≤ events) × (each_from (right_at schedule) (events - event) event ≡ question23 schedule)
 
-abbrev decreases-loop : tie.decreases-loop
+abbrev decreases-loop : tie.decreases-loop-event
 decreases-loop schedule requests events kinds indexes event₀ event = events - event
 
 pub events_right_spec : {M : Type 1} → statement M
@@ -33,7 +33,7 @@ events_right_spec =
     (λ c. omega arith)
     (λ c. omega arith)
     (λ c. let s = c.before.before.before.args.schedule.now in
-    (search rules, rw sub-zero (ap (λ n. each_from (right_at s) n 0) c.read16.ensures)))
+    (search rules, rw sub-zero (ap (λ n. each_from (right_at s) n 0) c.read16-events.ensures)))
     (λ c. omega arith)
     (λ c. omega arith)
     (λ c. omega arith)
@@ -41,14 +41,14 @@ events_right_spec =
     (λ c κs. search rules)
     (λ c. let l = c.before.before.before.before.before in
     let a = l.before.before.before.before.args in
-    let f = event_wrong a.schedule.now _ _ l.loop.event _ refl l.before.read16.ensures c.before.event_right_lem.ensures
-    c.if1.true in
-    sym (each_fails _ _ _ (omega arith) f) ∙ l.loop.invariant.1)
+    let f = event_wrong a.schedule.now _ _ l.loop-event.event _ refl l.before.read16-events.ensures c.before.event_right_lem.ensures
+    c.if-not-event_right.true in
+    sym (each_fails _ _ _ (omega arith) f) ∙ l.loop-event.invariant.1)
     (λ c. search rules)
     (λ c. search rules)
     (λ c. let l = c.before.before.before.before.before in
     let a = l.before.before.before.before.args in
-    let f = event_right_lem a.schedule.now _ _ l.loop.event _ refl l.before.read16.ensures c.before.event_right_lem.ensures
-    c.if1.false in
-    (search rules, sym (each_more _ _ _ (omega arith) f) ∙ l.loop.invariant.1))
-    (λ c. sym (each_none _ _ _ (omega arith)) ∙ c.before.loop.invariant.1))
+    let f = event_right_lem a.schedule.now _ _ l.loop-event.event _ refl l.before.read16-events.ensures c.before.event_right_lem.ensures
+    c.if-not-event_right.false in
+    (search rules, sym (each_more _ _ _ (omega arith) f) ∙ l.loop-event.invariant.1))
+    (λ c. sym (each_none _ _ _ (omega arith)) ∙ c.before.loop-event.invariant.1))

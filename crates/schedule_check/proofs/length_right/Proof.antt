@@ -11,7 +11,7 @@ length_right_spec =
     (tie.spec
     (λ c. not_laid _ (λ l. omega arith))
     (λ c. search rules)
-    (λ c. omega (arith, c.shared-slice-known2.given 3))
+    (λ c. omega (arith, c.shared_slice_known-2-1.given 3))
     (λ c κs. search rules)
     (λ c. search rules)
     (λ c. not_laid _ (λ l. omega arith))
@@ -20,4 +20,4 @@ length_right_spec =
     (λ c. search rules)
     (λ c. search rules)
     (λ c. search rules)
-    (λ c. laid_as _ _ c.before.if2.false c.before.before.read16.ensures c.if3.false))
+    (λ c. laid_as _ _ c.before.if-requests-gt64.false c.before.before.read16-events.ensures c.if-events-gt1024.false))

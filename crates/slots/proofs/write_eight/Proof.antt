@@ -10,10 +10,10 @@ use Rattle.slots.proofs.write_eight.Statement.{statement}
 use Rattle.slots.proofs.write_eight.Tie as tie
 
 -- the first i words stand in their places
-abbrev invariant-loop : tie.invariant-loop
+abbrev invariant-loop : tie.invariant-loop-i
 invariant-loop bytes₀ first eight i₀ bytes i = (i ≤ 8) × (bytes ≡ puts 4 bytes₀ first eight i)
 
-abbrev decreases-loop : tie.decreases-loop
+abbrev decreases-loop : tie.decreases-loop-i
 decreases-loop bytes₀ first eight i₀ bytes i = 8 - i
 
 pub write_eight_spec : {M : Type 1} → statement M
@@ -28,16 +28,16 @@ write_eight_spec =
     (λ c. search rules)
     (λ c. search rules)
     (λ c κs.
-    let l = c.before.before.loop in
+    let l = c.before.before.loop-i in
     let s = c.before.before.before.before.args in
     omega (arith, ap length l.invariant.1 ∙ length_puts 4 s.bytes.now s.first s.t3 l.i))
     (λ c. search rules)
     (λ c. search rules)
     (λ c.
-    let l = c.before.before.before.before.before.loop in
+    let l = c.before.before.before.before.before.loop-i in
     let s = c.before.before.before.before.before.before.before.args in
     (search rules, cc (l.invariant.1, c.before.before.write32.ensures, puts_more 4 s.bytes.now s.first s.t3 l.i)))
     (λ c. let s = c.before.before.before.args in
-    ap length c.before.loop.invariant.1 ∙ length_puts 4 s.bytes.now s.first s.t3 c.before.loop.i)
+    ap length c.before.loop-i.invariant.1 ∙ length_puts 4 s.bytes.now s.first s.t3 c.before.loop-i.i)
     (λ c. let s = c.before.before.before.args in
-    c.before.loop.invariant.1 ∙ ap (puts 4 s.bytes.now s.first s.t3) (omega arith)))
+    c.before.loop-i.invariant.1 ∙ ap (puts 4 s.bytes.now s.first s.t3) (omega arith)))

@@ -12,10 +12,10 @@ use Rattle.slots.proofs.write_slots.Statement.{statement}
 use Rattle.slots.proofs.write_slots.Tie as tie
 
 -- the first i records stand in their places
-abbrev invariant-loop : tie.invariant-loop
+abbrev invariant-loop : tie.invariant-loop-slot
 invariant-loop bytes₀ slots i₀ bytes i = (i ≤ 8) × (bytes ≡ with_records bytes₀ slots i)
 
-abbrev decreases-loop : tie.decreases-loop
+abbrev decreases-loop : tie.decreases-loop-slot
 decreases-loop bytes₀ slots i₀ bytes i = 8 - i
 
 pub write_slots_spec : {M : Type 1} → statement M
@@ -28,20 +28,20 @@ write_slots_spec =
     (λ c. search rules)
     (λ c. search rules)
     (λ c κs.
-    let l = c.before.before.before.loop in
+    let l = c.before.before.before.loop-slot in
     let s = c.before.before.before.before.before in
     omega (arith, s.requires, ap length l.invariant.1 ∙ length_records s.args.bytes.now s.args.t2 l.slot))
     (λ c. search rules)
     (λ c. search rules)
     (λ c.
-    let l = c.before.before.before.before.before.before.loop in
+    let l = c.before.before.before.before.before.before.loop-slot in
     let s = c.before.before.before.before.before.before.before.before.args in
     (search rules, cc (l.invariant.1, c.before.before.write_record.ensures, records_more s.bytes.now s.t2 l.slot)))
     (λ c. let s = c.before.before.before.args in
-    ap length c.before.loop.invariant.1 ∙ length_records s.bytes.now s.t2 c.before.loop.slot)
+    ap length c.before.loop-slot.invariant.1 ∙ length_records s.bytes.now s.t2 c.before.loop-slot.slot)
     (λ c.
     let s = c.before.before.before in
-    let e = c.before.loop.invariant.1 ∙ ap (with_records s.args.bytes.now s.args.t2) (omega arith) in (
+    let e = c.before.loop-slot.invariant.1 ∙ ap (with_records s.args.bytes.now s.args.t2) (omega arith) in (
       e,
       ap slots_in e ∙ slots_back s.args.bytes.now s.args.t2 s.requires (eight_records s.args.t2 _ s.well-formed.1.0)
           (all_fitting s.args.t2 _ s.well-formed.1.0),

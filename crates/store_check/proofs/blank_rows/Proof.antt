@@ -10,12 +10,12 @@ use Rattle.store_check.proofs.Steps.{blank_no_key, blank_no_value, blank_yes}
 use Rattle.store_check.proofs.blank_rows.Statement.{statement}
 use Rattle.store_check.proofs.blank_rows.Tie as tie
 
-abbrev invariant-loop : tie.invariant-loop
+abbrev invariant-loop : tie.invariant-loop-row
 invariant-loop store cap used keys_at values_at key_at₀ value_at₀ row₀ key_at value_at row =
     (used ≤ row) × (row ≤ cap) × (key_at ≡ keys_at + 8 * row) × (value_at ≡ values_at + 4 * row)
     × (each_from (blank_row store keys_at values_at) (cap - row) row ≡ each_from (blank_row store keys_at values_at) (cap - used) used)
 
-abbrev decreases-loop : tie.decreases-loop
+abbrev decreases-loop : tie.decreases-loop-row
 decreases-loop store cap used keys_at values_at key_at₀ value_at₀ row₀ key_at value_at row = cap - row
 
 pub blank_rows_spec : {M : Type 1} → statement M
@@ -32,17 +32,17 @@ blank_rows_spec =
     (λ c κs. omega arith)
     (λ c. let lp = c.before.before.before in
     let a = lp.before.before.args in
-    sym (each_fails (blank_row a.store.now a.keys_at a.values_at) a.cap lp.loop.row c.before.before.loop-test.true
-    (blank_no_key _ _ _ _ _ _ c.before.read64.ensures lp.loop.invariant.2 c.if1.true))
-    ∙ lp.loop.invariant.4)
+    sym (each_fails (blank_row a.store.now a.keys_at a.values_at) a.cap lp.loop-row.row c.before.before.loop-row-test.true
+    (blank_no_key _ _ _ _ _ _ c.before.read64.ensures lp.loop-row.invariant.2 c.if-read64-ne0.true))
+    ∙ lp.loop-row.invariant.4)
     (λ c κs. omega arith)
     (λ c. let e = c.before.before in
     let lp = e.before.before.before in
     let a = lp.before.before.args in
-    sym (each_fails (blank_row a.store.now a.keys_at a.values_at) a.cap lp.loop.row e.before.before.loop-test.true
-    (blank_no_value _ _ _ _ _ _ e.before.read64.ensures lp.loop.invariant.2 e.if1.false _ _
-    c.before.read32.ensures lp.loop.invariant.3 c.if2.true))
-    ∙ lp.loop.invariant.4)
+    sym (each_fails (blank_row a.store.now a.keys_at a.values_at) a.cap lp.loop-row.row e.before.before.loop-row-test.true
+    (blank_no_value _ _ _ _ _ _ e.before.read64.ensures lp.loop-row.invariant.2 e.if-read64-ne0.false _ _
+    c.before.read32.ensures lp.loop-row.invariant.3 c.if-read32-ne0.true))
+    ∙ lp.loop-row.invariant.4)
     (λ c. omega arith)
     (λ c. omega arith)
     (λ c. omega arith)
@@ -54,12 +54,12 @@ blank_rows_spec =
       omega arith,
       omega arith,
       omega arith,
-      sym (each_more (blank_row a.store.now a.keys_at a.values_at) a.cap lp.loop.row e.before.before.loop-test.true
-          (blank_yes _ _ _ _ _ _ e.before.read64.ensures lp.loop.invariant.2 e.if1.false _ _
-          c.before.read32.ensures lp.loop.invariant.3 c.if2.false))
-          ∙ lp.loop.invariant.4,
+      sym (each_more (blank_row a.store.now a.keys_at a.values_at) a.cap lp.loop-row.row e.before.before.loop-row-test.true
+          (blank_yes _ _ _ _ _ _ e.before.read64.ensures lp.loop-row.invariant.2 e.if-read64-ne0.false _ _
+          c.before.read32.ensures lp.loop-row.invariant.3 c.if-read32-ne0.false))
+          ∙ lp.loop-row.invariant.4,
     ))
     (λ c. let lp = c.before in
     let a = lp.before.before.args in
-    sym (each_none (blank_row a.store.now a.keys_at a.values_at) a.cap lp.loop.row c.loop-test.false)
-    ∙ lp.loop.invariant.4))
+    sym (each_none (blank_row a.store.now a.keys_at a.values_at) a.cap lp.loop-row.row c.loop-row-test.false)
+    ∙ lp.loop-row.invariant.4))

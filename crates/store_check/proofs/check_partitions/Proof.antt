@@ -13,40 +13,40 @@ use Rattle.store_check.proofs.Steps.{places_within, places_part}
 use Rattle.store_check.proofs.check_partitions.Statement.{statement}
 use Rattle.store_check.proofs.check_partitions.Tie as tie
 
-abbrev invariant-loop : tie.invariant-loop
+abbrev invariant-loop : tie.invariant-loop-partition
 invariant-loop store parts cap partition₀ partition =
     (partition ≤ parts + 1) × (each_from (part_ok store) (parts + 1 - partition) partition ≡ each (parts + 1) (part_ok store))
 
-abbrev decreases-loop : tie.decreases-loop
+abbrev decreases-loop : tie.decreases-loop-partition
 decreases-loop store parts cap partition₀ partition = parts + 1 - partition
 
 -- the partition is one of the store's
-low : (c : tie.In-loop invariant-loop decreases-loop) →
+low : (c : tie.In-loop-partition invariant-loop decreases-loop) →
     let lp = c.before in
-    lp.loop.partition ≤ parts_of lp.before.before.before.before.args.store.now
-low c = let h = c.loop-test.true in omega (arith, c.before.before.before.partition_count.ensures)
+    lp.loop-partition.partition ≤ parts_of lp.before.before.before.before.args.store.now
+low c = let h = c.loop-partition-test.true in omega (arith, c.before.before.before.partition_count-parts.ensures)
 
 -- the answer for the partition, by its places
-answer : (k : tie.After-partition-ok invariant-loop decreases-loop) →
+answer : (k : tie.After-partition_ok invariant-loop decreases-loop) →
     let lp = k.before.before.before.before.before in
-    part_ok lp.before.before.before.before.args.store.now lp.loop.partition ≡ k.partition_ok.result
+    part_ok lp.before.before.before.before.args.store.now lp.loop-partition.partition ≡ k.partition_ok.result
 answer k =
     let v = k.before in
     let ca = v.before.before.before.before.before in
     sym
     (k.partition_ok.ensures
-    ∙ places_part _ _ _ _ _ _ ca.capacity.ensures v.before.before.used_count.ensures v.before.key_place.ensures
-    v.value_place.ensures keys_ok _ ca.before.partition_count.ensures)
+    ∙ places_part _ _ _ _ _ _ ca.capacity-cap.ensures v.before.before.used_count-used.ensures v.before.key_place-keys_at.ensures
+    v.value_place-values_at.ensures keys_ok _ ca.before.partition_count-parts.ensures)
 
 -- the rest answers for all of them, of which there are P + 1
-whole : (lp : tie.At-loop invariant-loop decreases-loop) →
+whole : (lp : tie.At-loop-partition invariant-loop decreases-loop) →
     let a = lp.before.before.before.before.args in
-    each_from (part_ok a.store.now) (lp.before.before.partition_count.result + 1 - lp.loop.partition) lp.loop.partition
+    each_from (part_ok a.store.now) (lp.before.before.partition_count-parts.result + 1 - lp.loop-partition.partition) lp.loop-partition.partition
     ≡ question11 a.store.now
 unfolding question11
 whole lp =
     let a = lp.before.before.before.before.args in
-    lp.loop.invariant.1 ∙ ap (λ (n : ℕ). each (n + 1) (part_ok a.store.now)) lp.before.before.partition_count.ensures
+    lp.loop-partition.invariant.1 ∙ ap (λ (n : ℕ). each (n + 1) (part_ok a.store.now)) lp.before.before.partition_count-parts.ensures
 
 pub check_partitions_spec : {M : Type 1} → statement M
 unfolding question11
@@ -59,7 +59,7 @@ check_partitions_spec =
     (λ c κs. search rules)
     (λ c. let pc = c.before in (
       search rules,
-      ap (λ (n : ℕ). each_from (part_ok pc.before.before.args.store.now) n 0) (sub-zero (pc.partition_count.result + 1)),
+      ap (λ (n : ℕ). each_from (part_ok pc.before.before.args.store.now) n 0) (sub-zero (pc.partition_count-parts.result + 1)),
     ))
     (λ c κs. (c.before.before.before.before.before.requires, low c))
     (λ c κs. let l = c.before in (l.before.before.before.before.before.requires, low l, omega arith))
@@ -67,13 +67,13 @@ check_partitions_spec =
     (λ c κs. let u = c.before.before in
     let l = u.before in
     let ca = l.before.before in
-    places_within _ _ _ _ _ _ ca.capacity.ensures u.used_count.ensures c.before.key_place.ensures c.value_place.ensures
+    places_within _ _ _ _ _ _ ca.capacity-cap.ensures u.used_count-used.ensures c.before.key_place-keys_at.ensures c.value_place-values_at.ensures
     ca.before.before.before.requires (low l))
     (λ c. let k = c.before in
     let lp = k.before.before.before.before.before in
     let a = lp.before.before.before.before.args in
-    sym (each_fails (part_ok a.store.now) (lp.before.before.partition_count.result + 1) lp.loop.partition (omega arith)
-    (answer k ∙ not-true _ c.if1.true))
+    sym (each_fails (part_ok a.store.now) (lp.before.before.partition_count-parts.result + 1) lp.loop-partition.partition (omega arith)
+    (answer k ∙ not-true _ c.if-not-partition_ok.true))
     ∙ whole lp)
     (λ c. omega arith)
     (λ c. omega arith)
@@ -81,11 +81,11 @@ check_partitions_spec =
     let lp = k.before.before.before.before.before in
     let a = lp.before.before.before.before.args in (
       omega arith,
-      sym (each_more (part_ok a.store.now) (lp.before.before.partition_count.result + 1) lp.loop.partition (omega arith)
-          (answer k ∙ not-false _ c.if1.false))
-          ∙ lp.loop.invariant.1,
+      sym (each_more (part_ok a.store.now) (lp.before.before.partition_count-parts.result + 1) lp.loop-partition.partition (omega arith)
+          (answer k ∙ not-false _ c.if-not-partition_ok.false))
+          ∙ lp.loop-partition.invariant.1,
     ))
     (λ c. let lp = c.before in
     let a = lp.before.before.before.before.args in
-    sym (each_none (part_ok a.store.now) (lp.before.before.partition_count.result + 1) lp.loop.partition (omega arith))
+    sym (each_none (part_ok a.store.now) (lp.before.before.partition_count-parts.result + 1) lp.loop-partition.partition (omega arith))
     ∙ whole lp))

@@ -9,6 +9,6 @@ pub filled_spec : {M : Type 1} → statement M
 filled_spec =
     tie.close
     (tie.spec
-    (λ c. sym (filled_no _ _ _ _ _ c.if1.true))
+    (λ c. sym (filled_no _ _ _ _ _ c.if-cap-used.true))
     (λ c κs. search rules)
-    (λ c. c.blank_rows.ensures ∙ sym (filled_is _ _ _ _ _ c.before.if1.false)))
+    (λ c. c.blank_rows.ensures ∙ sym (filled_is _ _ _ _ _ c.before.if-cap-used.false)))

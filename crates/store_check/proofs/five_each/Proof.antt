@@ -10,17 +10,17 @@ use Rattle.store_check.proofs.Five.{book_few, book_one, book_next, book_key_lem,
 use Rattle.store_check.proofs.five_each.Statement.{statement}
 use Rattle.store_check.proofs.five_each.Tie as tie
 
-abbrev invariant-loop : tie.invariant-loop
+abbrev invariant-loop : tie.invariant-loop-left
 invariant-loop store keys_at used key_at₀ left₀ key_at left =
     (key_at + 8 * left ≡ keys_at + 8 * used) × (keys_ok true (fields 8 store key_at left) ≡ true)
     × (book_ok (fields 8 store key_at left) ≡ book_ok (fields 8 store keys_at used))
 
-abbrev decreases-loop : tie.decreases-loop
+abbrev decreases-loop : tie.decreases-loop-left
 decreases-loop store keys_at used key_at₀ left₀ key_at left = left
 
 -- five are left
-more : (c : tie.In-loop invariant-loop decreases-loop) → let l = c.before.loop.left in l ≡ suc (suc (suc (suc (suc (l - 5)))))
-more c = let h = c.loop-test.true in omega arith
+more : (c : tie.In-loop-left invariant-loop decreases-loop) → let l = c.before.loop-left.false in l ≡ suc (suc (suc (suc (suc (l - 5)))))
+more c = let h = c.loop-left-test.true in omega arith
 
 pub five_each_spec : {M : Type 1} → statement M
 five_each_spec =
@@ -32,14 +32,14 @@ five_each_spec =
     (λ c κs. omega arith)
     (λ c. omega arith)
     (λ c κs. omega arith)
-    (λ c κs. let r = c.before in book_key_lem _ _ _ _ (more r.before) r.before.before.loop.invariant.1 _ r.read64.ensures)
+    (λ c κs. let r = c.before in book_key_lem _ _ _ _ (more r.before) r.before.before.loop-left.invariant.1 _ r.read64-key.ensures)
     (λ c. let l5 = c.before in
     let r4 = l5.before in
     let r = r4.before in
     let lp = r.before.before in
-    sym (book_no _ _ _ _ (more r.before) lp.loop.invariant.1 _ _ r.read64.ensures r4.read642.ensures
-    (λ q. c.if1.true (q ∙ sym l5.last_of_five.ensures)))
-    ∙ lp.loop.invariant.2)
+    sym (book_no _ _ _ _ (more r.before) lp.loop-left.invariant.1 _ _ r.read64-key.ensures r4.read64.ensures
+    (λ q. c.if-read64-last_of_five.true (q ∙ sym l5.last_of_five.ensures)))
+    ∙ lp.loop-left.invariant.2)
     (λ c. omega arith)
     (λ c. omega arith)
     (λ c. let l5 = c.before in
@@ -47,14 +47,14 @@ five_each_spec =
     let r = r4.before in
     let lp = r.before.before in (
       omega arith,
-      book_next _ _ _ _ (more r.before) lp.loop.invariant.1,
-      sym (book_more _ _ _ _ (more r.before) lp.loop.invariant.1 _ _ r.read64.ensures r4.read642.ensures
-          (c.if1.false ∙ l5.last_of_five.ensures))
-          ∙ lp.loop.invariant.2,
+      book_next _ _ _ _ (more r.before) lp.loop-left.invariant.1,
+      sym (book_more _ _ _ _ (more r.before) lp.loop-left.invariant.1 _ _ r.read64-key.ensures r4.read64.ensures
+          (c.if-read64-last_of_five.false ∙ l5.last_of_five.ensures))
+          ∙ lp.loop-left.invariant.2,
     ))
     (λ c κs. omega arith)
     (λ c κs. search rules)
     (λ c. let lp = c.before.before.before.before in
-    c.is_floor.ensures ∙ sym (book_one _ _ _ _ c.before.before.if2.true c.before.read643.ensures) ∙ lp.loop.invariant.2)
+    c.is_floor.ensures ∙ sym (book_one _ _ _ _ c.before.before.if-left-eq1.true c.before.read64-then-left-eq1.ensures) ∙ lp.loop-left.invariant.2)
     (λ c. let lp = c.before.before in
-    sym (book_few _ _ _ lp.loop.invariant.1 c.if2.false c.before.loop-test.false) ∙ lp.loop.invariant.2))
+    sym (book_few _ _ _ lp.loop-left.invariant.1 c.if-left-eq1.false c.before.loop-left-test.false) ∙ lp.loop-left.invariant.2))

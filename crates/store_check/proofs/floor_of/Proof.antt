@@ -11,7 +11,7 @@ pub floor_of_spec : {M : Type 1} → statement M
 floor_of_spec =
     tie.close
     (tie.spec
-    (λ c. floor_empty _ _ _ _ c.if1.true)
+    (λ c. floor_empty _ _ _ _ c.if-used-eq0.true)
     (λ c. search rules)
     (λ c. search rules)
     (λ c. search rules)
@@ -23,13 +23,13 @@ floor_of_spec =
     (λ c. let f = c.before.before in
     let some_row = f.before.before in
     let st = some_row.before.before in
-    let none = some_row.if1.false in
+    let none = some_row.if-used-eq0.false in
     c.read32.ensures
     ∙ floor_there _ _ _ _ st.requires.2 (st.args.used - 1) (omega arith) _ f.before.read64.ensures
-    (sym f.is_floor.ensures ∙ c.before.if2.true))
+    (sym f.is_floor.ensures ∙ c.before.if-is_floor.true))
     (λ c. let f = c.before in
     let some_row = f.before.before in
     let st = some_row.before.before in
-    let none = some_row.if1.false in
+    let none = some_row.if-used-eq0.false in
     floor_absent _ _ _ _ st.requires.2 (st.args.used - 1) (omega arith) _ f.before.read64.ensures
-    (sym f.is_floor.ensures ∙ c.if2.false)))
+    (sym f.is_floor.ensures ∙ c.if-is_floor.false)))

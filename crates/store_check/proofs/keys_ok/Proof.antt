@@ -14,26 +14,26 @@ use Rattle.store_check.proofs.Rising.{rises, rises_all, rises_low, rises_no_form
 use Rattle.store_check.proofs.keys_ok.Statement.{statement}
 use Rattle.store_check.proofs.keys_ok.Tie as tie
 
-abbrev invariant-loop : tie.invariant-loop
+abbrev invariant-loop : tie.invariant-loop-row
 invariant-loop store keys_at used book low₀ key_at₀ row₀ low key_at row =
     (row ≤ used) × (key_at ≡ keys_at + 8 * row)
     × (rises book low (fields 8 store key_at (used - row)) ≡ keys_ok book (fields 8 store keys_at used))
 
-abbrev decreases-loop : tie.decreases-loop
+abbrev decreases-loop : tie.decreases-loop-row
 decreases-loop store keys_at used book low₀ key_at₀ row₀ low key_at row = used - row
 
 -- one more is left
-more : (c : tie.In-loop invariant-loop decreases-loop) →
+more : (c : tie.In-loop-row invariant-loop decreases-loop) →
     let n = c.before.before.before.args.used in
-    let i = c.before.loop.row in
+    let i = c.before.loop-row.row in
     n - i ≡ suc (n - (i + 1))
-more c = let h = c.loop-test.true in omega arith
+more c = let h = c.loop-row-test.true in omega arith
 
 -- the key that was read is of a form
-is_form_lem : (e : tie.Else2 invariant-loop decreases-loop) →
+is_form_lem : (e : tie.Else-not-of_form invariant-loop decreases-loop) →
     let r = e.before.before.before in
-    is_form r.before.before.before.before.args.book r.read64.result ≡ true
-is_form_lem e = sym e.before.of_form.ensures ∙ not-false _ e.if2.false
+    is_form r.before.before.before.before.args.book r.read64-key.result ≡ true
+is_form_lem e = sym e.before.of_form.ensures ∙ not-false _ e.if-not-of_form.false
 
 pub keys_ok_spec : {M : Type 1} → statement M
 keys_ok_spec =
@@ -46,14 +46,14 @@ keys_ok_spec =
     (λ c κs. omega arith)
     (λ c. let r = c.before in
     let lp = r.before.before in
-    sym (rises_low lp.before.before.args.book _ _ _ _ _ _ (more r.before) r.read64.ensures c.if1.true)
-    ∙ lp.loop.invariant.2)
+    sym (rises_low lp.before.before.args.book _ _ _ _ _ _ (more r.before) r.read64-key.ensures c.if-key-low.true)
+    ∙ lp.loop-row.invariant.2)
     (λ c κs. search rules)
     (λ c. let r = c.before.before.before in
     let lp = r.before.before in
-    sym (rises_no_form _ lp.loop.low _ _ _ _ _ (more r.before) r.read64.ensures
-    (sym c.before.of_form.ensures ∙ not-true _ c.if2.true))
-    ∙ lp.loop.invariant.2)
+    sym (rises_no_form _ lp.loop-row.low _ _ _ _ _ (more r.before) r.read64-key.ensures
+    (sym c.before.of_form.ensures ∙ not-true _ c.if-not-of_form.true))
+    ∙ lp.loop-row.invariant.2)
     (λ c. omega (arith, form_bound _ _ (is_form_lem c)))
     (λ c. omega arith)
     (λ c. omega arith)
@@ -62,9 +62,9 @@ keys_ok_spec =
     let lp = r.before.before in (
       omega arith,
       omega arith,
-      sym (rises_more _ _ _ _ _ _ _ (more r.before) r.read64.ensures c.before.before.if1.false (is_form_lem c)) ∙ lp.loop.invariant.2,
+      sym (rises_more _ _ _ _ _ _ _ (more r.before) r.read64-key.ensures c.before.before.if-key-low.false (is_form_lem c)) ∙ lp.loop-row.invariant.2,
     ))
     (λ c. let lp = c.before in
     let a = lp.before.before.args in
-    sym (rises_done a.book lp.loop.low a.store.now lp.loop.key_at (a.used - lp.loop.row) (omega arith))
-    ∙ lp.loop.invariant.2))
+    sym (rises_done a.book lp.loop-row.low a.store.now lp.loop-row.key_at (a.used - lp.loop-row.row) (omega arith))
+    ∙ lp.loop-row.invariant.2))

@@ -30,14 +30,14 @@ pub +append_digits_spec : {M : Type 1} → statement M
     append_digits.Post
     (λ c. search rules)
     (λ c. search rules)
-    (λ c κs. omega (arith, size_one c.before.before.before.args.number c.before.if1.true))
+    (λ c κs. omega (arith, size_one c.before.before.before.args.number c.before.if-number-lt10.true))
     (λ c. search rules)
-    (λ c. number_one c.before.before.before.before.if1.true c.before.before.append_byte.ensures)
-    (λ c κs. (search rules, omega (arith, size_more c.before.before.before.args.number c.before.if1.false)))
+    (λ c. number_one c.before.before.before.before.if-number-lt10.true c.before.before.append_byte.ensures)
+    (λ c κs. (search rules, omega (arith, size_more c.before.before.before.args.number c.before.if-number-lt10.false)))
     (λ c. search rules)
     (λ c. search rules)
-    (λ c κs. let b = c.before.before.before.before.before in omega (arith, size_more b.before.before.args.number b.if1.false))
+    (λ c κs. let b = c.before.before.before.before.before in omega (arith, size_more b.before.before.args.number b.if-number-lt10.false))
     (λ c. search rules)
     (λ c. let last = c.before.before in
     let ahead = last.before.before.before.before in
-    number_more ahead.before.before.if1.false ahead.append_digits.ensures last.append_byte2.ensures)
+    number_more ahead.before.before.if-number-lt10.false ahead.append_digits-ahead.ensures last.append_byte-2.ensures)

@@ -9,11 +9,11 @@ use Rattle.text.proofs.Laws.{copied_none, copied_more, copied_all}
 use Rattle.text.proofs.append_bytes.Statement.{statement}
 use Rattle.text.proofs.append_bytes.Tie as tie
 
-abbrev invariant-loop : tie.invariant-loop
+abbrev invariant-loop : tie.invariant-loop-copied
 invariant-loop out₀ written source copied₀ out copied =
     (copied ≤ length source) × (length out ≡ length out₀) × Appended out₀ written (take copied source) out (written + copied)
 
-abbrev decreases-loop : tie.decreases-loop
+abbrev decreases-loop : tie.decreases-loop-copied
 decreases-loop out₀ written source copied₀ out copied = length source - copied
 
 pub append_bytes_spec : {M : Type 1} → statement M
@@ -28,7 +28,7 @@ append_bytes_spec =
     (λ c. search rules)
     (λ c. search rules)
     (λ c. search rules)
-    (λ c. (search rules, search rules, copied_more _ c.before.loop-test.true (omega arith) c.before.before.loop.invariant.2))
+    (λ c. (search rules, search rules, copied_more _ c.before.loop-copied-test.true (omega arith) c.before.before.loop-copied.invariant.2))
     (λ c. search rules)
     (λ c. search rules)
-    (λ c. copied_all _ (omega arith) c.before.loop.invariant.2))
+    (λ c. copied_all _ (omega arith) c.before.loop-copied.invariant.2))

@@ -15,30 +15,30 @@ small : (c : tie.After-workflow-of-arg) → c.before.before.before.args.a.id < 2
 small c = omega arith
 
 -- the workflow is below m
-under : (c : tie.After-workflow-of) → c.workflow_of.result < count c.before.before.before.before.args.pack.now
+under : (c : tie.After-workflow_of-workflow) → c.workflow_of-workflow.result < count c.before.before.before.before.args.pack.now
 under c =
     let s = c.before.before.before.before in
-    subst (λ (x : ℕ). x < count s.args.pack.now) (sym c.workflow_of.ensures) (below _ _ s.args.a (small c.before) s.requires)
+    subst (λ (x : ℕ). x < count s.args.pack.now) (sym c.workflow_of-workflow.ensures) (below _ _ s.args.a (small c.before) s.requires)
 
 -- from the operand bytes back to the start
-abbrev start : tie.After-operands-part → tie.Start
+abbrev start : tie.After-operands_part-operands → tie.Start
 start o = o.before.before.before.before.before.before
 
 -- its operation bytes and its operand bytes
-ops_are : (c : tie.After-operands-part) →
+ops_are : (c : tie.After-operands_part-operands) →
     let s = start c in
-    c.before.operations_part.result.now ≡ ops s.args.pack.now s.args.store.now s.args.a
-    (small c.before.before.before) s.pre
+    c.before.operations_part-ops.result.now ≡ ops s.args.pack.now s.args.store.now s.args.a
+    (small c.before.before.before) s.requires
 ops_are c =
     let s = start c in
-    c.before.operations_part.ensures ∙ ap (operations_of s.args.pack.now) c.before.before.workflow_of.ensures
+    c.before.operations_part-ops.ensures ∙ ap (operations_of s.args.pack.now) c.before.before.workflow_of-workflow.ensures
 
-words_are : (c : tie.After-operands-part) →
+words_are : (c : tie.After-operands_part-operands) →
     let s = start c in
-    c.operands_part.result.now ≡ ws s.args.pack.now s.args.store.now s.args.a (small c.before.before.before) s.pre
+    c.operands_part-operands.result.now ≡ ws s.args.pack.now s.args.store.now s.args.a (small c.before.before.before) s.requires
 words_are c =
     let s = start c in
-    c.operands_part.ensures ∙ ap (operands_of s.args.pack.now) c.before.before.workflow_of.ensures
+    c.operands_part-operands.ensures ∙ ap (operands_of s.args.pack.now) c.before.before.workflow_of-workflow.ensures
 
 pub turn_agent_spec : {M : Type 1} → statement M
 turn_agent_spec =
@@ -51,30 +51,30 @@ turn_agent_spec =
     (λ c κs.
     let o = c.before.before in
     let s = start o in
-    may_ask _ _ s.args.a (small o.before.before.before) s.pre _ _ (ops_are o) (words_are o))
+    may_ask _ _ s.args.a (small o.before.before.before) s.requires _ _ (ops_are o) (words_are o))
     (λ c. search rules)
     (λ c κs.
     let n = c.before.before.before in
     let o = n.before.before.before in
     let s = start o in
-    may_go _ _ s.args.a (small o.before.before.before) s.pre _ _ (ops_are o) (words_are o) n.next_of.result
-    n.next_of.ensures c.enum_told.given.1)
+    may_go _ _ s.args.a (small o.before.before.before) s.requires _ _ (ops_are o) (words_are o) n.next_of-upcoming.result
+    n.next_of-upcoming.ensures c.enum_told-1.given.1)
     (λ c. search rules)
     (λ c κs.
     let x = c.before.before.before in
     let n = x.before.before.before in
     let o = n.before.before.before in
     let s = start o in
-    may_run _ _ s.args.a (small o.before.before.before) s.pre _ _ (ops_are o) (words_are o) n.next_of.result
-    n.next_of.ensures _ x.next.given.1)
+    may_run _ _ s.args.a (small o.before.before.before) s.requires _ _ (ops_are o) (words_are o) n.next_of-upcoming.result
+    n.next_of-upcoming.ensures _ x.next-1.given.1)
     (λ c κs.
     let g = c.before.before in
     let x = g.before.before.before.before in
     let n = x.before.before.before in
     let o = n.before.before.before in
     let s = start o in
-    may_leave _ _ s.args.a (small o.before.before.before) s.pre _ _ (ops_are o) (words_are o) n.next_of.result
-    n.next_of.ensures _ x.next.given.1)
+    may_leave _ _ s.args.a (small o.before.before.before) s.requires _ _ (ops_are o) (words_are o) n.next_of-upcoming.result
+    n.next_of-upcoming.ensures _ x.next-1.given.1)
     (λ c. search rules)
     (λ c κs. search rules)
     (λ c. search rules)
@@ -83,8 +83,8 @@ turn_agent_spec =
     let n = x.before.before.before in
     let o = n.before.before.before in
     let s = start o in
-    goes_on _ _ s.args.a (small o.before.before.before) s.pre _ _ (ops_are o) (words_are o) n.next_of.result
-    n.next_of.ensures x.enum_told.given.1 _ c.stand_at.ensures)
+    goes_on _ _ s.args.a (small o.before.before.before) s.requires _ _ (ops_are o) (words_are o) n.next_of-upcoming.result
+    n.next_of-upcoming.ensures x.enum_told-1.given.1 _ c.stand_at.ensures)
     (λ c. search rules)
     (λ c.
     let g = c.before.before.before in
@@ -92,14 +92,14 @@ turn_agent_spec =
     let n = x.before.before.before in
     let o = n.before.before.before in
     let s = start o in
-    does_block _ _ s.args.a (small o.before.before.before) s.pre _ _ (ops_are o) (words_are o) n.next_of.result
-    n.next_of.ensures _ x.next.given.1
-    _ _ _ g.through_block.ensures (c.leave_block.ensures _))
+    does_block _ _ s.args.a (small o.before.before.before) s.requires _ _ (ops_are o) (words_are o) n.next_of-upcoming.result
+    n.next_of-upcoming.ensures _ x.next-1.given.1
+    _ _ _ g.through_block-outcome.ensures (c.leave_block.ensures _))
     (λ c. search rules)
     (λ c.
     let x = c.before.before in
     let n = x.before.before.before in
     let o = n.before.before.before in
     let s = start o in
-    replies _ _ s.args.a (small o.before.before.before) s.pre _ _ (ops_are o) (words_are o) n.next_of.result
-    n.next_of.ensures _ x.next2.given.1 _ c.reply.ensures))
+    replies _ _ s.args.a (small o.before.before.before) s.requires _ _ (ops_are o) (words_are o) n.next_of-upcoming.result
+    n.next_of-upcoming.ensures _ x.next-in-Says-1.given.1 _ c.reply.ensures))

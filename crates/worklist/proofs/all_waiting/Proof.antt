@@ -9,10 +9,10 @@ use Rattle.worklist.proofs.all_waiting.Statement.{statement}
 use Rattle.worklist.proofs.all_waiting.Tie as tie
 
 -- the first i wait
-abbrev invariant-loop : tie.invariant-loop
+abbrev invariant-loop : tie.invariant-loop-i
 invariant-loop n places next₀ i₀ next i = (i ≤ n) × (next ≡ waiting_to places i)
 
-abbrev decreases-loop : tie.decreases-loop
+abbrev decreases-loop : tie.decreases-loop-i
 decreases-loop n places next₀ i₀ next i = n - i
 
 pub all_waiting_spec : {M : Type 1} → statement M
@@ -28,6 +28,6 @@ all_waiting_spec =
     (λ c. search rules)
     (λ c. search rules)
     (λ c. search rules)
-    (λ c. let l = c.before.before.loop in let s = c.before.before.before.args in
+    (λ c. let l = c.before.before.loop-i in let s = c.before.before.before.args in
     (search rules, rw (l.invariant.1, waiting_more s.t1 l.i) refl))
-    (λ c. c.before.loop.invariant.1 ∙ ap (waiting_to c.before.before.args.t1) (omega arith)))
+    (λ c. c.before.loop-i.invariant.1 ∙ ap (waiting_to c.before.before.args.t1) (omega arith)))

@@ -9,6 +9,6 @@ pub can_list_spec : {M : Type 1} → statement M
 can_list_spec =
     tie.close
     (tie.spec
-    (λ c. sym (can_list_more _ _ c.if1.true))
+    (λ c. sym (can_list_more _ _ c.if-l-lt16.true))
     (λ c κs. search rules)
-    (λ c. c.is_listed.ensures ∙ sym (can_list_full _ _ c.before.if1.false)))
+    (λ c. c.is_listed.ensures ∙ sym (can_list_full _ _ c.before.if-l-lt16.false)))

@@ -10,10 +10,10 @@ use Rattle.worklist.proofs.Places.{first_hit, first_miss, first_end}
 use Rattle.worklist.proofs.first_waiting.Statement.{statement}
 use Rattle.worklist.proofs.first_waiting.Tie as tie
 
-abbrev invariant-loop : tie.invariant-loop
+abbrev invariant-loop : tie.invariant-loop-place
 invariant-loop count places place₀ place = (place ≤ count) × (first_from waits places (count - place) place ≡ first_from waits places count 0)
 
-abbrev decreases-loop : tie.decreases-loop
+abbrev decreases-loop : tie.decreases-loop-place
 decreases-loop count places place₀ place = count - place
 
 pub first_waiting_spec : {M : Type 1} → statement M
@@ -26,10 +26,10 @@ first_waiting_spec =
     (λ c. search rules)
     (λ c. search rules)
     (λ c. let l = c.before.before.before.before in
-    sym (first_hit _ _ _ l.loop.place (omega arith) (eq-eqb _ 0 c.if1.true)) ∙ l.loop.invariant.1)
+    sym (first_hit _ _ _ l.loop-place.place (omega arith) (eq-eqb _ 0 c.if-e-eq0.true)) ∙ l.loop-place.invariant.1)
     (λ c. search rules)
     (λ c. search rules)
     (λ c. let l = c.before.before.before.before in
-    (search rules, sym (first_miss _ _ _ l.loop.place (omega arith) (ne_eqb _ 0 c.if1.false)) ∙ l.loop.invariant.1))
+    (search rules, sym (first_miss _ _ _ l.loop-place.place (omega arith) (ne_eqb _ 0 c.if-e-eq0.false)) ∙ l.loop-place.invariant.1))
     (λ c. let l = c.before in
-    sym (first_end _ _ _ l.loop.place (omega arith) (omega arith)) ∙ l.loop.invariant.1))
+    sym (first_end _ _ _ l.loop-place.place (omega arith) (omega arith)) ∙ l.loop-place.invariant.1))

@@ -8,10 +8,10 @@ use Rattle.worklist.proofs.Means.{right_from, right_badly_marked, right_twice, r
 use Rattle.worklist.proofs.is_right.Statement.{statement}
 use Rattle.worklist.proofs.is_right.Tie as tie
 
-abbrev invariant-loop : tie.invariant-loop
+abbrev invariant-loop : tie.invariant-loop-i
 invariant-loop places count i₀ i = (i ≤ count) × (right_from places count i ≡ right_from places count 0)
 
-abbrev decreases-loop : tie.decreases-loop
+abbrev decreases-loop : tie.decreases-loop-i
 decreases-loop places count i₀ i = count - i
 
 pub is_right_spec : {M : Type 1} → statement M
@@ -26,17 +26,17 @@ is_right_spec =
     (λ c. search rules)
     (λ c. search rules)
     (λ c. let l = c.before.before.before.before in
-    sym (right_badly_marked _ _ l.loop.i (omega arith) (omega arith)) ∙ l.loop.invariant.1 ∙ right_all _ _ (omega arith))
+    sym (right_badly_marked _ _ l.loop-i.i (omega arith) (omega arith)) ∙ l.loop-i.invariant.1 ∙ right_all _ _ (omega arith))
     (λ c. search rules)
     (λ c κs. search rules)
     (λ c. let l = c.before.before.before.before.before.before in
-    sym (right_twice _ _ l.loop.i (omega arith) (rw (← c.before.place_from.ensures) c.if3.true)) ∙ l.loop.invariant.1
+    sym (right_twice _ _ l.loop-i.i (omega arith) (rw (← c.before.place_from.ensures) c.if-place_from-count.true)) ∙ l.loop-i.invariant.1
     ∙ right_all _ _ (omega arith))
     (λ c. search rules)
     (λ c. search rules)
     (λ c. let l = c.before.before.before.before.before.before in (
       search rules,
-      sym (right_on _ _ l.loop.i (omega arith) (omega arith) (rw (← c.before.place_from.ensures) c.if3.false)) ∙ l.loop.invariant.1,
+      sym (right_on _ _ l.loop-i.i (omega arith) (omega arith) (rw (← c.before.place_from.ensures) c.if-place_from-count.false)) ∙ l.loop-i.invariant.1,
     ))
     (λ c. let l = c.before in
-    sym (right_end _ _ l.loop.i (omega arith)) ∙ l.loop.invariant.1 ∙ right_all _ _ (omega arith)))
+    sym (right_end _ _ l.loop-i.i (omega arith)) ∙ l.loop-i.invariant.1 ∙ right_all _ _ (omega arith)))

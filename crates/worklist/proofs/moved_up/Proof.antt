@@ -9,10 +9,10 @@ use Rattle.worklist.proofs.moved_up.Statement.{statement}
 use Rattle.worklist.proofs.moved_up.Tie as tie
 
 -- i entries have moved
-abbrev invariant-loop : tie.invariant-loop
+abbrev invariant-loop : tie.invariant-loop-i
 invariant-loop from n places next₀ i₀ next i = (i ≤ n) × (next ≡ moved_up places from i)
 
-abbrev decreases-loop : tie.decreases-loop
+abbrev decreases-loop : tie.decreases-loop-i
 decreases-loop from n places next₀ i₀ next i = n - i
 
 pub moved_up_spec : {M : Type 1} → statement M
@@ -31,6 +31,6 @@ moved_up_spec =
     (λ c. search rules)
     (λ c. search rules)
     (λ c. search rules)
-    (λ c. let l = c.before.before.loop in let s = c.before.before.before.args in
+    (λ c. let l = c.before.before.loop-i in let s = c.before.before.before.args in
     (search rules, rw (l.invariant.1, moved_more s.t1 s.from l.i) refl))
-    (λ c. let s = c.before.before.args in c.before.loop.invariant.1 ∙ ap (moved_up s.t1 s.from) (omega arith)))
+    (λ c. let s = c.before.before.args in c.before.loop-i.invariant.1 ∙ ap (moved_up s.t1 s.from) (omega arith)))

@@ -9,11 +9,11 @@ use Rattle.worklist.proofs.Places.{first_hit, first_miss, first_end}
 use Rattle.worklist.proofs.place_from.Statement.{statement}
 use Rattle.worklist.proofs.place_from.Tie as tie
 
-abbrev invariant-loop : tie.invariant-loop
+abbrev invariant-loop : tie.invariant-loop-i
 invariant-loop count from id places i₀ i =
     (i ≤ count) × (first_from (has_id id) places (count - i) i ≡ first_from (has_id id) places (count - from) from)
 
-abbrev decreases-loop : tie.decreases-loop
+abbrev decreases-loop : tie.decreases-loop-i
 decreases-loop count from id places i₀ i = count - i
 
 pub place_from_spec : {M : Type 1} → statement M
@@ -26,10 +26,10 @@ place_from_spec =
     (λ c. search rules)
     (λ c. search rules)
     (λ c. let l = c.before.before.before.before in
-    sym (first_hit _ _ _ l.loop.i (omega arith) (eq-eqb _ _ (sym c.if1.true))) ∙ l.loop.invariant.1)
+    sym (first_hit _ _ _ l.loop-i.i (omega arith) (eq-eqb _ _ (sym c.if-e-id.true))) ∙ l.loop-i.invariant.1)
     (λ c. search rules)
     (λ c. search rules)
     (λ c. let l = c.before.before.before.before in
-    (search rules, sym (first_miss _ _ _ l.loop.i (omega arith) (ne_eqb _ _ (λ e. c.if1.false (sym e)))) ∙ l.loop.invariant.1))
+    (search rules, sym (first_miss _ _ _ l.loop-i.i (omega arith) (ne_eqb _ _ (λ e. c.if-e-id.false (sym e)))) ∙ l.loop-i.invariant.1))
     (λ c. let l = c.before in
-    sym (first_end _ _ _ l.loop.i (omega arith) (omega arith)) ∙ l.loop.invariant.1))
+    sym (first_end _ _ _ l.loop-i.i (omega arith) (omega arith)) ∙ l.loop-i.invariant.1))

@@ -8,10 +8,10 @@ use Rattle.worklist.proofs.read_places.Statement.{statement}
 use Rattle.worklist.proofs.read_places.Tie as tie
 
 -- the places before this one are read
-abbrev invariant-loop : tie.invariant-loop
+abbrev invariant-loop : tie.invariant-loop-place
 invariant-loop bytes places₀ place₀ places place = (place ≤ 16) × ReadTo bytes places place
 
-abbrev decreases-loop : tie.decreases-loop
+abbrev decreases-loop : tie.decreases-loop-place
 decreases-loop bytes places₀ place₀ places place = 16 - place
 
 pub read_places_spec : {M : Type 1} → statement M
@@ -27,6 +27,6 @@ read_places_spec =
     (λ c. search rules)
     (λ c. search rules)
     (λ c. search rules)
-    (λ c. let l = c.before.before.loop in
-    (search rules, read_more _ l.places l.place _ (omega arith) c.read_entry.ensures l.invariant.1))
-    (λ c. let l = c.before.loop in read_all _ l.places l.place (omega arith) l.invariant.1))
+    (λ c. let l = c.before.before.loop-place in
+    (search rules, read_more _ l.places l.place _ (omega arith) c.read_entry-read.ensures l.invariant.1))
+    (λ c. let l = c.before.loop-place in read_all _ l.places l.place (omega arith) l.invariant.1))

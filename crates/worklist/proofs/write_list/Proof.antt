@@ -12,10 +12,10 @@ use Rattle.worklist.proofs.write_list.Statement.{statement}
 use Rattle.worklist.proofs.write_list.Tie as tie
 
 -- the entries before this place stand in their places
-abbrev invariant-loop : tie.invariant-loop
+abbrev invariant-loop : tie.invariant-loop-place
 invariant-loop bytes₀ places place₀ bytes place = (place ≤ 16) × (bytes ≡ with_entries bytes₀ places place)
 
-abbrev decreases-loop : tie.decreases-loop
+abbrev decreases-loop : tie.decreases-loop-place
 decreases-loop bytes₀ places place₀ bytes place = 16 - place
 
 pub write_list_spec : {M : Type 1} → statement M
@@ -29,7 +29,7 @@ write_list_spec =
     (λ c. search rules)
     (λ c. search rules)
     (λ c κs.
-    let l = c.before.before.before.loop in
+    let l = c.before.before.before.loop-place in
     let w = c.before.before.before.before.before.before.before.write32 in
     let s = c.before.before.before.before.before.before.before.before.before.before in
     omega (
@@ -41,12 +41,12 @@ write_list_spec =
     (λ c. search rules)
     (λ c. search rules)
     (λ c.
-    let l = c.before.before.before.before.before.before.loop in
+    let l = c.before.before.before.before.before.before.loop-place in
     let w = c.before.before.before.before.before.before.before.before.before.before in
     let s = w.before.before.before.args in
     (search rules, cc (l.invariant.1, c.before.before.write_entry.ensures, with_more w.write32.new.0 s.l.places l.place)))
     (λ c.
-    let l = c.before.loop in
+    let l = c.before.loop-place in
     let w = c.before.before.before.before.before in
     let s = w.before.before.before.args in
     ap length l.invariant.1 ∙ length_with w.write32.new.0 s.l.places l.place
@@ -55,7 +55,7 @@ write_list_spec =
     let w = c.before.before.before.before.before in
     let s = w.before.before.before in
     let e =
-    c.before.loop.invariant.1 ∙ ap (with_entries w.write32.new.0 s.args.l.places) (omega arith)
+    c.before.loop-place.invariant.1 ∙ ap (with_entries w.write32.new.0 s.args.l.places) (omega arith)
     ∙ ap (λ xs. with_entries xs s.args.l.places 16) w.write32.ensures in (
       e,
       ap list_in e

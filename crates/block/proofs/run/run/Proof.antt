@@ -20,7 +20,7 @@ run_spec =
       st.requires.sound,
       omega (arith, st.requires.below),
       starts_inside a.ops.now a.operands.now (rows_of a.store.now a.partition) a.begin a.registers
-          c.no_pending.result c.no_pending.ensures st.requires.begins,
+          c.no_pending-pending.result c.no_pending-pending.ensures st.requires.begins,
     ))
     (λ c.
     let np = c.before in
@@ -28,5 +28,5 @@ run_spec =
       c.run_on.ensures.0,
       c.run_on.ensures.1
           ∙ starts a.ops.now a.operands.now (rows_of a.store.now a.partition) a.begin a.registers
-          np.no_pending.result np.no_pending.ensures,
+          np.no_pending-pending.result np.no_pending-pending.ensures,
     )))

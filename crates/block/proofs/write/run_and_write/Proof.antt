@@ -12,9 +12,9 @@ run_and_write_spec =
     (λ c κs.
     let rn = c.before in
     let st = rn.before.before.before.before.before in
-    (st.requires.0.sound, st.requires.0.below, rn.run.ensures.0, st.requires.1))
+    (st.requires.0.sound, st.requires.0.below, rn.run-ran.ensures.0, st.requires.1))
     (λ c. search rules)
     (λ c.
     let cm = c.before.before in
     let rn = cm.before.before in
-    same_block _ _ _ _ _ _ _ cm.commit.result rn.run.ensures.1 cm.commit.ensures))
+    same_block _ _ _ _ _ _ _ cm.commit.result rn.run-ran.ensures.1 cm.commit.ensures))

@@ -6,10 +6,10 @@ use mathlib.Core.Path.{◌≡◌}
 use Rattle.case_print.proofs.case_lines.append_words.Statement.{statement}
 use Rattle.case_print.proofs.case_lines.append_words.Tie as tie
 
-abbrev invariant-loop : tie.invariant-loop
+abbrev invariant-loop : tie.invariant-loop-i
 invariant-loop out₀ n bytes count at₀ i₀ out at i = (i ≤ count) × (length out ≡ length out₀) × (at ≤ n + 21 * i)
 
-abbrev decreases-loop : tie.decreases-loop
+abbrev decreases-loop : tie.decreases-loop-i
 decreases-loop out₀ n bytes count at₀ i₀ out at i = count - i
 
 pub append_words_spec : {M : Type 1} → statement M

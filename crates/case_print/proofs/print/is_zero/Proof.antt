@@ -5,10 +5,10 @@ use lib.ListN.{length}
 use Rattle.case_print.proofs.print.is_zero.Statement.{statement}
 use Rattle.case_print.proofs.print.is_zero.Tie as tie
 
-abbrev invariant-loop : tie.invariant-loop
+abbrev invariant-loop : tie.invariant-loop-i
 invariant-loop s i₀ i = i ≤ length s
 
-abbrev decreases-loop : tie.decreases-loop
+abbrev decreases-loop : tie.decreases-loop-i
 decreases-loop s i₀ i = length s - i
 
 pub is_zero_spec : {M : Type 1} → statement M

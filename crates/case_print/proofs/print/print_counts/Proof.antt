@@ -4,10 +4,10 @@ use Prim.Native.Nat.{◌+◌, ◌-◌, ◌≤◌}
 use Rattle.case_print.proofs.print.print_counts.Statement.{statement}
 use Rattle.case_print.proofs.print.print_counts.Tie as tie
 
-abbrev invariant-loop : tie.invariant-loop
+abbrev invariant-loop : tie.invariant-loop-partition
 invariant-loop s parts p₀ p = (p ≤ parts + 1) × (parts ≤ 255)
 
-abbrev decreases-loop : tie.decreases-loop
+abbrev decreases-loop : tie.decreases-loop-partition
 decreases-loop s parts p₀ p = parts + 1 - p
 
 pub print_counts_spec : {M : Type 1} → statement M

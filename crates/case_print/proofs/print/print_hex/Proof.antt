@@ -5,10 +5,10 @@ use lib.ListN.{length}
 use Rattle.case_print.proofs.print.print_hex.Statement.{statement}
 use Rattle.case_print.proofs.print.print_hex.Tie as tie
 
-abbrev invariant-loop : tie.invariant-loop
+abbrev invariant-loop : tie.invariant-loop-printed
 invariant-loop src at₀ at = at ≤ length src
 
-abbrev decreases-loop : tie.decreases-loop
+abbrev decreases-loop : tie.decreases-loop-printed
 decreases-loop src at₀ at = length src - at
 
 pub print_hex_spec : {M : Type 1} → statement M

@@ -6,10 +6,10 @@ use lib.ListN.{length}
 use Rattle.case_print.proofs.print.print_list.Statement.{statement}
 use Rattle.case_print.proofs.print.print_list.Tie as tie
 
-abbrev invariant-loop : tie.invariant-loop
+abbrev invariant-loop : tie.invariant-loop-place
 invariant-loop list entries places place₀ place = (place ≤ places) × (4 + 8 * places ≤ length list)
 
-abbrev decreases-loop : tie.decreases-loop
+abbrev decreases-loop : tie.decreases-loop-place
 decreases-loop list entries places place₀ place = places - place
 
 pub print_list_spec : {M : Type 1} → statement M

@@ -6,10 +6,10 @@ use mathlib.Core.Path.{◌≡◌}
 use Rattle.case_print.proofs.print.print_partition.Statement.{statement}
 use Rattle.case_print.proofs.print.print_partition.Tie as tie
 
-abbrev invariant-loop : tie.invariant-loop
+abbrev invariant-loop : tie.invariant-loop-left
 invariant-loop s p keys values n printed₀ left₀ printed left = (left ≤ n) × (length printed ≡ 256)
 
-abbrev decreases-loop : tie.decreases-loop
+abbrev decreases-loop : tie.decreases-loop-left
 decreases-loop s p keys values n printed₀ left₀ printed left = left
 
 pub print_partition_spec : {M : Type 1} → statement M

@@ -4,10 +4,10 @@ use Prim.Native.Nat.{◌+◌, ◌-◌, ◌≤◌}
 use Rattle.case_print.proofs.print.print_rows.Statement.{statement}
 use Rattle.case_print.proofs.print.print_rows.Tie as tie
 
-abbrev invariant-loop : tie.invariant-loop
+abbrev invariant-loop : tie.invariant-loop-partition
 invariant-loop s parts p₀ p = (p ≤ parts + 1) × (parts ≤ 255)
 
-abbrev decreases-loop : tie.decreases-loop
+abbrev decreases-loop : tie.decreases-loop-partition
 decreases-loop s parts p₀ p = parts + 1 - p
 
 pub print_rows_spec : {M : Type 1} → statement M

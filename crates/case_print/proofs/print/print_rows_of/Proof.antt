@@ -16,17 +16,17 @@ print_rows_of_spec =
     (λ c κs. search rules)
     (λ c κs. search rules)
     (λ c κs. let e = c.before.before.before.before in
-    let k = c.before.before.row_count in (
+    let k = c.before.before.row_count-used in (
       omega (
         arith,
         keys_within e.args.store.now e.requires.0 e.args.partition e.requires.1 k.result k.ensures.0,
-        c.before.key_place.ensures,
+        c.before.key_place-keys.ensures,
       ),
       omega (
         arith,
         e.requires.0.size,
         before (cap_of e.args.store.now) {p = e.args.partition} {q = parts_of e.args.store.now + 1} (omega arith),
-        c.value_place.ensures,
+        c.value_place-values.ensures,
         k.ensures.0,
       ),
       k.ensures.1,

@@ -38,7 +38,7 @@ export_call_spec =
     (λ c. search rules)
     (λ c.
     let x = c.before.before.before.before.before.before in
-    promised _ _ _ _ _ _ _ _ _ _ (by_3 _ _ x.before.before.before.before.if1.true) x.sarthule_arrival.ensures)
+    promised _ _ _ _ _ _ _ _ _ _ (by_3 _ _ x.before.before.before.before.if-call-eq3.true) x.sarthule_arrival.ensures)
     (λ c. search rules)
     (λ c κs. search rules)
     (λ c. search rules)
@@ -46,14 +46,14 @@ export_call_spec =
     (λ c. search rules)
     (λ c.
     let x = c.before.before.before.before in
-    promised _ _ _ _ _ _ _ _ _ _ (by_4 _ _ x.before.before.before.before.if2.true) x.sarthule_retry.ensures)
+    promised _ _ _ _ _ _ _ _ _ _ (by_4 _ _ x.before.before.before.before.if-call-eq4.true) x.sarthule_retry.ensures)
     (λ c κs. search rules)
     (λ c. search rules)
     (λ c. search rules)
     (λ c. search rules)
     (λ c.
     let x = c.before.before.before.before.before.before in
-    promised _ _ _ _ _ _ _ _ _ _ (by_5 _ _ x.before.before.before.before.if3.true) x.sarthule_turn.ensures)
+    promised _ _ _ _ _ _ _ _ _ _ (by_5 _ _ x.before.before.before.before.if-call-eq5.true) x.sarthule_turn.ensures)
     (λ c κs. search rules)
     (λ c. search rules)
     (λ c. search rules)
@@ -63,5 +63,5 @@ export_call_spec =
     let d = x.before.before.before.before in
     let a = d.before.before in
     let p = a.before.before.before.before.before.requires in
-    promised _ _ _ _ _ _ _ _ _ _ (by_6 _ _ (six _ p.0 p.1 a.if1.false d.before.if2.false d.if3.false))
+    promised _ _ _ _ _ _ _ _ _ _ (by_6 _ _ (six _ p.0 p.1 a.if-call-eq3.false d.before.if-call-eq4.false d.if-call-eq5.false))
     x.sarthule_crash.ensures))

@@ -29,13 +29,13 @@ list_call_spec =
     (λ c. search rules)
     (λ c.
     let x = c.before.before.before.before in
-    promised _ _ _ _ _ _ _ _ _ _ (by_10 _ _ x.before.before.before.if1.true) x.sarthule_add.ensures)
+    promised _ _ _ _ _ _ _ _ _ _ (by_10 _ _ x.before.before.before.if-call-eq10.true) x.sarthule_add.ensures)
     (λ c κs. search rules)
     (λ c. search rules)
     (λ c. search rules)
     (λ c.
     let x = c.before.before.before.before in
-    promised _ _ _ _ _ _ _ _ _ _ (by_11 _ _ x.before.before.before.if2.true) x.sarthule_take.ensures)
+    promised _ _ _ _ _ _ _ _ _ _ (by_11 _ _ x.before.before.before.if-call-eq11.true) x.sarthule_take.ensures)
     (λ c. search rules)
     (λ c κs. search rules)
     (λ c. search rules)
@@ -45,4 +45,4 @@ list_call_spec =
     let d = x.before.before.before in
     let a = d.before in
     let p = a.before.before.before.before.before.before.requires in
-    promised _ _ _ _ _ _ _ _ _ _ (by_12 _ _ (twelve _ p.0 p.1 a.if1.false d.if2.false)) x.sarthule_done.ensures))
+    promised _ _ _ _ _ _ _ _ _ _ (by_12 _ _ (twelve _ p.0 p.1 a.if-call-eq10.false d.if-call-eq11.false)) x.sarthule_done.ensures))

@@ -20,7 +20,7 @@ make_call_spec =
     (λ c κs. search rules)
     (λ c.
     let x = c.before.before.before in
-    made_check _ _ _ _ _ _ _ _ refl _ _ c.read_answer.ensures x.before.before.if1.true x.sarthule_check.ensures)
+    made_check _ _ _ _ _ _ _ _ refl _ _ c.read_answer.ensures x.before.before.if-call-eq0.true x.sarthule_check-number.ensures)
     (λ c. search rules)
     (λ c. search rules)
     (λ c κs. search rules)
@@ -28,7 +28,7 @@ make_call_spec =
     (λ c κs. search rules)
     (λ c.
     let x = c.before.before.before in
-    made_open _ _ _ _ _ _ _ _ refl _ _ c.read_answer2.ensures x.before.before.if2.true x.sarthule_open.ensures)
+    made_open _ _ _ _ _ _ _ _ refl _ _ c.read_answer-then-call-eq1.ensures x.before.before.if-call-eq1.true x.sarthule_open-number.ensures)
     (λ c. search rules)
     (λ c. search rules)
     (λ c. search rules)
@@ -40,13 +40,13 @@ make_call_spec =
     (λ c. search rules)
     (λ c.
     let x = c.before.before.before.before.before in
-    made_create _ _ _ _ _ _ _ _ refl _ _ c.read_answer3.ensures _ x.before.before.before.if3.true x.sarthule_create.ensures)
+    made_create _ _ _ _ _ _ _ _ refl _ _ c.read_answer-then-call-eq2.ensures _ x.before.before.before.if-call-eq2.true x.sarthule_create-number.ensures)
     (λ c. search rules)
     (λ c κs.
     let d = c.before.before.before.before in
     let a = d.before.before in
     let p = a.before.before.before.before.before.requires in
-    (three _ a.if1.false d.before.if2.false d.if3.false, search rules, p.0, p.1))
+    (three _ a.if-call-eq0.false d.before.if-call-eq1.false d.if-call-eq2.false, search rules, p.0, p.1))
     (λ c. search rules)
     (λ c κs. search rules)
     (λ c. search rules)
@@ -56,5 +56,5 @@ make_call_spec =
     let x = c.before.before.before.before.before.before.before.before.before in
     let d = x.before.before.before.before.before in
     let a = d.before.before in
-    made_call _ _ _ _ _ _ _ _ _ c.read_answer4.ensures _ _ _ a.if1.false d.before.if2.false d.if3.false
-    x.store_call.ensures))
+    made_call _ _ _ _ _ _ _ _ _ c.read_answer-2.ensures _ _ _ a.if-call-eq0.false d.before.if-call-eq1.false d.if-call-eq2.false
+    x.store_call-number.ensures))

@@ -18,7 +18,7 @@ store_call_spec =
     let x = c.before.before.before.before.before.before in
     let i = x.before.before.before.before in
     let p = i.before.before.before.before.before.before.requires in
-    on_exported _ _ _ _ _ _ _ p.1 p.2 p.3 _ _ _ _ i.if1.true x.export_call.ensures)
+    on_exported _ _ _ _ _ _ _ p.1 p.2 p.3 _ _ _ _ i.if-call-le6.true x.export_call.ensures)
     (λ c κs. search rules)
     (λ c. search rules)
     (λ c. search rules)
@@ -26,7 +26,7 @@ store_call_spec =
     let x = c.before.before.before.before in
     let i = x.before.before.before in
     let p = i.before.before.before.before.before.before.before.requires in
-    on_order _ _ _ _ _ _ _ p.1 p.2 p.3 _ _ _ i.if2.true x.sarthule_order.ensures)
+    on_order _ _ _ _ _ _ _ p.1 p.2 p.3 _ _ _ i.if-call-eq9.true x.sarthule_order.ensures)
     (λ c κs. search rules)
     (λ c. search rules)
     (λ c. search rules)
@@ -36,7 +36,7 @@ store_call_spec =
     let i = x.before.before.before.before in
     let e = i.before in
     let p = e.before.before.before.before.before.before.before.requires in
-    on_restart _ _ _ _ _ _ _ p.1 p.2 p.3 _ _ _ _ e.before.if1.false e.if2.false (inl i.if3.true)
+    on_restart _ _ _ _ _ _ _ p.1 p.2 p.3 _ _ _ _ e.before.if-call-le6.false e.if-call-eq9.false (inl i.if-call-lt10.true)
     x.sarthule_restart.ensures)
     (λ c. search rules)
     (λ c κs. search rules)
@@ -48,7 +48,7 @@ store_call_spec =
     let x = c.before.before.before.before in
     let i = x.before.before.before.before.before in
     let p = i.before.before.before.before.before.before.before.before.before.requires in
-    on_retire _ _ _ _ _ _ _ p.1 p.2 p.3 _ _ _ i.if4.true x.sarthule_retire.ensures)
+    on_retire _ _ _ _ _ _ _ p.1 p.2 p.3 _ _ _ i.if-call-eq13.true x.sarthule_retire.ensures)
     (λ c κs. search rules)
     (λ c. search rules)
     (λ c. search rules)
@@ -58,8 +58,8 @@ store_call_spec =
     let i = x.before.before.before.before in
     let e = i.before.before.before in
     let p = e.before.before.before.before.before.before.before.requires in
-    on_restart _ _ _ _ _ _ _ p.1 p.2 p.3 _ _ _ _ e.before.if1.false e.if2.false (inr i.if5.true)
-    x.sarthule_restart2.ensures)
+    on_restart _ _ _ _ _ _ _ p.1 p.2 p.3 _ _ _ _ e.before.if-call-le6.false e.if-call-eq9.false (inr i.if-call-gt13.true)
+    x.sarthule_restart-then-call-gt13.ensures)
     (λ c κs. search rules)
     (λ c. search rules)
     (λ c. search rules)
@@ -69,6 +69,6 @@ store_call_spec =
     let x = c.before.before.before.before in
     let i = x.before.before.before.before.before in
     let p = i.before.before.before.before.before.before.before.before.before.before.requires in
-    on_listed _ _ _ _ _ _ _ p.1 p.2 p.3 _ _ _ (omega (arith, i.before.before.if3.false))
-    (omega (arith, i.before.if4.false, i.if5.false))
+    on_listed _ _ _ _ _ _ _ p.1 p.2 p.3 _ _ _ (omega (arith, i.before.before.if-call-lt10.false))
+    (omega (arith, i.before.if-call-eq13.false, i.if-call-gt13.false))
     x.list_call.ensures))

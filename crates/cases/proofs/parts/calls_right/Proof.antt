@@ -5,10 +5,10 @@ use lib.ListN.{length}
 use Rattle.cases.proofs.parts.calls_right.Statement.{statement}
 use Rattle.cases.proofs.parts.calls_right.Tie as tie
 
-abbrev invariant-loop : tie.invariant-loop
+abbrev invariant-loop : tie.invariant-loop-call_at
 invariant-loop calls at₀ at = at ≤ length calls
 
-abbrev decreases-loop : tie.decreases-loop
+abbrev decreases-loop : tie.decreases-loop-call_at
 decreases-loop calls at₀ at = length calls - at
 
 pub calls-right-spec : {M : Type 1} → statement M

@@ -6,10 +6,10 @@ use lib.ListN.{length}
 use Rattle.cases.proofs.parts.lend_list.Statement.{statement}
 use Rattle.cases.proofs.parts.lend_list.Tie as tie
 
-abbrev invariant-loop : tie.invariant-loop
+abbrev invariant-loop : tie.invariant-loop-i
 invariant-loop list₀ entries count i₀ list i = (i ≤ count) × (count ≤ 255) × (5 * count ≤ length entries) × (length list ≡ 2044)
 
-abbrev decreases-loop : tie.decreases-loop
+abbrev decreases-loop : tie.decreases-loop-i
 decreases-loop list₀ entries count i₀ list i = count - i
 
 pub lend_list_spec : {M : Type 1} → statement M

@@ -6,11 +6,11 @@ use lib.ListN.{length}
 use Rattle.cases.proofs.run.print_answers.Statement.{statement}
 use Rattle.cases.proofs.run.print_answers.Tie as tie
 
-abbrev invariant-loop : tie.invariant-loop
+abbrev invariant-loop : tie.invariant-loop-call_at
 invariant-loop pack store₀ records₀ list₀ calls at₀ store records list at =
     (at ≤ length calls) × (length store ≡ length store₀) × (length records ≡ length records₀) × (length list ≡ length list₀)
 
-abbrev decreases-loop : tie.decreases-loop
+abbrev decreases-loop : tie.decreases-loop-call_at
 decreases-loop pack store₀ records₀ list₀ calls at₀ store records list at = length calls - at
 
 pub print_answers_spec : {M : Type 1} → statement M

@@ -26,6 +26,6 @@ arrival_of_spec =
     (λ c. search rules)
     (λ c. let d = c.before.before in
     let e = d.before.before in
-    same_call _ _ (arrives _ _ _ _ _ _ _ _ _ e.before.before.before.before.before.read32.ensures
-    e.before.before.before.before.read322.ensures e.before.before.before.read323.ensures
-    e.before.before.read324.ensures e.before.read325.ensures e.read326.ensures) (d.arrival.ensures no_worklist)))
+    same_call _ _ (arrives _ _ _ _ _ _ _ _ _ e.before.before.before.before.before.read32-id.ensures
+    e.before.before.before.before.read32.ensures e.before.before.before.read32-2.ensures
+    e.before.before.read32-3.ensures e.before.read32-4.ensures e.read32-5.ensures) (d.arrival.ensures no_worklist)))

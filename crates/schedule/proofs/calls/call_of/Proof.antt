@@ -6,26 +6,26 @@ use Rattle.schedule.proofs.Listed.{kind_1, kind_2, kind_3, kind_4}
 use Rattle.schedule.proofs.calls.call_of.Statement.{statement}
 use Rattle.schedule.proofs.calls.call_of.Tie as tie
 
-abbrev start : tie.After-slice-known → tie.Start
+abbrev start : tie.After-slice_known-1 → tie.Start
 start c = c.before.before.before
 
 pub call_of_spec : {M : Type 1} → statement M
 call_of_spec =
     tie.close
     (tie.spec
-    (λ c κs. let q = (start c.before.before).requires in (q.0, names_0 _ _ _ c.before.if1.true q.1))
+    (λ c κs. let q = (start c.before.before).requires in (q.0, names_0 _ _ _ c.before.if-kind-eq0.true q.1))
     (λ c. search rules)
-    (λ c. let d = c.before.before in same_call _ _ (kind_0 _ _ _ _ d.before.before.if1.true) d.arrival_of.ensures)
+    (λ c. let d = c.before.before in same_call _ _ (kind_0 _ _ _ _ d.before.before.if-kind-eq0.true) d.arrival_of.ensures)
     (λ c κs. search rules)
     (λ c. search rules)
-    (λ c. let d = c.before.before in same_call _ _ (kind_1 _ _ _ _ d.before.before.if2.true) (d.turn.ensures no_worklist))
+    (λ c. let d = c.before.before in same_call _ _ (kind_1 _ _ _ _ d.before.before.if-kind-eq1.true) (d.turn.ensures no_worklist))
     (λ c κs. search rules)
     (λ c. search rules)
-    (λ c. same_call _ _ (kind_2 _ _ _ _ c.before.before.if3.true) (c.crash.ensures no_worklist))
+    (λ c. same_call _ _ (kind_2 _ _ _ _ c.before.before.if-kind-eq2.true) (c.crash.ensures no_worklist))
     (λ c κs. let q = (start c.before.before.before.before.before).requires in
-    (q.0, names_3 _ _ _ c.before.if4.true q.1))
+    (q.0, names_3 _ _ _ c.before.if-kind-eq3.true q.1))
     (λ c. search rules)
-    (λ c. same_call _ _ (kind_3 _ _ _ _ c.before.before.if4.true) c.retry_of.ensures)
+    (λ c. same_call _ _ (kind_3 _ _ _ _ c.before.before.if-kind-eq3.true) c.retry_of.ensures)
     (λ c κs. search rules)
     (λ c κs. search rules)
     (λ c κs. search rules)
@@ -33,7 +33,7 @@ call_of_spec =
     let r = c.before.before in
     let n = r.before in
     let d = n.before in
-    same_call _ _ (kind_4 _ _ _ _ d.before.before.before.if1.false d.before.before.if2.false d.before.if3.false
-    d.if4.false)
-    (restarts_empty _ _ _ _ r.restart.result.list (restarted_from _ _ _ _ n.no_worklist.ensures (r.restart.ensures _ _ _)) _
+    same_call _ _ (kind_4 _ _ _ _ d.before.before.before.if-kind-eq0.false d.before.before.if-kind-eq1.false d.before.if-kind-eq2.false
+    d.if-kind-eq3.false)
+    (restarts_empty _ _ _ _ r.restart-r.result.list (restarted_from _ _ _ _ n.no_worklist.ensures (r.restart-r.ensures _ _ _)) _
     c.done.ensures)))

@@ -14,10 +14,10 @@ abbrev start : tie.After-capacity → tie.Start
 start c = c.before.before.before.before.before.before
 
 -- the length of the store, and that it fits
-sized : (c : tie.After-store-size) → c.store_size.result ≡ store_size (start c.before).args.schedule.now
-sized c = size_as _ _ _ _ _ c.store_size.ensures c.before.before.partition_count.ensures c.before.capacity.ensures
+sized : (c : tie.After-store_size-size) → c.store_size-size.result ≡ store_size (start c.before).args.schedule.now
+sized c = size_as _ _ _ _ _ c.store_size-size.ensures c.before.before.partition_count.ensures c.before.capacity.ensures
 
-fits : (c : tie.After-store-size) → c.store_size.result ≤ length (start c.before).args.store.now
+fits : (c : tie.After-store_size-size) → c.store_size-size.result ≤ length (start c.before).args.store.now
 fits c = let q = (start c.before).requires in omega (arith, sized c, (size_fits _ _ q.0.numbers).2)
 
 pub run_in_spec : {M : Type 1} → statement M

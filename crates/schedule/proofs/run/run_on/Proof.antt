@@ -6,19 +6,19 @@ use Rattle.schedule.proofs.run.run_on.Statement.{statement}
 use Rattle.schedule.proofs.run.run_on.Tie as tie
 
 -- what the code had in hand at each call, from a later one
-abbrev start : tie.After-capacity → tie.Start
+abbrev start : tie.After-capacity-cap → tie.Start
 start c = c.before.before.before.before.before.before.before
 
-abbrev begun : tie.After-create → tie.After-capacity
+abbrev begun : tie.After-create → tie.After-capacity-cap
 begun c = c.before.before
 
-abbrev created : tie.After-events-line → tie.After-create
+abbrev created : tie.After-events_line-written → tie.After-create
 created c = c.before.before.before.before
 
-abbrev total : tie.After-run-events → tie.After-events-line
+abbrev total : tie.After-run_events-written → tie.After-events_line-written
 total c = c.before.before.before.before.before
 
-abbrev went : tie.After-print-store-arg2 → tie.After-run-events
+abbrev went : tie.After-print-store-arg2 → tie.After-run_events-written
 went c = c.before.before.before.before.before.before
 
 pub run_on_spec : {M : Type 1} → statement M
@@ -33,20 +33,20 @@ run_on_spec =
     (λ c κs. search rules)
     (λ c κs. let m = created c.before.before.before.before in
     let k = begun m in
-    let q = (start k).pre in (
+    let q = (start k).requires in (
       q.0,
-      fresh_chain _ _ _ _ _ _ _ k.before.partition_count.ensures k.capacity.ensures q.0 q.1 m.create.ensures,
+      fresh_chain _ _ _ _ _ _ _ k.before.partition_count-partitions.ensures k.capacity-cap.ensures q.0 q.1 m.create.ensures,
       omega arith,
     ))
     (λ c κs. let d = went c in
     let t = total d in (
-      chain_sound d.run_events.ensures.0.going.ran.chain,
+      chain_sound d.run_events-written.ensures.0.going.ran.chain,
       omega (
         arith,
-        d.run_events.ensures.1,
-        d.run_events.kept.1.1.1.0,
-        t.events_line.ensures.1,
-        t.events_line.kept.0,
+        d.run_events-written.ensures.1,
+        d.run_events-written.kept.1.1.1.0,
+        t.events_line-written.ensures.1,
+        t.events_line-written.kept.0,
         (start (begun (created t))).requires.2,
       ),
     ))
@@ -55,7 +55,7 @@ run_on_spec =
     (λ c. let p = c.before.before in
     let d = went p.before in
     let t = total d in
-    let x = t.events_line.ensures.0 in
-    let w = d.run_events.ensures.0 in
+    let x = t.events_line-written.ensures.0 in
+    let w = d.run_events-written.ensures.0 in
     let z = p.print_store.ensures in
-    (prints _ x w z (begun (created t)).before.before.read16.ensures, z.room, (all_said _ x w z).stays)))
+    (prints _ x w z (begun (created t)).before.before.read16-events.ensures, z.room, (all_said _ x w z).stays)))

@@ -20,4 +20,4 @@ key_place_spec =
     (λ c. search rules)
     (λ c. search rules)
     (λ c. let a = c.before.before.before.before.args in
-    omega (arith, ap (λ (n : ℕ). a.partition * n) c.before.capacity.ensures)))
+    omega (arith, ap (λ (n : ℕ). a.partition * n) c.before.capacity-cap.ensures)))

@@ -11,5 +11,5 @@ partition_count_spec =
     tie.close
     (tie.spec
     (λ c. search rules)
-    (λ c. omega (arith, c.shared-slice-known.given 0))
+    (λ c. omega (arith, c.shared_slice_known-1.given 0))
     (λ c. omega arith))

@@ -26,6 +26,6 @@ value_place_spec =
     (λ c. let a = c.before.before.before.before.before.args in
     omega (
       arith,
-      ap (λ (n : ℕ). a.partition * n) c.before.before.capacity.ensures,
-      ap₂ (λ (m n : ℕ). (m + 1) * n) c.before.before.before.partition_count.ensures c.before.before.capacity.ensures,
+      ap (λ (n : ℕ). a.partition * n) c.before.before.capacity-cap.ensures,
+      ap₂ (λ (m n : ℕ). (m + 1) * n) c.before.before.before.partition_count-parts.ensures c.before.before.capacity-cap.ensures,
     )))

@@ -10,12 +10,12 @@ use Rattle.store.proofs.rows.get.Statement.{statement}
 use Rattle.store.proofs.rows.get.Tie as tie
 
 -- what the search found, by a reading of all rows
-found : (c : tie.After-find) →
+found : (c : tie.After-find-found) →
     let a = c.before.before.args in
-    found_in a.key (keys_in (rows_of a.store.now a.partition)) ≡ c.find.result
+    found_in a.key (keys_in (rows_of a.store.now a.partition)) ≡ c.find-found.result
 found c =
     let st = c.before.before in
-    sym (c.find.ensures.all (rows_rise st.args.store.now st.requires.0 st.args.partition st.requires.1))
+    sym (c.find-found.ensures.all (rows_rise st.args.store.now st.requires.0 st.args.partition st.requires.1))
 
 pub get_spec : {M : Type 1} → statement M
 unfolding got_of
@@ -28,17 +28,17 @@ get_spec =
     let st = d.before.before in (
       st.requires.0,
       st.requires.1,
-      at_row st.args.key (rows_of st.args.store.now st.args.partition) c.before.found.given.0.0
-          (found d ∙ c.before.found.given.1),
+      at_row st.args.key (rows_of st.args.store.now st.args.partition) c.before.found-1.given.0.0
+          (found d ∙ c.before.found-1.given.1),
     ))
     (λ c. search rules)
     (λ c. let m = c.before.before in
     let d = m.before.before in
     let st = d.before.before in
     ap Value c.value_at.ensures
-    ∙ sym (ap got_of (at_lookup st.args.key (rows_of st.args.store.now st.args.partition) m.found.given.0.0
-    (found d ∙ m.found.given.1))))
+    ∙ sym (ap got_of (at_lookup st.args.key (rows_of st.args.store.now st.args.partition) m.found-1.given.0.0
+    (found d ∙ m.found-1.given.1))))
     (λ c. let d = c.before.before in
     let st = d.before.before in
-    sym (ap got_of (no_lookup st.args.key (rows_of st.args.store.now st.args.partition) c.enum_told.given.0.0
-    (found d ∙ c.enum_told.given.1)))))
+    sym (ap got_of (no_lookup st.args.key (rows_of st.args.store.now st.args.partition) c.enum_told-1.given.0.0
+    (found d ∙ c.enum_told-1.given.1)))))

@@ -10,12 +10,12 @@ use Rattle.store.proofs.Found.{next_greater, none_left}
 use Rattle.store.proofs.rows.search.Statement.{statement}
 use Rattle.store.proofs.rows.search.Tie as tie
 
-abbrev invariant-loop : tie.invariant-loop
+abbrev invariant-loop : tie.invariant-loop-left
 invariant-loop store keys_at count key key_at₀ passed₀ left₀ key_at passed left =
     (passed + left ≡ count) × (key_at ≡ keys_at + 8 * passed)
     × (sought key (fields 8 store keys_at count) ≡ shift passed (sought key (fields 8 store key_at left)))
 
-abbrev decreases-loop : tie.decreases-loop
+abbrev decreases-loop : tie.decreases-loop-left
 decreases-loop store keys_at count key key_at₀ passed₀ left₀ key_at passed left = left
 
 pub search_spec : {M : Type 1} → statement M
@@ -30,17 +30,17 @@ search_spec =
     (λ c. let rd = c.before.before in
     let lp = rd.before.before in
     let a = lp.before.before.args in
-    let q = next_equal a.key 8 a.store.now lp.loop.key_at lp.loop.left (lp.loop.left - 1) (omega arith)
-    (sym rd.read64.ensures ∙ sym c.if2.true) in
-    searched a.key (fields 8 a.store.now a.keys_at a.count) (At lp.loop.passed)
-    (sym (lp.loop.invariant.2 ∙ ap (shift lp.loop.passed) q ∙ shift_at lp.loop.passed)))
+    let q = next_equal a.key 8 a.store.now lp.loop-left.key_at lp.loop-left.false (lp.loop-left.false - 1) (omega arith)
+    (sym rd.read64-next.ensures ∙ sym c.if-key-next-2.true) in
+    searched a.key (fields 8 a.store.now a.keys_at a.count) (At lp.loop-left.passed)
+    (sym (lp.loop-left.invariant.2 ∙ ap (shift lp.loop-left.passed) q ∙ shift_at lp.loop-left.passed)))
     (λ c. let rd = c.before.before in
     let lp = rd.before.before in
     let a = lp.before.before.args in
-    let q = next_greater a.key 8 a.store.now lp.loop.key_at lp.loop.left (lp.loop.left - 1) (omega arith)
-    (omega (arith, rd.read64.ensures, c.if2.false, c.before.if1.true)) in
-    searched a.key (fields 8 a.store.now a.keys_at a.count) (Belongs lp.loop.passed)
-    (sym (lp.loop.invariant.2 ∙ ap (shift lp.loop.passed) q ∙ shift_belongs lp.loop.passed)))
+    let q = next_greater a.key 8 a.store.now lp.loop-left.key_at lp.loop-left.false (lp.loop-left.false - 1) (omega arith)
+    (omega (arith, rd.read64-next.ensures, c.if-key-next-2.false, c.before.if-key-next.true)) in
+    searched a.key (fields 8 a.store.now a.keys_at a.count) (Belongs lp.loop-left.passed)
+    (sym (lp.loop-left.invariant.2 ∙ ap (shift lp.loop-left.passed) q ∙ shift_belongs lp.loop-left.passed)))
     (λ c. omega arith)
     (λ c. omega arith)
     (λ c. omega arith)
@@ -48,16 +48,16 @@ search_spec =
     (λ c. let rd = c.before in
     let lp = rd.before.before in
     let a = lp.before.before.args in
-    let q = next_smaller a.key 8 a.store.now lp.loop.key_at lp.loop.left (lp.loop.left - 1) (omega arith)
-    (omega (arith, rd.read64.ensures, c.if1.false)) in (
+    let q = next_smaller a.key 8 a.store.now lp.loop-left.key_at lp.loop-left.false (lp.loop-left.false - 1) (omega arith)
+    (omega (arith, rd.read64-next.ensures, c.if-key-next.false)) in (
       omega arith,
       omega arith,
-      lp.loop.invariant.2 ∙ ap (shift lp.loop.passed) q
-          ∙ shift_more lp.loop.passed (sought a.key (fields 8 a.store.now (lp.loop.key_at + 8) (lp.loop.left - 1))),
+      lp.loop-left.invariant.2 ∙ ap (shift lp.loop-left.passed) q
+          ∙ shift_more lp.loop-left.passed (sought a.key (fields 8 a.store.now (lp.loop-left.key_at + 8) (lp.loop-left.false - 1))),
     ))
     (λ c. let lp = c.before in
     let a = lp.before.before.args in
-    searched a.key (fields 8 a.store.now a.keys_at a.count) (Belongs lp.loop.passed)
-    (sym (lp.loop.invariant.2 ∙ ap (shift lp.loop.passed)
-    (none_left a.key 8 a.store.now lp.loop.key_at lp.loop.left (omega arith))
-    ∙ shift_belongs lp.loop.passed))))
+    searched a.key (fields 8 a.store.now a.keys_at a.count) (Belongs lp.loop-left.passed)
+    (sym (lp.loop-left.invariant.2 ∙ ap (shift lp.loop-left.passed)
+    (none_left a.key 8 a.store.now lp.loop-left.key_at lp.loop-left.false (omega arith))
+    ∙ shift_belongs lp.loop-left.passed))))

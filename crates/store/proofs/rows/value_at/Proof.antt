@@ -22,5 +22,5 @@ value_at_spec =
           (row_below st.args.store.now st.requires.0.formed st.args.partition st.requires.1 st.args.row st.requires.2),
     ))
     (λ c. let st = c.before.before.before in
-    c.read32.ensures ∙ ap (le 4 st.args.store.now) c.before.value_place.ensures
+    c.read32.ensures ∙ ap (le 4 st.args.store.now) c.before.value_place-place.ensures
     ∙ sym (value_is st.args.store.now st.args.partition st.args.row st.requires.2)))

@@ -18,23 +18,23 @@ use Rattle.store_check.proofs.any_order.book_whole.Tie as tie
 abbrev whole : List ℕ → ℕ → ℕ → ℕ → Bool
 whole store keys_at used key = is_floor_key key || five (fields 8 store keys_at used) (booked_id key)
 
-abbrev invariant-loop : tie.invariant-loop
+abbrev invariant-loop : tie.invariant-loop-row
 invariant-loop store keys_at used key_at₀ row₀ key_at row =
     (row ≤ used) × (key_at ≡ keys_at + 8 * row)
     × (all_in (whole store keys_at used) (fields 8 store keys_at used) ≡ all_in (whole store keys_at used)
     (fields 8 store key_at (used - row)))
 
-abbrev decreases-loop : tie.decreases-loop
+abbrev decreases-loop : tie.decreases-loop-row
 decreases-loop store keys_at used key_at₀ row₀ key_at row = used - row
 
 -- the answer for the key that was read
-answer : (f : tie.After-key-whole invariant-loop decreases-loop) →
+answer : (f : tie.After-key_whole invariant-loop decreases-loop) →
     let lp = f.before.before.before in
     let a = lp.before.before.args in
-    whole a.store.now a.keys_at a.used (le 8 a.store.now lp.loop.key_at) ≡ f.key_whole.result
+    whole a.store.now a.keys_at a.used (le 8 a.store.now lp.loop-row.key_at) ≡ f.key_whole.result
 answer f =
     let a = f.before.before.before.before.before.args in
-    ap (whole a.store.now a.keys_at a.used) (sym f.before.read64.ensures) ∙ sym f.key_whole.ensures
+    ap (whole a.store.now a.keys_at a.used) (sym f.before.read64-key.ensures) ∙ sym f.key_whole.ensures
 
 pub book_whole_spec : {M : Type 1} → statement M
 unfolding book_ok
@@ -51,10 +51,10 @@ book_whole_spec =
     (λ c. let f = c.before in
     let lp = f.before.before.before in
     let a = lp.before.before.args in
-    sym (lp.loop.invariant.2
-    ∙ all_step (whole a.store.now a.keys_at a.used) a.store.now lp.loop.key_at (a.used - lp.loop.row)
-    (a.used - (lp.loop.row + 1)) (omega arith)
-    ∙ rw (answer f, not-true f.key_whole.result c.if1.true) refl))
+    sym (lp.loop-row.invariant.2
+    ∙ all_step (whole a.store.now a.keys_at a.used) a.store.now lp.loop-row.key_at (a.used - lp.loop-row.row)
+    (a.used - (lp.loop-row.row + 1)) (omega arith)
+    ∙ rw (answer f, not-true f.key_whole.result c.if-not-key_whole.true) refl))
     (λ c. omega arith)
     (λ c. omega arith)
     (λ c. omega arith)
@@ -63,13 +63,13 @@ book_whole_spec =
     let a = lp.before.before.args in (
       omega arith,
       omega arith,
-      lp.loop.invariant.2
-          ∙ all_step (whole a.store.now a.keys_at a.used) a.store.now lp.loop.key_at (a.used - lp.loop.row)
-          (a.used - (lp.loop.row + 1))
+      lp.loop-row.invariant.2
+          ∙ all_step (whole a.store.now a.keys_at a.used) a.store.now lp.loop-row.key_at (a.used - lp.loop-row.row)
+          (a.used - (lp.loop-row.row + 1))
           (omega arith)
-          ∙ rw (answer f, not-false f.key_whole.result c.if1.false) refl,
+          ∙ rw (answer f, not-false f.key_whole.result c.if-not-key_whole.false) refl,
     ))
     (λ c. let lp = c.before in
     let a = lp.before.before.args in
-    sym (lp.loop.invariant.2 ∙ all_done (whole a.store.now a.keys_at a.used) a.store.now lp.loop.key_at
-    (a.used - lp.loop.row) (omega arith))))
+    sym (lp.loop-row.invariant.2 ∙ all_done (whole a.store.now a.keys_at a.used) a.store.now lp.loop-row.key_at
+    (a.used - lp.loop-row.row) (omega arith))))

@@ -17,31 +17,31 @@ check_book_spec =
     (λ c κs. search rules)
     (λ c κs. let u = c.before in
     let p = u.before in
-    (book_within _ _ _ _ p.partition_count.ensures u.used_count.ensures c.key_place.ensures p.before.before.requires).0)
+    (book_within _ _ _ _ p.partition_count-book.ensures u.used_count-used.ensures c.key_place-keys_at.ensures p.before.before.requires).0)
     (λ c. let b = c.before in
     let k = b.before in
     let u = k.before in
     let p = u.before in
     let xs = p.before.before.args.store.now in
-    let to = value_at xs p.partition_count.result 0 in
-    sym (sym (book_is _ _ _ _ p.partition_count.ensures u.used_count.ensures k.key_place.ensures to refl)
-    ∙ right_no _ _ _ _ (sym b.book_whole.ensures ∙ not-true _ c.if1.true)))
+    let to = value_at xs p.partition_count-book.result 0 in
+    sym (sym (book_is _ _ _ _ p.partition_count-book.ensures u.used_count-used.ensures k.key_place-keys_at.ensures to refl)
+    ∙ right_no _ _ _ _ (sym b.book_whole.ensures ∙ not-true _ c.if-not-book_whole.true)))
     (λ c κs. search rules)
     (λ c κs. let k = c.before.before.before in
     let u = k.before in
     let p = u.before in
     let st = p.before.before in
-    let within = book_within _ _ _ _ p.partition_count.ensures u.used_count.ensures k.key_place.ensures st.requires in
+    let within = book_within _ _ _ _ p.partition_count-book.ensures u.used_count-used.ensures k.key_place-keys_at.ensures st.requires in
     (within.0, within.1 _ c.value_place.ensures))
     (λ c κs. let k = c.before.before.before.before in
     let u = k.before in
     let p = u.before in
-    (book_within _ _ _ _ p.partition_count.ensures u.used_count.ensures k.key_place.ensures p.before.before.requires).0)
+    (book_within _ _ _ _ p.partition_count-book.ensures u.used_count-used.ensures k.key_place-keys_at.ensures p.before.before.requires).0)
     (λ c. let f = c.before in
     let v = f.before in
     let b = v.before.before in
     let k = b.before in
     let u = k.before in
     c.none_below.ensures
-    ∙ sym (right_is _ _ _ _ (sym b.book_whole.ensures ∙ not-false _ v.before.if1.false) _ f.floor_of.ensures)
-    ∙ book_is _ _ _ _ u.before.partition_count.ensures u.used_count.ensures k.key_place.ensures _ v.value_place.ensures))
+    ∙ sym (right_is _ _ _ _ (sym b.book_whole.ensures ∙ not-false _ v.before.if-not-book_whole.false) _ f.floor_of-floor.ensures)
+    ∙ book_is _ _ _ _ u.before.partition_count-book.ensures u.used_count-used.ensures k.key_place-keys_at.ensures _ v.value_place.ensures))

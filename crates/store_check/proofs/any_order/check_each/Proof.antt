@@ -14,49 +14,49 @@ use Rattle.store_check.proofs.Steps.{places_within, places_part}
 use Rattle.store_check.proofs.any_order.check_each.Statement.{statement}
 use Rattle.store_check.proofs.any_order.check_each.Tie as tie
 
-abbrev invariant-loop : tie.invariant-loop
+abbrev invariant-loop : tie.invariant-loop-partition
 invariant-loop store marks₀ parts cap partition₀ marks partition =
     (partition ≤ parts + 1) × (length marks ≡ length marks₀)
     × (each_from (part_ok_by keys_apart store) (parts + 1 - partition) partition ≡ each (parts + 1) (part_ok_by keys_apart store))
 
-abbrev decreases-loop : tie.decreases-loop
+abbrev decreases-loop : tie.decreases-loop-partition
 decreases-loop store marks₀ parts cap partition₀ marks partition = parts + 1 - partition
 
 -- the beginning, from the loop; and the loop, from where a partition's answer is in hand
-abbrev start : tie.At-loop invariant-loop decreases-loop → tie.Start invariant-loop decreases-loop
+abbrev start : tie.At-loop-partition invariant-loop decreases-loop → tie.Start invariant-loop decreases-loop
 start lp = lp.before.before.before.before.before
 
-abbrev turn : tie.After-partition-apart invariant-loop decreases-loop → tie.At-loop invariant-loop decreases-loop
+abbrev turn : tie.After-partition_apart invariant-loop decreases-loop → tie.At-loop-partition invariant-loop decreases-loop
 turn k = k.before.before.before.before.before.before
 
 -- the partition is one of the store's
-low : (c : tie.In-loop invariant-loop decreases-loop) →
+low : (c : tie.In-loop-partition invariant-loop decreases-loop) →
     let lp = c.before in
-    lp.loop.partition ≤ parts_of (start lp).args.store.now
-low c = let h = c.loop-test.true in omega (arith, c.before.before.before.partition_count.ensures)
+    lp.loop-partition.partition ≤ parts_of (start lp).args.store.now
+low c = let h = c.loop-partition-test.true in omega (arith, c.before.before.before.partition_count-parts.ensures)
 
 -- the answer for the partition, by its places
-answer : (k : tie.After-partition-apart invariant-loop decreases-loop) →
+answer : (k : tie.After-partition_apart invariant-loop decreases-loop) →
     let lp = turn k in
-    part_ok_by keys_apart (start lp).args.store.now lp.loop.partition ≡ k.partition_apart.result
+    part_ok_by keys_apart (start lp).args.store.now lp.loop-partition.partition ≡ k.partition_apart.result
 answer k =
     let v = k.before.before in
     let ca = v.before.before.before.before.before in
     sym
     (k.partition_apart.ensures
-    ∙ places_part _ _ _ _ _ _ ca.capacity.ensures v.before.before.used_count.ensures v.before.key_place.ensures
-    v.value_place.ensures keys_apart _ ca.before.partition_count.ensures)
+    ∙ places_part _ _ _ _ _ _ ca.capacity-cap.ensures v.before.before.used_count-used.ensures v.before.key_place-keys_at.ensures
+    v.value_place-values_at.ensures keys_apart _ ca.before.partition_count-parts.ensures)
 
 -- the rest answers for all of them, of which there are P + 1
-whole : (lp : tie.At-loop invariant-loop decreases-loop) →
+whole : (lp : tie.At-loop-partition invariant-loop decreases-loop) →
     let a = (start lp).args in
-    each_from (part_ok_by keys_apart a.store.now) (lp.before.before.partition_count.result + 1 - lp.loop.partition)
-    lp.loop.partition
+    each_from (part_ok_by keys_apart a.store.now) (lp.before.before.partition_count-parts.result + 1 - lp.loop-partition.partition)
+    lp.loop-partition.partition
     ≡ question11_in_any_order a.store.now
 unfolding question11_in_any_order
 whole lp =
     let a = (start lp).args in
-    lp.loop.invariant.2 ∙ ap (λ (n : ℕ). each (n + 1) (part_ok_by keys_apart a.store.now)) lp.before.before.partition_count.ensures
+    lp.loop-partition.invariant.2 ∙ ap (λ (n : ℕ). each (n + 1) (part_ok_by keys_apart a.store.now)) lp.before.before.partition_count-parts.ensures
 
 pub check_each_spec : {M : Type 1} → statement M
 unfolding question11_in_any_order
@@ -69,29 +69,29 @@ check_each_spec =
     (λ c κs. search rules)
     (λ c. let pc = c.before in
     let a = pc.before.before.before.args in
-    (search rules, refl, ap (λ (n : ℕ). each_from (part_ok_by keys_apart a.store.now) n 0) (sub-zero (pc.partition_count.result + 1))))
-    (λ c κs. ((start c.before).pre.0, low c))
-    (λ c κs. let l = c.before in ((start l.before).pre.0, low l, omega arith))
-    (λ c κs. let l = c.before.before in ((start l.before).pre.0, low l, omega arith))
+    (search rules, refl, ap (λ (n : ℕ). each_from (part_ok_by keys_apart a.store.now) n 0) (sub-zero (pc.partition_count-parts.result + 1))))
+    (λ c κs. ((start c.before).requires.0, low c))
+    (λ c κs. let l = c.before in ((start l.before).requires.0, low l, omega arith))
+    (λ c κs. let l = c.before.before in ((start l.before).requires.0, low l, omega arith))
     (λ c. omega arith)
     (λ c. let l = c.before.before.before.before in
     let st = start l.before in
-    omega (arith, low l, st.pre.0.parts_high))
+    omega (arith, low l, st.requires.0.parts_high))
     (λ c κs. let v = c.before in
     let u = v.before.before in
     let l = u.before in
     let ca = l.before.before in
     let st = ca.before.before.before.before in
     let w =
-    places_within _ _ _ _ _ _ ca.capacity.ensures u.used_count.ensures v.before.key_place.ensures v.value_place.ensures
+    places_within _ _ _ _ _ _ ca.capacity-cap.ensures u.used_count-used.ensures v.before.key_place-keys_at.ensures v.value_place-values_at.ensures
     st.requires.0 (low l) in
     (w.0, w.1, omega arith))
     (λ c. search rules)
     (λ c. let k = c.before.before.before in
     let lp = turn k in
     let a = (start lp).args in
-    sym (each_fails (part_ok_by keys_apart a.store.now) (lp.before.before.partition_count.result + 1) lp.loop.partition
-    (omega arith) (answer k ∙ not-true _ c.if1.true))
+    sym (each_fails (part_ok_by keys_apart a.store.now) (lp.before.before.partition_count-parts.result + 1) lp.loop-partition.partition
+    (omega arith) (answer k ∙ not-true _ c.if-not-partition_apart.true))
     ∙ whole lp)
     (λ c. omega arith)
     (λ c. omega arith)
@@ -99,14 +99,14 @@ check_each_spec =
     let lp = turn k in
     let a = (start lp).args in (
       omega arith,
-      k.partition_apart.auto.1.1.1.1.1.1.0 ∙ lp.loop.inv.1,
-      sym (each_more (part_ok_by keys_apart a.store.now) (lp.before.before.partition_count.result + 1) lp.loop.partition
-          (omega arith) (answer k ∙ not-false _ c.if1.false))
-          ∙ lp.loop.inv.2,
+      k.partition_apart.auto.1.1.1.1.1.1.0 ∙ lp.loop-partition.invariant.1,
+      sym (each_more (part_ok_by keys_apart a.store.now) (lp.before.before.partition_count-parts.result + 1) lp.loop-partition.partition
+          (omega arith) (answer k ∙ not-false _ c.if-not-partition_apart.false))
+          ∙ lp.loop-partition.invariant.2,
     ))
     (λ c. search rules)
     (λ c. let lp = c.before in
     let a = (start lp).args in
-    sym (each_none (part_ok_by keys_apart a.store.now) (lp.before.before.partition_count.result + 1) lp.loop.partition
+    sym (each_none (part_ok_by keys_apart a.store.now) (lp.before.before.partition_count-parts.result + 1) lp.loop-partition.partition
     (omega arith))
     ∙ whole lp))

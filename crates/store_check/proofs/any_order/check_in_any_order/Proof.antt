@@ -12,16 +12,16 @@ use Rattle.store_check.proofs.any_order.check_in_any_order.Statement.{statement}
 use Rattle.store_check.proofs.any_order.check_in_any_order.Tie as tie
 
 -- the beginning, from where 9 and 10 have said yes
-abbrev start : tie.After-enum-told → tie.Start
+abbrev start : tie.In-Accepted → tie.Start
 start c = c.before.before.before.before
 
 -- 9 and 10 say yes
-shape : (c : tie.After-enum-told) → Dimensions (start c).args.store.now
-shape c = shape_accepted _ _ c.before.before.check_shape.ensures c.enum_told.given.1
+shape : (c : tie.In-Accepted) → Dimensions (start c).args.store.now
+shape c = shape_accepted _ _ c.before.before.check_shape-v.ensures c.enum_told-1.given.1
 
 -- 11 says yes
-rows : (c : tie.Else1) → question11_in_any_order (start c.before.before).args.store.now ≡ true
-rows c = sym c.before.check_partitions.ensures ∙ not-false _ c.if1.false
+rows : (c : tie.Else-not-check_partitions) → question11_in_any_order (start c.before.before).args.store.now ≡ true
+rows c = sym c.before.check_partitions.ensures ∙ not-false _ c.if-not-check_partitions.false
 
 pub check_in_any_order_spec : {M : Type 1} → statement M
 unfolding order_refusal
@@ -34,19 +34,19 @@ check_in_any_order_spec =
     (λ c κs. search rules)
     (λ c. let t = c.before.before.before in
     c.refused.ensures
-    ∙ ap verdict_of (sym (no_11 _ _ _ t.before.before.check_shape.ensures t.enum_told.given.1
-    (sym c.before.before.check_partitions.ensures ∙ not-true _ c.before.if1.true))))
+    ∙ ap verdict_of (sym (no_11 _ _ _ t.before.before.check_shape-v.ensures t.enum_told-1.given.1
+    (sym c.before.before.check_partitions.ensures ∙ not-true _ c.before.if-not-check_partitions.true))))
     (λ c κs. formed_of _ (shape c.before.before) (rows c))
     (λ c κs. search rules)
     (λ c. let e = c.before.before.before in
     let t = e.before.before in
-    c.refused2.ensures
-    ∙ ap verdict_of (sym (no_12 _ _ _ t.before.before.check_shape.ensures t.enum_told.given.1 (rows e)
-    (sym c.before.before.check_book.ensures ∙ not-true _ c.before.if2.true))))
+    c.refused-then-not-check_book.ensures
+    ∙ ap verdict_of (sym (no_12 _ _ _ t.before.before.check_shape-v.ensures t.enum_told-1.given.1 (rows e)
+    (sym c.before.before.check_book.ensures ∙ not-true _ c.before.if-not-check_book.true))))
     (λ c. search rules)
     (λ c. let e = c.before.before in
     let t = e.before.before in
-    t.enum_told.given.1
-    ∙ ap verdict_of (sym (all_yes _ _ _ t.before.before.check_shape.ensures t.enum_told.given.1 (rows e)
-    (sym c.before.check_book.ensures ∙ not-false _ c.if2.false))))
-    (λ c. no_shape _ _ _ c.before.before.check_shape.ensures _ _ _ c.enum-told2.given.1))
+    t.enum_told-1.given.1
+    ∙ ap verdict_of (sym (all_yes _ _ _ t.before.before.check_shape-v.ensures t.enum_told-1.given.1 (rows e)
+    (sym c.before.check_book.ensures ∙ not-false _ c.if-not-check_book.false))))
+    (λ c. no_shape _ _ _ c.before.before.check_shape-v.ensures _ _ _ c.enum_told-in-Refused-1.given.1))

@@ -18,18 +18,18 @@ use Rattle.store_check.proofs.any_order.five_rows.Tie as tie
 abbrev booked : List ℕ → ℕ → ℕ → ℕ → ℕ → Bool
 booked store keys_at used key row = member (book_key (booked_id key) row) (fields 8 store keys_at used)
 
-abbrev invariant-loop : tie.invariant-loop
+abbrev invariant-loop : tie.invariant-loop-row
 invariant-loop store keys_at used first key row₀ row =
     (row ≤ 5) × (each_from (booked store keys_at used key) (5 - row) row ≡ each 5 (booked store keys_at used key))
 
-abbrev decreases-loop : tie.decreases-loop
+abbrev decreases-loop : tie.decreases-loop-row
 decreases-loop store keys_at used first key row₀ row = 5 - row
 
 -- the answer for the key that was asked for
 answer : (h : tie.After-has invariant-loop decreases-loop) →
     let lp = h.before.before.before in
     let a = lp.before.before.args in
-    booked a.store.now a.keys_at a.used a.key lp.loop.row ≡ h.has.result
+    booked a.store.now a.keys_at a.used a.key lp.loop-row.row ≡ h.has.result
 answer h =
     let a = h.before.before.before.before.before.args in
     ap (λ (k : ℕ). member k (fields 8 a.store.now a.keys_at a.used)) (sym h.before.beside.ensures) ∙ sym h.has.ensures
@@ -48,19 +48,19 @@ five_rows_spec =
     (λ c. let h = c.before in
     let lp = h.before.before.before in
     let a = lp.before.before.args in
-    sym (each_fails (booked a.store.now a.keys_at a.used a.key) 5 lp.loop.row (omega arith)
-    (answer h ∙ not-true _ c.if1.true))
-    ∙ lp.loop.invariant.1)
+    sym (each_fails (booked a.store.now a.keys_at a.used a.key) 5 lp.loop-row.row (omega arith)
+    (answer h ∙ not-true _ c.if-not-has.true))
+    ∙ lp.loop-row.invariant.1)
     (λ c. omega arith)
     (λ c. omega arith)
     (λ c. let h = c.before in
     let lp = h.before.before.before in
     let a = lp.before.before.args in (
       omega arith,
-      sym (each_more (booked a.store.now a.keys_at a.used a.key) 5 lp.loop.row (omega arith)
-          (answer h ∙ not-false _ c.if1.false))
-          ∙ lp.loop.invariant.1,
+      sym (each_more (booked a.store.now a.keys_at a.used a.key) 5 lp.loop-row.row (omega arith)
+          (answer h ∙ not-false _ c.if-not-has.false))
+          ∙ lp.loop-row.invariant.1,
     ))
     (λ c. let lp = c.before in
     let a = lp.before.before.args in
-    sym (each_none (booked a.store.now a.keys_at a.used a.key) 5 lp.loop.row (omega arith)) ∙ lp.loop.invariant.1))
+    sym (each_none (booked a.store.now a.keys_at a.used a.key) 5 lp.loop-row.row (omega arith)) ∙ lp.loop-row.invariant.1))

@@ -21,10 +21,10 @@ floor_of_spec =
     let a = i.before.before.before.args in
     c.read32.ensures
     ∙ floor_found _ _ _ _ _
-    (i.index_of.ensures ∙ ap (λ (k : ℕ). index_of k (fields 8 a.store.now a.keys_at a.used)) i.before.floor_key_lem.ensures)
-    c.before.if1.true)
+    (i.index_of-row.ensures ∙ ap (λ (k : ℕ). index_of k (fields 8 a.store.now a.keys_at a.used)) i.before.floor_key_lem.ensures)
+    c.before.if-row-used.true)
     (λ c. let i = c.before in
     let a = i.before.before.before.args in
     floor_missed a.store.now a.keys_at a.values_at a.used _
-    (i.index_of.ensures ∙ ap (λ (k : ℕ). index_of k (fields 8 a.store.now a.keys_at a.used)) i.before.floor_key_lem.ensures)
-    c.if1.false))
+    (i.index_of-row.ensures ∙ ap (λ (k : ℕ). index_of k (fields 8 a.store.now a.keys_at a.used)) i.before.floor_key_lem.ensures)
+    c.if-row-used.false))

@@ -18,8 +18,8 @@ has_spec =
     (λ c κs. search rules)
     (λ c. let t = c.before.before in
     let a = t.before.before.args in
-    sym (member_at a.key a.store.now a.keys_at a.used a.near _ t.if1.true refl
-    (sym c.before.read64.ensures ∙ c.if2.true)))
+    sym (member_at a.key a.store.now a.keys_at a.used a.near _ t.if-near-used.true refl
+    (sym c.before.read64.ensures ∙ c.if-read64-key.true)))
     (λ c κs. search rules)
     (λ c. let a = c.before.before.before.args in
     rw (member_place a.key (fields 8 a.store.now a.keys_at a.used), length_fields 8 a.store.now a.keys_at a.used)

@@ -11,12 +11,12 @@ use Rattle.store.proofs.Lists.{index_hit, index_miss, index_none}
 use Rattle.store_check.proofs.any_order.index_of.Statement.{statement}
 use Rattle.store_check.proofs.any_order.index_of.Tie as tie
 
-abbrev invariant-loop : tie.invariant-loop
+abbrev invariant-loop : tie.invariant-loop-place
 invariant-loop store keys_at count key key_at₀ place₀ key_at place =
     (place ≤ count) × (key_at ≡ keys_at + 8 * place)
     × (index_of key (fields 8 store keys_at count) ≡ place + index_of key (fields 8 store key_at (count - place)))
 
-abbrev decreases-loop : tie.decreases-loop
+abbrev decreases-loop : tie.decreases-loop-place
 decreases-loop store keys_at count key key_at₀ place₀ key_at place = count - place
 
 pub index_of_spec : {M : Type 1} → statement M
@@ -39,8 +39,8 @@ index_of_spec =
     let a = lp.before.before.args in
     omega (
       arith,
-      index_hit a.key 8 a.store.now lp.loop.key_at (a.count - lp.loop.place) (a.count - (lp.loop.place + 1)) (omega arith)
-          (sym c.before.read64.ensures ∙ c.if1.true),
+      index_hit a.key 8 a.store.now lp.loop-place.key_at (a.count - lp.loop-place.place) (a.count - (lp.loop-place.place + 1)) (omega arith)
+          (sym c.before.read64.ensures ∙ c.if-read64-key.true),
     ))
     (λ c. omega arith)
     (λ c. omega arith)
@@ -51,11 +51,11 @@ index_of_spec =
       omega arith,
       omega (
         arith,
-        index_miss a.key 8 a.store.now lp.loop.key_at (a.count - lp.loop.place) (a.count - (lp.loop.place + 1))
+        index_miss a.key 8 a.store.now lp.loop-place.key_at (a.count - lp.loop-place.place) (a.count - (lp.loop-place.place + 1))
             (omega arith)
-            (λ e. c.if1.false (c.before.read64.ensures ∙ e)),
+            (λ e. c.if-read64-key.false (c.before.read64.ensures ∙ e)),
       ),
     ))
     (λ c. let lp = c.before in
     let a = lp.before.before.args in
-    omega (arith, index_none a.key 8 a.store.now lp.loop.key_at (a.count - lp.loop.place) (omega arith))))
+    omega (arith, index_none a.key 8 a.store.now lp.loop-place.key_at (a.count - lp.loop-place.place) (omega arith))))

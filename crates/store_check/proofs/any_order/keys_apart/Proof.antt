@@ -14,21 +14,21 @@ use Rattle.store_check.proofs.Marks.{marked, keys_all, no_form, key_twice, key_m
 use Rattle.store_check.proofs.any_order.keys_apart.Statement.{statement}
 use Rattle.store_check.proofs.any_order.keys_apart.Tie as tie
 
-abbrev invariant-loop : tie.invariant-loop
+abbrev invariant-loop : tie.invariant-loop-row
 invariant-loop store keys_at used book marks₀ mark key_at₀ row₀ marks key_at row =
     (row ≤ used) × (key_at ≡ keys_at + 8 * row) × (length marks ≡ length marks₀)
     × (keys_apart book (fields 8 store key_at (used - row)) ≡ true)
     × (all_in (marked marks mark) (fields 8 store key_at (used - row)) ≡ true)
 
-abbrev decreases-loop : tie.decreases-loop
+abbrev decreases-loop : tie.decreases-loop-row
 decreases-loop store keys_at used book marks₀ mark key_at₀ row₀ marks key_at row = row
 
 -- the key that was read is of a form
-is_form_lem : (e : tie.Else1 invariant-loop decreases-loop) →
+is_form_lem : (e : tie.Else-not-of_form invariant-loop decreases-loop) →
     let r = e.before.before in
     let a = r.before.before.before.before.before.args in
-    is_form a.book r.read64.result ≡ true
-is_form_lem e = sym e.before.of_form.ensures ∙ not-false _ e.if1.false
+    is_form a.book r.read64-key.result ≡ true
+is_form_lem e = sym e.before.of_form.ensures ∙ not-false _ e.if-not-of_form.false
 
 pub keys_apart_spec : {M : Type 1} → statement M
 keys_apart_spec =
@@ -48,17 +48,17 @@ keys_apart_spec =
     (λ c. let r = c.before.before in
     let lp = r.before.before in
     let a = lp.before.before.before.args in
-    sym (no_form a.store.now a.keys_at a.used lp.loop.row lp.loop.key_at r.read64.result lp.loop.invariant.0
-    r.before.loop-test.true lp.loop.invariant.1 r.read64.ensures a.book
-    (sym c.before.of_form.ensures ∙ not-true _ c.if1.true)))
+    sym (no_form a.store.now a.keys_at a.used lp.loop-row.row lp.loop-row.key_at r.read64-key.result lp.loop-row.invariant.0
+    r.before.loop-row-test.true lp.loop-row.invariant.1 r.read64-key.ensures a.book
+    (sym c.before.of_form.ensures ∙ not-true _ c.if-not-of_form.true)))
     (λ c. omega arith)
-    (λ c κs. ((omega arith, omega arith), c.before.before.before.before.before.loop.invariant.4))
+    (λ c κs. ((omega arith, omega arith), c.before.before.before.before.before.loop-row.invariant.4))
     (λ c. search rules)
     (λ c. let r = c.before.before.before.before.before in
     let lp = r.before.before in
     let a = lp.before.before.before.args in
-    sym (key_twice a.store.now a.keys_at a.used lp.loop.row lp.loop.key_at r.read64.result lp.loop.invariant.0
-    r.before.loop-test.true lp.loop.invariant.1 r.read64.ensures a.book (sym c.before.seen.ensures ∙ c.if2.true)))
+    sym (key_twice a.store.now a.keys_at a.used lp.loop-row.row lp.loop-row.key_at r.read64-key.result lp.loop-row.invariant.0
+    r.before.loop-row-test.true lp.loop-row.invariant.1 r.read64-key.ensures a.book (sym c.before.seen.ensures ∙ c.if-seen.true)))
     (λ c. omega arith)
     (λ c. omega arith)
     (λ c. omega arith)
@@ -68,16 +68,16 @@ keys_apart_spec =
     let a = lp.before.before.before.args in (
       omega arith,
       omega arith,
-      simp length-set lp.loop.invariant.2,
-      key_more a.store.now a.keys_at a.used lp.loop.row lp.loop.key_at r.read64.result lp.loop.invariant.0
-          r.before.loop-test.true lp.loop.invariant.1 r.read64.ensures a.book (is_form_lem c.before.before.before)
-          (sym c.before.seen.ensures ∙ c.if2.false) lp.loop.invariant.3,
-      mark_more a.store.now a.keys_at a.used lp.loop.row lp.loop.key_at r.read64.result lp.loop.invariant.0
-          r.before.loop-test.true lp.loop.invariant.1 r.read64.ensures lp.loop.marks a.mark (omega arith)
-          lp.loop.invariant.4,
+      simp length-set lp.loop-row.invariant.2,
+      key_more a.store.now a.keys_at a.used lp.loop-row.row lp.loop-row.key_at r.read64-key.result lp.loop-row.invariant.0
+          r.before.loop-row-test.true lp.loop-row.invariant.1 r.read64-key.ensures a.book (is_form_lem c.before.before.before)
+          (sym c.before.seen.ensures ∙ c.if-seen.false) lp.loop-row.invariant.3,
+      mark_more a.store.now a.keys_at a.used lp.loop-row.row lp.loop-row.key_at r.read64-key.result lp.loop-row.invariant.0
+          r.before.loop-row-test.true lp.loop-row.invariant.1 r.read64-key.ensures lp.loop-row.marks a.mark (omega arith)
+          lp.loop-row.invariant.4,
     ))
     (λ c. search rules)
     (λ c. let lp = c.before in
     let a = lp.before.before.before.args in
-    sym (keys_all a.book true a.store.now a.keys_at a.used lp.loop.row lp.loop.key_at (omega arith) lp.loop.invariant.1
-    lp.loop.invariant.3)))
+    sym (keys_all a.book true a.store.now a.keys_at a.used lp.loop-row.row lp.loop-row.key_at (omega arith) lp.loop-row.invariant.1
+    lp.loop-row.invariant.3)))

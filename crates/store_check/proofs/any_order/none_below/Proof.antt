@@ -19,19 +19,19 @@ use Rattle.store_check.proofs.any_order.none_below.Tie as tie
 abbrev above : ℕ → ℕ → Bool
 above floor key = is_floor_key key || leb floor (booked_id key)
 
-abbrev invariant-loop : tie.invariant-loop
+abbrev invariant-loop : tie.invariant-loop-row
 invariant-loop store keys_at used floor key_at₀ row₀ key_at row =
     (row ≤ used) × (key_at ≡ keys_at + 8 * row)
     × (all_in (above floor) (fields 8 store keys_at used) ≡ all_in (above floor) (fields 8 store key_at (used - row)))
 
-abbrev decreases-loop : tie.decreases-loop
+abbrev decreases-loop : tie.decreases-loop-row
 decreases-loop store keys_at used floor key_at₀ row₀ key_at row = used - row
 
 -- the answer for the key that was read
-answer : (b : tie.After-booked-id invariant-loop decreases-loop) →
+answer : (b : tie.After-booked_id invariant-loop decreases-loop) →
     let lp = b.before.before.before in
     let a = lp.before.before.args in
-    above a.floor (le 8 a.store.now lp.loop.key_at) ≡ leb a.floor b.booked_id.result
+    above a.floor (le 8 a.store.now lp.loop-row.key_at) ≡ leb a.floor b.booked_id.result
 answer b =
     let a = b.before.before.before.before.before.args in
     floor_passes a.floor (omega arith) _
@@ -52,9 +52,9 @@ none_below_spec =
     (λ c. let b = c.before in
     let lp = b.before.before.before in
     let a = lp.before.before.args in
-    sym (lp.loop.invariant.2
-    ∙ all_step (above a.floor) a.store.now lp.loop.key_at (a.used - lp.loop.row) (a.used - (lp.loop.row + 1)) (omega arith)
-    ∙ rw (answer b, lt-leb a.floor b.booked_id.result c.if1.true) refl))
+    sym (lp.loop-row.invariant.2
+    ∙ all_step (above a.floor) a.store.now lp.loop-row.key_at (a.used - lp.loop-row.row) (a.used - (lp.loop-row.row + 1)) (omega arith)
+    ∙ rw (answer b, lt-leb a.floor b.booked_id.result c.if-booked_id-floor.true) refl))
     (λ c. omega arith)
     (λ c. omega arith)
     (λ c. omega arith)
@@ -63,11 +63,11 @@ none_below_spec =
     let a = lp.before.before.args in (
       omega arith,
       omega arith,
-      lp.loop.invariant.2
-          ∙ all_step (above a.floor) a.store.now lp.loop.key_at (a.used - lp.loop.row) (a.used - (lp.loop.row + 1))
+      lp.loop-row.invariant.2
+          ∙ all_step (above a.floor) a.store.now lp.loop-row.key_at (a.used - lp.loop-row.row) (a.used - (lp.loop-row.row + 1))
           (omega arith)
-          ∙ rw (answer b, le-leb a.floor b.booked_id.result c.if1.false) refl,
+          ∙ rw (answer b, le-leb a.floor b.booked_id.result c.if-booked_id-floor.false) refl,
     ))
     (λ c. let lp = c.before in
     let a = lp.before.before.args in
-    sym (lp.loop.invariant.2 ∙ all_done (above a.floor) a.store.now lp.loop.key_at (a.used - lp.loop.row) (omega arith))))
+    sym (lp.loop-row.invariant.2 ∙ all_done (above a.floor) a.store.now lp.loop-row.key_at (a.used - lp.loop-row.row) (omega arith))))

@@ -17,7 +17,7 @@ seen_spec =
     (λ c. search rules)
     (λ c. let st = c.before.before.before.before in
     let a = st.args in
-    sym (unmarked a.marks.now a.mark a.key (fields 8 a.store.now a.keys_at a.left) st.requires.1 c.if1.true))
+    sym (unmarked a.marks.now a.mark a.key (fields 8 a.store.now a.keys_at a.left) st.requires.1 c.if-marks-place.true))
     (λ c κs. search rules)
     (λ c. let a = c.before.before.before.before.before.args in
     rw (member_place a.key (fields 8 a.store.now a.keys_at a.left), length_fields 8 a.store.now a.keys_at a.left)

@@ -10,11 +10,11 @@ use lib.Seq.{drop-length}
 use Rattle.store_write.proofs.bytes.clear.Statement.{statement}
 use Rattle.store_write.proofs.bytes.clear.Tie as tie
 
-abbrev invariant-loop : tie.invariant-loop
+abbrev invariant-loop : tie.invariant-loop-cleared
 invariant-loop bytes₀ cleared₀ bytes cleared =
     (cleared ≤ length bytes) × (length bytes ≡ length bytes₀) × (bytes ≡ replicate cleared 0 ++ drop cleared bytes₀)
 
-abbrev decreases-loop : tie.decreases-loop
+abbrev decreases-loop : tie.decreases-loop-cleared
 decreases-loop bytes₀ cleared₀ bytes cleared = length bytes - cleared
 
 pub clear_spec : {M : Type 1} → statement M
@@ -29,10 +29,10 @@ clear_spec =
     (λ c. simp length-set (omega arith))
     (λ c. let lp = c.before in (
       simp length-set (omega arith),
-      simp length-set lp.loop.invariant.1,
-      rw lp.loop.invariant.2 (fill_more lp.loop.cleared 0 lp.before.args.bytes.now (omega arith)),
+      simp length-set lp.loop-cleared.invariant.1,
+      rw lp.loop-cleared.invariant.2 (fill_more lp.loop-cleared.cleared 0 lp.before.args.bytes.now (omega arith)),
     ))
-    (λ c. c.before.loop.invariant.1)
+    (λ c. c.before.loop-cleared.invariant.1)
     (λ c. let lp = c.before in
-    let e : lp.loop.cleared ≡ length lp.before.args.bytes.now = omega arith in
-    lp.loop.invariant.2 ∙ rw (e, drop-length) (append-nil (replicate (length lp.before.args.bytes.now) 0))))
+    let e : lp.loop-cleared.cleared ≡ length lp.before.args.bytes.now = omega arith in
+    lp.loop-cleared.invariant.2 ∙ rw (e, drop-length) (append-nil (replicate (length lp.before.args.bytes.now) 0))))

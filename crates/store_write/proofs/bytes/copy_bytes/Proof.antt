@@ -10,11 +10,11 @@ use Rattle.store.proofs.Parts.{copy_more}
 use Rattle.store_write.proofs.bytes.copy_bytes.Statement.{statement}
 use Rattle.store_write.proofs.bytes.copy_bytes.Tie as tie
 
-abbrev invariant-loop : tie.invariant-loop
+abbrev invariant-loop : tie.invariant-loop-copied
 invariant-loop to₀ to_at from from_at count copied₀ to copied =
     (copied ≤ count) × (length to ≡ length to₀) × (to ≡ sets to₀ to_at (piece copied from_at from))
 
-abbrev decreases-loop : tie.decreases-loop
+abbrev decreases-loop : tie.decreases-loop-copied
 decreases-loop to₀ to_at from from_at count copied₀ to copied = count - copied
 
 pub copy_bytes_spec : {M : Type 1} → statement M
@@ -33,11 +33,11 @@ copy_bytes_spec =
     (λ c. let lp = c.before.before in
     let a = lp.before.args in (
       omega arith,
-      simp length-set lp.loop.invariant.1,
-      rw lp.loop.invariant.2 (copy_more a.to.now a.from.now a.to_at a.from_at lp.loop.copied (omega arith)),
+      simp length-set lp.loop-copied.invariant.1,
+      rw lp.loop-copied.invariant.2 (copy_more a.to.now a.from.now a.to_at a.from_at lp.loop-copied.copied (omega arith)),
     ))
-    (λ c. c.before.loop.invariant.1)
+    (λ c. c.before.loop-copied.invariant.1)
     (λ c. let lp = c.before in
     let a = lp.before.args in
-    let e : lp.loop.copied ≡ a.count = omega arith in
-    lp.loop.invariant.2 ∙ ap (λ (k : ℕ). sets a.to.now a.to_at (piece k a.from_at a.from.now)) e))
+    let e : lp.loop-copied.copied ≡ a.count = omega arith in
+    lp.loop-copied.invariant.2 ∙ ap (λ (k : ℕ). sets a.to.now a.to_at (piece k a.from_at a.from.now)) e))

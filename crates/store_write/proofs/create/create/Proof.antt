@@ -11,16 +11,16 @@ use Rattle.store_write.proofs.create.create.Statement.{statement}
 use Rattle.store_write.proofs.create.create.Tie as tie
 
 -- question 9 was answered yes
-right : (c : tie.Else1) →
+right : (c : tie.Else-not-numbers_right) →
     let a = c.before.before.before.args in
     (1 ≤ a.parts) × (a.parts ≤ 8) × (5 ≤ a.cap) × (a.cap ≤ 256)
 right c =
     let n = c.before in
     let a = n.before.before.args in
-    numbers_mean a.parts a.cap (sym n.numbers_right.ensures ∙ not-false _ c.if1.false)
+    numbers_mean a.parts a.cap (sym n.numbers_right.ensures ∙ not-false _ c.if-not-numbers_right.false)
 
 -- where it was, from where the bytes are cleared
-abbrev asked : tie.After-clear → tie.Else1
+abbrev asked : tie.After-clear → tie.Else-not-numbers_right
 asked c = c.before.before.before.before
 
 pub create_spec : {M : Type 1} → statement M
@@ -32,15 +32,15 @@ create_spec =
     (λ c. let n = c.before.before in
     let a = n.before.before.args in
     created_9 a.store.now a.parts a.cap c.refused.result
-    (sym n.numbers_right.ensures ∙ not-true _ c.before.if1.true) c.refused.ensures)
+    (sym n.numbers_right.ensures ∙ not-true _ c.before.if-not-numbers_right.true) c.refused.ensures)
     (λ c κs. (omega (arith, right c), omega (arith, right c)))
     (λ c κs. search rules)
     (λ c. let z = c.before.before in
     let n = z.before.before in
     let a = n.before.before.args in
-    created_10 a.store.now a.parts a.cap c.refused2.result
-    (sym n.numbers_right.ensures ∙ not-false _ z.before.if1.false)
-    (λ e. c.before.if2.true (e ∙ sym z.store_size.ensures)) c.refused2.ensures)
+    created_10 a.store.now a.parts a.cap c.refused-then-store-store_size.result
+    (sym n.numbers_right.ensures ∙ not-false _ z.before.if-not-numbers_right.false)
+    (λ e. c.before.if-store-store_size.true (e ∙ sym z.store_size.ensures)) c.refused-then-store-store_size.ensures)
     (λ c κs. search rules)
     (λ c. omega (arith, right (asked c.before.before)))
     (λ c. search rules)
@@ -56,8 +56,8 @@ create_spec =
     let e = z.before.before in
     let n = e.before in
     let a = n.before.before.args in
-    let long = z.if2.false ∙ z.before.store_size.ensures in
+    let long = z.if-store-store_size.false ∙ z.before.store_size.ensures in
     created_fresh a.store.now a.parts a.cap c.accepted.result w.write16.new.0
-    (sym n.numbers_right.ensures ∙ not-false _ e.if1.false) long
+    (sym n.numbers_right.ensures ∙ not-false _ e.if-not-numbers_right.false) long
     (w.write16.ensures ∙ rw cl.clear.ensures (fresh_written a.parts a.cap (length a.store.now) long (right e).3))
     c.accepted.ensures))

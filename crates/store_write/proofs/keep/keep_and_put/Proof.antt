@@ -14,21 +14,21 @@ use Rattle.store_write.proofs.keep.keep_and_put.Statement.{statement}
 use Rattle.store_write.proofs.keep.keep_and_put.Tie as tie
 
 -- the beginning, from where the search has ended; and where that is, from where the capacity is read
-abbrev start : tie.After-ended-at → tie.Start
+abbrev start : tie.After-ended_at-first → tie.Start
 start c = c.before.before.before.before
 
-abbrev ended : tie.After-capacity → tie.After-ended-at
+abbrev ended : tie.After-capacity → tie.After-ended_at-first
 ended c = c.before.before
 
 -- the rows from the place where the search ended on
-left : (c : tie.After-ended-at) →
+left : (c : tie.After-ended_at-first) →
     let a = (start c).args in
-    drop c.ended_at.result (rows_of a.store.now a.partition) ≡ rows_from a.low (rows_of a.store.now a.partition)
+    drop c.ended_at-first.result (rows_of a.store.now a.partition) ≡ rows_from a.low (rows_of a.store.now a.partition)
 left c =
     let st = start c in
     let a = st.args in
-    from_first a.low (rows_of a.store.now a.partition) (rows_rise a.store.now st.pre.0.0 a.partition st.pre.0.1)
-    c.before.find.result c.before.find.ensures c.ended_at.result c.ended_at.ensures
+    from_first a.low (rows_of a.store.now a.partition) (rows_rise a.store.now st.requires.0.0 a.partition st.requires.0.1)
+    c.before.find-found.result c.before.find-found.ensures c.ended_at-first.result c.ended_at-first.ensures
 
 pub keep_and_put_spec : {M : Type 1} → statement M
 keep_and_put_spec =
@@ -48,20 +48,20 @@ keep_and_put_spec =
     let a = st.args in
     let n : 2 + 12 * cp.capacity.result - 0 ≡ part_size (cap_of a.store.now) = omega (arith, cp.capacity.ensures) in (
       (
-        st.pre.0.0,
-        st.pre.0.1,
+        st.requires.0.0,
+        st.requires.0.1,
         first_within a.low (rows_of a.store.now a.partition)
-            (rows_rise a.store.now st.pre.0.0 a.partition st.pre.0.1)
-            en.before.find.result en.before.find.ensures en.ended_at.result en.ended_at.ensures,
-        sym (take_count (2 + 12 * cp.capacity.result - 0) 3074 _ refl (omega (arith, n, st.pre.0.0.formed.shape.cap_high))) ∙ n,
+            (rows_rise a.store.now st.requires.0.0 a.partition st.requires.0.1)
+            en.before.find-found.result en.before.find-found.ensures en.ended_at-first.result en.ended_at-first.ensures,
+        sym (take_count (2 + 12 * cp.capacity.result - 0) 3074 _ refl (omega (arith, n, st.requires.0.0.formed.shape.cap_high))) ∙ n,
       ),
-      (omega (arith, ap length (left en), st.pre.1.0), st.pre.1.1, st.pre.1.2),
+      (omega (arith, ap length (left en), st.requires.1.0), st.requires.1.1, st.requires.1.2),
     ))
     (λ c. search rules)
     (λ c. let kb = c.before.before.before in
     let en = ended kb.before.before.before in
     let a = (start en).args in
     stored_as a.store.now kb.keep_and_put_by.new.0 a.partition
-    (λ (rs : List Row). put_row a.key a.value (drop en.ended_at.result rs))
+    (λ (rs : List Row). put_row a.key a.value (drop en.ended_at-first.result rs))
     (λ (rs : List Row). put_row a.key a.value (rows_from a.low rs)) kb.keep_and_put_by.ensures
     (ap (put_row a.key a.value) (left en))))

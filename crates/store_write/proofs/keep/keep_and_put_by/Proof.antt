@@ -18,39 +18,39 @@ use Rattle.store_write.proofs.keep.keep_and_put_by.Statement.{statement}
 use Rattle.store_write.proofs.keep.keep_and_put_by.Tie as tie
 
 -- where the capacity is read and the beginning, from where the search has ended; and the places between, from the later ones
-abbrev sized : tie.After-ended-at → tie.After-capacity
+abbrev sized : tie.After-ended_at-ahead → tie.After-capacity-cap
 sized c = c.before.before.before
 
-abbrev start : tie.After-ended-at → tie.Start
+abbrev start : tie.After-ended_at-ahead → tie.Start
 start c = (sized c).before.before.before.before
 
-abbrev ended : tie.After-clear → tie.After-ended-at
+abbrev ended : tie.After-clear → tie.After-ended_at-ahead
 ended c = c.before.before
 
-abbrev clear_then : tie.After-copy-rows → tie.After-clear
+abbrev clear_then : tie.After-copy_rows → tie.After-clear
 clear_then c = c.before.before.before.before.before
 
-abbrev copied : tie.After-add-row → tie.After-copy-rows
+abbrev copied : tie.After-add_row → tie.After-copy_rows
 copied c = c.before.before.before.before
 
 -- the rows that are copied are among those from row `first` on
-within : (c : tie.After-ended-at) →
+within : (c : tie.After-ended_at-ahead) →
     let a = (start c).args in
-    c.ended_at.result ≤ length (drop a.first (rows_of a.store.now a.partition))
+    c.ended_at-ahead.result ≤ length (drop a.first (rows_of a.store.now a.partition))
 within c =
     let a = (start c).args in
-    place_within a.key (rows_of a.store.now a.partition) a.first c.before.find.result c.before.find.ensures
-    c.ended_at.result c.ended_at.ensures
+    place_within a.key (rows_of a.store.now a.partition) a.first c.before.find-found.result c.before.find-found.ensures
+    c.ended_at-ahead.result c.ended_at-ahead.ensures
 
 -- so there is room for one more
-room : (c : tie.After-ended-at) → c.ended_at.result < cap_of (start c).args.store.now
+room : (c : tie.After-ended_at-ahead) → c.ended_at-ahead.result < cap_of (start c).args.store.now
 room c = omega (arith, within c, (start c).requires.1.0)
 
 -- what the buffer holds then
-held : (c : tie.After-add-row) →
+held : (c : tie.After-add_row) →
     let en = ended (clear_then (copied c)) in
     let a = (start en).args in
-    Holds (cap_of a.store.now) c.add_row.new.0 (en.ended_at.result + 1)
+    Holds (cap_of a.store.now) c.add_row.new.0 (en.ended_at-ahead.result + 1)
     (put_row a.key a.value (drop a.first (rows_of a.store.now a.partition)))
 held c =
     let cr = copied c in
@@ -59,15 +59,15 @@ held c =
     let st = start en in
     let a = st.args in
     let rows = rows_of a.store.now a.partition in
-    let count = en.ended_at.result in
+    let count = en.ended_at-ahead.result in
     subst (Holds (cap_of a.store.now) c.add_row.new.0 (count + 1))
-    (put_there a.key rows a.first en.before.find.result en.before.find.ensures count en.ended_at.ensures a.value
-    (rows_rise a.store.now st.pre.0.0 a.partition st.pre.0.1) st.pre.1.2)
-    (subst (Adds cr.copy_rows.last.0 c.add_row.new.0 count a.key a.value) (sized en).capacity.ensures
+    (put_there a.key rows a.first en.before.find-found.result en.before.find-found.ensures count en.ended_at-ahead.ensures a.value
+    (rows_rise a.store.now st.requires.0.0 a.partition st.requires.0.1) st.requires.1.2)
+    (subst (Adds cr.copy_rows.last.0 c.add_row.new.0 count a.key a.value) (sized en).capacity-cap.ensures
     c.add_row.ensures (take count (drop a.first rows))
     (subst (λ (n : ℕ). Holds (cap_of a.store.now) cr.copy_rows.last.0 n (take count (drop a.first rows))) (omega arith)
     (cr.copy_rows.ensures []
-    (cleared (cap_of a.store.now) cl.clear.last.0 a.part.now cl.clear.ensures st.pre.0.3))))
+    (cleared (cap_of a.store.now) cl.clear.last.0 a.part.now cl.clear.ensures st.requires.0.3))))
 
 pub keep_and_put_by_spec : {M : Type 1} → statement M
 unfolding KeysGood
@@ -82,32 +82,32 @@ keep_and_put_by_spec =
     let en = ended cl in
     let st = start en in
     let a = st.args in (
-      st.pre.0.0.formed,
-      st.pre.0.1,
-      omega (arith, within en, length-drop a.first (rows_of a.store.now a.partition), st.pre.0.2),
+      st.requires.0.0.formed,
+      st.requires.0.1,
+      omega (arith, within en, length-drop a.first (rows_of a.store.now a.partition), st.requires.0.2),
       omega (arith, room en),
-      cl.clear.auto.0 ∙ st.pre.0.3,
+      cl.clear.auto.0 ∙ st.requires.0.3,
     ))
     (λ c κs. let cr = c.before.before.before in
     let cl = clear_then cr in
     let en = ended cl in
     let st = start en in (
-      cr.copy_rows.auto.0 ∙ cl.clear.kept.0 ∙ st.pre.0.3 ∙ ap part_size (sym (sized en).capacity.ensures),
-      omega (arith, room en, (sized en).capacity.ensures),
-      omega (arith, (sized en).capacity.ensures, st.pre.0.0.formed.shape.cap_high),
+      cr.copy_rows.auto.0 ∙ cl.clear.kept.0 ∙ st.requires.0.3 ∙ ap part_size (sym (sized en).capacity-cap.ensures),
+      omega (arith, room en, (sized en).capacity-cap.ensures),
+      omega (arith, (sized en).capacity-cap.ensures, st.requires.0.0.formed.shape.cap_high),
     ))
     (λ c. let en = ended (clear_then (copied c.before.before.before)) in
-    omega (arith, room en, (start en).pre.0.0.formed.shape.cap_high))
+    omega (arith, room en, (start en).requires.0.0.formed.shape.cap_high))
     (λ c. let en = ended (clear_then (copied c.before.before.before)) in
-    omega (arith, room en, (start en).pre.0.0.formed.shape.cap_high))
+    omega (arith, room en, (start en).requires.0.0.formed.shape.cap_high))
     (λ c κs. search rules)
     (λ c κs. let w = c.before.before.before.before in
     let ar = w.before.before.before.before in
     let cl = clear_then (copied ar) in
     let st = start (ended cl) in (
-      st.pre.0.0.formed.shape,
-      st.pre.0.1,
-      w.write16.auto.0 ∙ ar.add_row.auto.0 ∙ (copied ar).copy_rows.auto.0 ∙ cl.clear.kept.0 ∙ st.pre.0.3,
+      st.requires.0.0.formed.shape,
+      st.requires.0.1,
+      w.write16.auto.0 ∙ ar.add_row.auto.0 ∙ (copied ar).copy_rows.auto.0 ∙ cl.clear.kept.0 ∙ st.requires.0.3,
     ))
     (λ c. search rules)
     (λ c. search rules)
@@ -119,9 +119,9 @@ keep_and_put_by_spec =
     let a = st.args in
     let rows = rows_of a.store.now a.partition in
     kept a.store.now cb.copy_back.new.0 a.partition (λ (rs : List Row). put_row a.key a.value (drop a.first rs))
-    ar.add_row.new.0 (en.ended_at.result + 1) st.pre.0.0 st.pre.0.1 (held ar)
-    (keys_one (eqb a.partition (parts_of a.store.now)) a.key a.value (drop a.first rows) st.pre.1.1
-    (keys_behind (eqb a.partition (parts_of a.store.now)) a.first rows (st.pre.0.0.keys a.partition st.pre.0.1)))
+    ar.add_row.new.0 (en.ended_at-ahead.result + 1) st.requires.0.0 st.requires.0.1 (held ar)
+    (keys_one (eqb a.partition (parts_of a.store.now)) a.key a.value (drop a.first rows) st.requires.1.1
+    (keys_behind (eqb a.partition (parts_of a.store.now)) a.first rows (st.requires.0.0.keys a.partition st.requires.0.1)))
     (cb.copy_back.ensures
     ∙ ap (λ (bs : List ℕ). with_part (parts_of a.store.now) (cap_of a.store.now) a.partition bs a.store.now)
     w.write16.ensures)))

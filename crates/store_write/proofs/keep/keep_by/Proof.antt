@@ -17,13 +17,13 @@ use Rattle.store_write.proofs.keep.keep_by.Statement.{statement}
 use Rattle.store_write.proofs.keep.keep_by.Tie as tie
 
 -- the beginning, from where the used count is read; and where that is, from where the buffer is clear and from where the rows are copied
-abbrev start : tie.After-used-count → tie.Start
+abbrev start : tie.After-used_count → tie.Start
 start c = c.before.before.before.before
 
-abbrev counted : tie.After-clear → tie.After-used-count
+abbrev counted : tie.After-clear → tie.After-used_count
 counted c = c.before.before
 
-abbrev clear_then : tie.After-copy-rows → tie.After-clear
+abbrev clear_then : tie.After-copy_rows → tie.After-clear
 clear_then c = c.before.before.before.before.before
 
 pub keep_by_spec : {M : Type 1} → statement M
@@ -38,12 +38,12 @@ keep_by_spec =
     let u = counted cl in
     let st = start u in
     let a = st.args in
-    let fit = used_le a.store.now st.pre.0.formed a.partition st.pre.1 in (
-      st.pre.0.formed,
-      st.pre.1,
-      omega (arith, u.used_count.ensures, st.pre.2),
+    let fit = used_le a.store.now st.requires.0.formed a.partition st.requires.1 in (
+      st.requires.0.formed,
+      st.requires.1,
+      omega (arith, u.used_count.ensures, st.requires.2),
       omega (arith, u.used_count.ensures, fit),
-      cl.clear.auto.0 ∙ st.pre.3,
+      cl.clear.auto.0 ∙ st.requires.3,
     ))
     (λ c. let u = counted (clear_then c.before.before.before) in
     let st = start u in
@@ -51,8 +51,8 @@ keep_by_spec =
     omega (
       arith,
       u.used_count.ensures,
-      used_le a.store.now st.pre.0.formed a.partition st.pre.1,
-      st.pre.0.formed.shape.cap_high,
+      used_le a.store.now st.requires.0.formed a.partition st.requires.1,
+      st.requires.0.formed.shape.cap_high,
     ))
     (λ c κs. search rules)
     (λ c κs. search rules)
@@ -67,10 +67,10 @@ keep_by_spec =
     let a = st.args in
     let rows = rows_of a.store.now a.partition in
     let count = u.used_count.result - a.first in
-    kept a.store.now cb.copy_back.new.0 a.partition (drop a.first) cr.copy_rows.new.0 count st.pre.0 st.pre.1
-    (copied_all (cap_of a.store.now) cr.copy_rows.new.0 rows a.first count (omega (arith, u.used_count.ensures, st.pre.2))
-    (cr.copy_rows.ensures [] (cleared (cap_of a.store.now) cl.clear.last.0 a.part.now cl.clear.ensures st.pre.3)))
-    (keys_behind (eqb a.partition (parts_of a.store.now)) a.first rows (st.pre.0.keys a.partition st.pre.1))
+    kept a.store.now cb.copy_back.new.0 a.partition (drop a.first) cr.copy_rows.new.0 count st.requires.0 st.requires.1
+    (copied_all (cap_of a.store.now) cr.copy_rows.new.0 rows a.first count (omega (arith, u.used_count.ensures, st.requires.2))
+    (cr.copy_rows.ensures [] (cleared (cap_of a.store.now) cl.clear.last.0 a.part.now cl.clear.ensures st.requires.3)))
+    (keys_behind (eqb a.partition (parts_of a.store.now)) a.first rows (st.requires.0.keys a.partition st.requires.1))
     (cb.copy_back.ensures
     ∙ ap (λ (bs : List ℕ). with_part (parts_of a.store.now) (cap_of a.store.now) a.partition bs a.store.now)
     w.write16.ensures)))

@@ -13,21 +13,21 @@ use Rattle.store_write.proofs.keep.keep_from.Statement.{statement}
 use Rattle.store_write.proofs.keep.keep_from.Tie as tie
 
 -- the beginning, from where the search has ended; and where that is, from where the capacity is read
-abbrev start : tie.After-ended-at → tie.Start
+abbrev start : tie.After-ended_at-first → tie.Start
 start c = c.before.before.before.before
 
-abbrev ended : tie.After-capacity → tie.After-ended-at
+abbrev ended : tie.After-capacity → tie.After-ended_at-first
 ended c = c.before.before.before
 
 -- the rows from the place where the search ended on
-left : (c : tie.After-ended-at) →
+left : (c : tie.After-ended_at-first) →
     let a = (start c).args in
-    drop c.ended_at.result (rows_of a.store.now a.partition) ≡ rows_from a.low (rows_of a.store.now a.partition)
+    drop c.ended_at-first.result (rows_of a.store.now a.partition) ≡ rows_from a.low (rows_of a.store.now a.partition)
 left c =
     let st = start c in
     let a = st.args in
-    from_first a.low (rows_of a.store.now a.partition) (rows_rise a.store.now st.pre.0 a.partition st.pre.1)
-    c.before.find.result c.before.find.ensures c.ended_at.result c.ended_at.ensures
+    from_first a.low (rows_of a.store.now a.partition) (rows_rise a.store.now st.requires.0 a.partition st.requires.1)
+    c.before.find-found.result c.before.find-found.ensures c.ended_at-first.result c.ended_at-first.ensures
 
 pub keep_from_spec : {M : Type 1} → statement M
 keep_from_spec =
@@ -40,8 +40,8 @@ keep_from_spec =
     let st = start en in
     let a = st.args in
     let rows = rows_of a.store.now a.partition in (
-      stays a.store.now a.partition (rows_from a.low) st.pre.0
-          (sym (left en) ∙ ap (λ (n : ℕ). drop n rows) c.if1.true),
+      stays a.store.now a.partition (rows_from a.low) st.requires.0
+          (sym (left en) ∙ ap (λ (n : ℕ). drop n rows) c.if-first-eq0.true),
       (λ same. refl),
     ))
     (λ c κs. search rules)
@@ -55,12 +55,12 @@ keep_from_spec =
     let st = start en in
     let a = st.args in
     let n : 2 + 12 * cp.capacity.result - 0 ≡ part_size (cap_of a.store.now) = omega (arith, cp.capacity.ensures) in (
-      st.pre.0,
-      st.pre.1,
+      st.requires.0,
+      st.requires.1,
       first_within a.low (rows_of a.store.now a.partition)
-          (rows_rise a.store.now st.pre.0 a.partition st.pre.1)
-          en.before.find.result en.before.find.ensures en.ended_at.result en.ended_at.ensures,
-      sym (take_count (2 + 12 * cp.capacity.result - 0) 3074 _ refl (omega (arith, n, st.pre.0.formed.shape.cap_high))) ∙ n,
+          (rows_rise a.store.now st.requires.0 a.partition st.requires.1)
+          en.before.find-found.result en.before.find-found.ensures en.ended_at-first.result en.ended_at-first.ensures,
+      sym (take_count (2 + 12 * cp.capacity.result - 0) 3074 _ refl (omega (arith, n, st.requires.0.formed.shape.cap_high))) ∙ n,
     ))
     (λ c. search rules)
     (λ c. let kb = c.before.before.before in
@@ -68,10 +68,10 @@ keep_from_spec =
     let en = ended cp in
     let st = start en in
     let a = st.args in (
-      stored_as a.store.now kb.keep_by.new.0 a.partition (drop en.ended_at.result) (rows_from a.low)
+      stored_as a.store.now kb.keep_by.new.0 a.partition (drop en.ended_at-first.result) (rows_from a.low)
           kb.keep_by.ensures (left en),
       (λ same. absurd
-          (fewer a.low (rows_of a.store.now a.partition) (rows_rise a.store.now st.pre.0 a.partition st.pre.1)
-          en.before.find.result en.before.find.ensures en.ended_at.result en.ended_at.ensures
-          (omega (arith, cp.before.before.if1.false)) same)),
+          (fewer a.low (rows_of a.store.now a.partition) (rows_rise a.store.now st.requires.0 a.partition st.requires.1)
+          en.before.find-found.result en.before.find-found.ensures en.ended_at-first.result en.ended_at-first.ensures
+          (omega (arith, cp.before.before.if-first-eq0.false)) same)),
     )))

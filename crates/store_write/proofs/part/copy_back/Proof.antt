@@ -28,12 +28,12 @@ copy_back_spec =
       omega (
         arith,
         w.copy_bytes.auto.0,
-        k.key_place.ensures,
-        cp.capacity.ensures,
+        k.key_place-keys_at.ensures,
+        cp.capacity-cap.ensures,
         keys_within a.store.now st.requires.0 a.partition st.requires.1 (cap_of a.store.now) (omega arith),
       ),
       omega
-          (arith, cp.capacity.ensures, st.requires.2),
+          (arith, cp.capacity-cap.ensures, st.requires.2),
     ))
     (λ c. search rules)
     (λ c. search rules)
@@ -46,14 +46,14 @@ copy_back_spec =
     let a = st.args in (
       omega (
         arith,
-        w2.copy_bytes2.auto.0,
+        w2.copy_bytes-2.auto.0,
         w1.copy_bytes.auto.0,
-        v.value_place.ensures,
-        cp.capacity.ensures,
+        v.value_place-values_at.ensures,
+        cp.capacity-cap.ensures,
         st.requires.0.size,
         values_fit (parts_of a.store.now) (cap_of a.store.now) a.partition st.requires.1,
       ),
-      omega (arith, cp.capacity.ensures, st.requires.2),
+      omega (arith, cp.capacity-cap.ensures, st.requires.2),
     ))
     (λ c. search rules)
     (λ c. let w3 = c.before.before in
@@ -64,7 +64,7 @@ copy_back_spec =
     let cp = k.before.before in
     let st = cp.before.before.before.before in
     let a = st.args in
-    rw (w3.copy_bytes3.ensures, w2.copy_bytes2.ensures, w1.copy_bytes.ensures)
-    (part_copied (parts_of a.store.now) (cap_of a.store.now) a.partition a.part.now a.store.now cp.capacity.result
-    (3 + 2 * a.partition) k.key_place.result v.value_place.result (2 + 8 * cp.capacity.result)
-    cp.capacity.ensures refl (omega (arith, k.key_place.ensures)) (omega (arith, v.value_place.ensures)) refl)))
+    rw (w3.copy_bytes-3.ensures, w2.copy_bytes-2.ensures, w1.copy_bytes.ensures)
+    (part_copied (parts_of a.store.now) (cap_of a.store.now) a.partition a.part.now a.store.now cp.capacity-cap.result
+    (3 + 2 * a.partition) k.key_place-keys_at.result v.value_place-values_at.result (2 + 8 * cp.capacity-cap.result)
+    cp.capacity-cap.ensures refl (omega (arith, k.key_place-keys_at.ensures)) (omega (arith, v.value_place-values_at.ensures)) refl)))

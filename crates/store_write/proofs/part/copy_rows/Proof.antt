@@ -48,7 +48,7 @@ copy_rows_spec =
       omega (arith, st.requires.3, st.requires.4),
       omega (
         arith,
-        k.key_place.ensures,
+        k.key_place-keys_at.ensures,
         (rows_within a.store.now st.requires.0 a.partition st.requires.1 a.row a.rows
             st.requires.2).0,
       ),
@@ -63,10 +63,10 @@ copy_rows_spec =
     let cp = v.before.before in
     let st = cp.before.before.before in
     let a = st.args in (
-      omega (arith, w.copy_bytes.auto.0, cp.capacity.ensures, st.requires.3, st.requires.4),
+      omega (arith, w.copy_bytes.auto.0, cp.capacity-cap.ensures, st.requires.3, st.requires.4),
       omega (
         arith,
-        v.value_place.ensures,
+        v.value_place-values_at.ensures,
         (rows_within a.store.now st.requires.0 a.partition st.requires.1 a.row a.rows
             st.requires.2).1,
       ),
@@ -82,7 +82,7 @@ copy_rows_spec =
     let fits = rows_within a.store.now st.requires.0 a.partition st.requires.1 a.row a.rows st.requires.2 in
     subst (λ (bs : List ℕ). Holds (cap_of a.store.now) bs (a.held + a.rows)
     (rs ++ take a.rows (drop a.row (rows_of a.store.now a.partition))))
-    (sym (rw (w2.copy_bytes2.ensures, w1.copy_bytes.ensures, cp.capacity.ensures, k.key_place.ensures, v.value_place.ensures)
+    (sym (rw (w2.copy_bytes-2.ensures, w1.copy_bytes.ensures, cp.capacity-cap.ensures, k.key_place-keys_at.ensures, v.value_place-values_at.ensures)
     refl))
     (copied_rows (cap_of a.store.now) a.part.now a.store.now a.held a.partition a.row a.rows rs h st.requires.3
     fits.0 fits.1 st.requires.2)))
