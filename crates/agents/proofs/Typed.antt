@@ -22,7 +22,7 @@ mapped [] = refl
 mapped (x ∷ l) = ap suc (mapped l)
 
 registers_eight : (a : Agent) (vs : List Val) → Is T.the_row a vs → length a.registers ≡ 8
-registers_eight a vs is = sym (mapped a.registers) ∙ (LL.owed T.the_type T'.the_laws a vs is).1.1.1.1.0.1.0.1
+registers_eight a vs is = (LL.owed T.the_type T'.the_laws a vs is).1.1.1.1.0.1.0.1
 
 each_eight : (rs : List Agent) (us : List Val) → shadow (each Agent (T.the_row).own_val rs us) → (i : ℕ) → i < length rs →
     length (agent_at rs i).registers ≡ 8

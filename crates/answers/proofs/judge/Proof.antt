@@ -13,5 +13,5 @@ judge_spec =
     (tie.spec
     (λ c. search rules)
     (λ c. search rules)
-    (λ c. λ o e. sym (judged_accepted _ o c.enum_told-1.given.1 e))
-    (λ c. λ o e. sym (judged_refused _ o _ _ _ c.before.v-1.given.1 e)))
+    (λ c. λ o e. sym (judged_accepted _ o c.in-Accepted.is e))
+    (λ c. λ o e. sym (judged_refused _ o _ _ _ c.in-Refused.is e)))

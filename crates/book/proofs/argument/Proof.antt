@@ -30,5 +30,5 @@ argument_spec =
     (λ c κs. search rules)
     (λ c. search rules)
     (λ c. search rules)
-    (λ c. got_value _ _ (got c.before.before.before) _ c.before.found-1.given.1)
-    (λ c. got_zero _ _ (got c.before.before) c.enum_told-1.given.1))
+    (λ c. got_value _ _ (got c.before) _ c.in-Value.is)
+    (λ c. got_zero _ _ (got c.before) c.in-Absent.is))

@@ -25,37 +25,37 @@ sounds c = (store_ok _ c.requires.0).0
 
 -- From a place of the proof back: to the answer of the search, where the row is found and where it is not, and to the start.
 abbrev hit : tie.After-partition_count-book → tie.In-At-2
-hit pc = pc.before.before.before
+hit pc = pc.before
 
 abbrev miss : tie.After-partition_count-book-in-Belongs → tie.In-Belongs-2
-miss pc = pc.before.before.before
+miss pc = pc.before
 
 abbrev counted : tie.After-used_count → tie.After-partition_count-book-in-Belongs
-counted u = u.before.before.before.before
+counted u = u.before.before.before
 
 abbrev start : tie.After-booked_row-found → tie.Start
-start br = br.before.before.before
+start br = br
 
 -- what the book has of a known id
 known : (c : tie.After-value_at-workflow) →
-    let a = (start (hit c.before.before).before.before).args in
+    let a = (start (hit c.before.before).before).args in
     let rows = book_rows a.store.now in
     book_of (value_in rows) a.id ≡ some (record { workflow = c.value_at-workflow.result; arguments = arguments_of (value_in rows) a.id })
 known c =
     let pc = c.before.before in
     let f = hit pc in
-    let br = f.before.before in
+    let br = f.before in
     let st = start br in
     let a = st.args in
     let rows = book_rows a.store.now in
-    found_some rows a.id f.found-1.given.0.0 br.booked_row-found.ensures.1 (sym br.booked_row-found.ensures.0 ∙ f.found-1.given.1)
+    found_some rows a.id f.in-At.row br.booked_row-found.ensures.1 (sym br.booked_row-found.ensures.0 ∙ f.in-At.is)
     ∙ ap (λ (w : ℕ). some (record { workflow = w; arguments = arguments_of (value_in rows) a.id }))
-    (ap (λ (p : ℕ). (get_or (rows_of a.store.now p) f.found-1.given.0.0 (0, 0)).1) (sym pc.partition_count-book.ensures)
+    (ap (λ (p : ℕ). (get_or (rows_of a.store.now p) f.in-At.row (0, 0)).1) (sym pc.partition_count-book.ensures)
     ∙ sym c.value_at-workflow.ensures)
 
 -- and as it is read
 as_read : (c : tie.After-booked_request-known) →
-    let a = (start (hit c.before.before.before.before).before.before).args in
+    let a = (start (hit c.before.before.before).before).args in
     book_of (value_in (book_rows a.store.now)) a.id ≡ some (asked c.booked_request-known.result)
 as_read c = known c.before.before ∙ ap some (sym c.booked_request-known.ensures)
 
@@ -67,12 +67,12 @@ more : (c : tie.After-used_count) →
 more c =
     let p = counted c in
     let f = miss p in
-    let br = f.before.before in
+    let br = f.before in
     let st = start br in
     let a = st.args in (
       length_after a.id a.q.workflow a.q.a0 a.q.a1 a.q.a2 a.q.a3 (book_rows a.store.now)
           (twelve_parts _ (store_ok _ st.requires.0).1).0 br.booked_row-found.ensures.1 (book_keys_lem _ (sounds st))
-          (no_lookup (book_key a.id 0) _ _ (sym br.booked_row-found.ensures.0 ∙ f.found-in-Belongs-1.given.1)),
+          (no_lookup (book_key a.id 0) _ _ (sym br.booked_row-found.ensures.0 ∙ f.in-Belongs.is)),
       c.used_count.ensures ∙ ap (λ (q : ℕ). length (rows_of a.store.now q)) p.partition_count-book-in-Belongs.ensures,
     )
 
@@ -81,21 +81,21 @@ unfolding contents_of
 book_request_spec =
     tie.close
     (tie.spec
-    (λ c κs. sounds c.before.before)
+    (λ c κs. sounds c)
     (λ c. search rules)
-    (λ c κs. let z = sounds (start c.before.before.before.before) in omega (arith, z.formed.shape.size))
+    (λ c κs. let z = sounds (start c.before.before) in omega (arith, z.formed.shape.size))
     (λ c κs.
     let pc = c.before in
     let f = hit pc in
-    let br = f.before.before in
+    let br = f.before in
     let st = start br in
     let a = st.args in (
       sounds st,
       omega (arith, pc.partition_count-book.ensures),
       rw pc.partition_count-book.ensures
-          (at_row (book_key a.id 0) (book_rows a.store.now) _ (sym br.booked_row-found.ensures.0 ∙ f.found-1.given.1)),
+          (at_row (book_key a.id 0) (book_rows a.store.now) _ (sym br.booked_row-found.ensures.0 ∙ f.in-At.is)),
     ))
-    (λ c κs. sounds (start (hit c.before.before.before).before.before))
+    (λ c κs. sounds (start (hit c.before.before).before))
     (λ c κs. search rules)
     (λ c κs. search rules)
     (λ c. search rules)
@@ -106,11 +106,11 @@ book_request_spec =
     c.accepted.ensures)
     (λ c κs. search rules)
     (λ c. search rules)
-    (λ c κs. let z = sounds (start c.before.before.before.before) in omega (arith, z.formed.shape.size))
-    (λ c κs. let z = sounds (start (miss c.before).before.before) in omega (arith, z.formed.shape.size))
+    (λ c κs. let z = sounds (start c.before.before) in omega (arith, z.formed.shape.size))
+    (λ c κs. let z = sounds (start (miss c.before).before) in omega (arith, z.formed.shape.size))
     (λ c κs. (
-      (sounds (start (miss c.before.before.before).before.before)).formed.shape,
-      omega (arith, c.before.before.before.partition_count-book-in-Belongs.ensures),
+      (sounds (start (miss c.before.before).before)).formed.shape,
+      omega (arith, c.before.before.partition_count-book-in-Belongs.ensures),
     ))
     (λ c. let st = start (miss (counted c)).before.before in
     let z = sounds st in
@@ -125,18 +125,18 @@ book_request_spec =
     (λ c.
     let u = c.before.before in
     let f = miss (counted u) in
-    let br = f.before.before in
+    let br = f.before in
     let a = (start br).args in
     booked_19 _ a.id _ _
-    (found_none (book_rows a.store.now) a.id _ br.booked_row-found.ensures.1 (sym br.booked_row-found.ensures.0 ∙ f.found-in-Belongs-1.given.1))
+    (found_none (book_rows a.store.now) a.id _ br.booked_row-found.ensures.1 (sym br.booked_row-found.ensures.0 ∙ f.in-Belongs.is))
     (omega (arith, (more u).1, c.before.if-capacity-used_count.true, u.before.before.capacity.ensures)) c.refused-then-capacity-used_count.ensures)
     (λ c κs.
     let u = c.before.before in
     let f = miss (counted u) in
-    let br = f.before.before in (
+    let br = f.before in (
       sounds (start br),
       sym br.booked_row-found.ensures.0
-          ∙ f.found-in-Belongs-1.given.1,
+          ∙ f.in-Belongs.is,
       omega (arith, more u, c.before.if-capacity-used_count.false, u.before.before.capacity.ensures),
     ))
     (λ c κs. search rules)
@@ -150,10 +150,10 @@ book_request_spec =
     let w = c.before.before.before in
     let u = w.before.before.before in
     let f = miss (counted u) in
-    let br = f.before.before in
+    let br = f.before in
     let st = start br in
     let a = st.args in
-    let new = sym br.booked_row-found.ensures.0 ∙ f.found-in-Belongs-1.given.1 in
+    let new = sym br.booked_row-found.ensures.0 ∙ f.in-Belongs.is in
     booked_new _ a.id _ _ _ (found_none (book_rows a.store.now) a.id _ br.booked_row-found.ensures.1 new)
     (omega (arith, (more u).1, w.before.before.if-capacity-used_count.false, u.before.before.capacity.ensures))
     (wrote_request _ _ a.id a.q.workflow a.q.a0 a.q.a1 a.q.a2 a.q.a3 st.requires.0

@@ -92,7 +92,7 @@ pub +walk_inside_walk_outside_spec : {M : Type 1} → statement M
     (λ c.
     let j = c.before.before in
     let l = j.before in
-    first_stop _ _ _ l.loop-i-test.true _ _ _ _ j.judge_inside-v.ensures c.enum_told-1.given.1
+    first_stop _ _ _ l.loop-i-test.true _ _ _ _ j.judge_inside-v.ensures c.in-Refused.is
     ∙ ap verdict_of (sym l.before.loop-i.invariant.4))
     (λ c. search rules)
     (λ c. search rules)
@@ -111,7 +111,7 @@ pub +walk_inside_walk_outside_spec : {M : Type 1} → statement M
     let l = j.before in
     c.walk_outside.ensures
     ∙ ap verdict_of (sym (l.before.loop-i.invariant.4
-    ∙ first_yes _ _ _ l.loop-i-test.true _ j.judge_inside-v.ensures e.enum_told-in_default-1.given.1)))
+    ∙ first_yes _ _ _ l.loop-i-test.true _ j.judge_inside-v.ensures e.in_default.is)))
     (λ c κs. let e = c.before.before.before in let l = e.before.before.before in l.before.loop-i.invariant.2)
     (λ c. search rules)
     (λ c. search rules)
@@ -121,7 +121,7 @@ pub +walk_inside_walk_outside_spec : {M : Type 1} → statement M
     let j = e.before.before in
     let l = j.before in
     let n = l.before.loop-i.invariant in
-    let a = e.enum_told-in_default-1.given.1 in (
+    let a = e.in_default.is in (
       stays_inside _ _ _ _ _ j.judge_inside-v.ensures a n.0 (λ q. c.before.if-op-eq-END.false (o.operation_of-op.ensures ∙ q)),
       puts_next _ _ _ _ _ j.judge_inside-v.ensures a _ _ _ o.operation_of-op.ensures n.1 c.puts_behind-puts.ensures n.0
           (λ q. c.before.if-op-eq-END.false (o.operation_of-op.ensures ∙ q)),
@@ -148,7 +148,7 @@ pub +walk_inside_walk_outside_spec : {M : Type 1} → statement M
     (λ c.
     let j = c.before.before in
     let l = j.before in
-    first_stop _ _ _ l.loop-i-test.true _ _ _ _ j.judge_outside-v.ensures c.enum_told-1.given.1
+    first_stop _ _ _ l.loop-i-test.true _ _ _ _ j.judge_outside-v.ensures c.in-Refused.is
     ∙ ap verdict_of (sym l.before.loop-i.invariant.2))
     (λ c. search rules)
     (λ c. search rules)
@@ -166,7 +166,7 @@ pub +walk_inside_walk_outside_spec : {M : Type 1} → statement M
     let l = j.before in
     c.walk_Inside.ensures
     ∙ ap verdict_of (sym (l.before.loop-i.invariant.2
-    ∙ first_yes _ _ _ l.loop-i-test.true _ j.judge_outside-v.ensures e.enum_told-in_default-1.given.1)))
+    ∙ first_yes _ _ _ l.loop-i-test.true _ j.judge_outside-v.ensures e.in_default.is)))
     (λ c. search rules)
     (λ c. search rules)
     (λ c.
@@ -175,7 +175,7 @@ pub +walk_inside_walk_outside_spec : {M : Type 1} → statement M
     let j = e.before.before in
     let l = j.before in
     let n = l.before.loop-i.invariant in
-    let a = e.enum_told-in_default-1.given.1 in (
+    let a = e.in_default.is in (
       stays_outside _ _ _ _ _ j.judge_outside-v.ensures a n.0 (λ q. c.if-op-eq-END.false (o.operation_of-op.ensures ∙ q)),
       omega (arith, n.1),
       n.2 ∙ first_yes _ _ _ l.loop-i-test.true _ j.judge_outside-v.ensures a,

@@ -25,14 +25,14 @@ check_workflow_spec =
     (λ c.
     let o = c.before in
     let e = o.before.before in
-    let k = e.before.before in
-    ap verdict_of (sym (code_walked _ _ _ _ k.walk_outside-v.ensures true e.enum_told-1.given.1
+    let k = e.before in
+    ap verdict_of (sym (code_walked _ _ _ _ k.walk_outside-v.ensures true e.in-Accepted.is
     (eq-eqb _ 11 (sym o.operation_of.ensures ∙ c.if-operation_of-eq-RETURN.true)))))
     (λ c.
     let o = c.before.before in
     let e = o.before.before in
-    let k = e.before.before in
+    let k = e.before in
     c.refused.ensures
-    ∙ ap verdict_of (sym (code_walked _ _ _ _ k.walk_outside-v.ensures false e.enum_told-1.given.1
+    ∙ ap verdict_of (sym (code_walked _ _ _ _ k.walk_outside-v.ensures false e.in-Accepted.is
     (ne_eqb _ 11 (λ q. c.before.if-operation_of-eq-RETURN.false (o.operation_of.ensures ∙ q))))))
-    (λ c. code_refused _ _ _ _ c.before.before.walk_outside-v.ensures _ _ _ c.enum_told-in-Refused-1.given.1))
+    (λ c. code_refused _ _ _ _ c.before.walk_outside-v.ensures _ _ _ c.in-Refused.is))

@@ -21,26 +21,26 @@ is_sided_inside_spec =
     (λ c. search rules)
     (λ c. search rules)
     (λ c. search rules)
-    (λ c. let s = c.before.before.before.before.before in
+    (λ c. let s = c.before.before.before.before in
     omega (
       arith,
-      target_below _ _ _ _ c.enum_told-in-Jump-1.given.1 s.requires.1,
-      target_ahead _ _ _ _ c.enum_told-in-Jump-1.given.1 s.requires.1,
+      target_below _ _ _ _ c.in-Jump.is s.requires.1,
+      target_ahead _ _ _ _ c.in-Jump.is s.requires.1,
     ))
     (λ c κs. search rules)
     (λ c. search rules)
     (λ c κs.
     let p = c.before in
-    let s = p.before.before.before.before.before in
+    let s = p.before.before.before.before in
     let t = c.target_of.ensures in
-    let a = target_ahead _ _ _ _ p.enum_told-in-Jump-1.given.1 s.requires.1 in
-    let b = target_below _ _ _ _ p.enum_told-in-Jump-1.given.1 s.requires.1 in
+    let a = target_ahead _ _ _ _ p.in-Jump.is s.requires.1 in
+    let b = target_below _ _ _ _ p.in-Jump.is s.requires.1 in
     omega arith)
     (λ c. search rules)
-    (λ c. rw (stood c.before.before, c.enum_told-1.given.1))
-    (λ c. rw (stood c.before.before, c.enum_told-in-Below8-1.given.1))
+    (λ c. rw (stood c.before, c.in-Any.is))
+    (λ c. rw (stood c.before, c.in-Below8.is))
     (λ c.
     let p = c.before.before in
-    rw (stood p.before.before, p.enum_told-in-Jump-1.given.1, ← c.before.target_of.ensures) c.has_no_end.ensures)
-    (λ c. rw (stood c.before.before, c.enum_told-in-Zero-1.given.1))
+    rw (stood p.before, p.in-Jump.is, ← c.before.target_of.ensures) c.has_no_end.ensures)
+    (λ c. rw (stood c.before, c.in-Zero.is))
     (λ c. rw (← c.before.stands_on.ensures, c.if-stands_on.false)))

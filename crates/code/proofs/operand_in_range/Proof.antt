@@ -16,24 +16,24 @@ operand_in_range_spec =
     (λ c κs. search rules)
     (λ c. search rules)
     (λ c κs. search rules)
-    (λ c. rw (c.before.before.before.enum_told-in-Jump-1.given.1, ← c.before.source_of.ensures, le-ltb _ _ c.if-source_of-ge8.true))
+    (λ c. rw (c.before.before.before.in-Jump.is, ← c.before.source_of.ensures, le-ltb _ _ c.if-source_of-ge8.true))
     (λ c.
     rw (
-      c.before.before.before.before.enum_told-in-Jump-1.given.1,
+      c.before.before.before.before.in-Jump.is,
       ← c.before.before.source_of.ensures,
       lt-ltb _ _ c.before.if-source_of-ge8.false,
       ← c.before.before.before.target_of-target.ensures,
       le-ltb _ _ c.if-target-index.true,
     ))
     (λ c. search rules)
-    (λ c. rw c.enum_told-1.given.1)
-    (λ c. rw c.enum_told-in-Below8-1.given.1)
+    (λ c. rw c.in-Any.is)
+    (λ c. rw c.in-Below8.is)
     (λ c.
     rw (
-      c.before.before.before.before.enum_told-in-Jump-1.given.1,
+      c.before.before.before.before.in-Jump.is,
       ← c.before.before.source_of.ensures,
       lt-ltb _ _ c.before.if-source_of-ge8.false,
       ← c.before.before.before.target_of-target.ensures,
       lt-ltb _ _ c.if-target-index.false,
     ))
-    (λ c. rw c.enum_told-in-Zero-1.given.1))
+    (λ c. rw c.in-Zero.is))

@@ -10,8 +10,8 @@ use Rattle.figures.proofs.figures.Statement.{statement}
 use Rattle.figures.proofs.figures.Tie as tie
 
 -- no question says no
-opens : (c : tie.In-Accepted) → let a = c.before.before.before.before.args in open_refusal a.pack.now a.workflow ≡ none
-opens c = accepted _ _ c.before.before.«open».ensures c.enum_told-1.given.1
+opens : (c : tie.In-Accepted) → let a = c.before.before.before.args in open_refusal a.pack.now a.workflow ≡ none
+opens c = accepted _ _ c.before.«open».ensures c.in-Accepted.is
 
 pub figures_spec : {M : Type 1} → statement M
 figures_spec =
@@ -29,6 +29,6 @@ figures_spec =
     (λ c.
     let p = c.before.before in
     let t = p.before.before in
-    answered _ _ (opens t) _ _ p.before.operations_part-ops.ensures p.operands_part-operands.ensures _ t.enum_told-1.given.1
+    answered _ _ (opens t) _ _ p.before.operations_part-ops.ensures p.operands_part-operands.ensures _ t.in-Accepted.is
     c.most_rows-rows.ensures.0 c.before.most_of-turns.ensures c.most_rows-rows.ensures.1)
-    (λ c. refused _ _ _ _ _ _ c.before.before.«open».ensures c.enum_told-in-Refused-1.given.1))
+    (λ c. refused _ _ _ _ _ _ c.before.«open».ensures c.in-Refused.is))

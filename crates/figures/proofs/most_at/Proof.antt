@@ -47,7 +47,7 @@ module _ (t : tie.Then-op-eq-BEGIN) where
 by_block : (c : tie.After-block_of-block) →
     let t = c.before.before.before in
     MostAt (s t).args.by (s t).args.ops.now (s t).args.operands.now (s t).args.index
-    (c.Block-of.result + get_or (s t).args.most.now (s t).args.behind 0)
+    (c.block_of-block.result + get_or (s t).args.most.now (s t).args.behind 0)
 by_block c =
     let t = c.before.before.before in
     subst
@@ -55,7 +55,7 @@ by_block c =
     (n + get_or (s t).args.most.now (s t).args.behind 0))
     (ap (λ w. (counting_of (s t).args.by).block w (get_or (s t).args.most.now ((s t).args.index + 1) 0))
     (sym c.before.before.word_in.ensures)
-    ∙ sym c.Block-of.ensures)
+    ∙ sym c.block_of-block.ensures)
     (begin_most _ _ _ _ _ (s t).requires.0 (s t).args.by _ (s t).requires.1 (is_begin t))
 
 pub most_at_spec : {M : Type 1} → statement M

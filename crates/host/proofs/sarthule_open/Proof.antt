@@ -13,9 +13,9 @@ use Rattle.host.proofs.sarthule_open.Tie as tie
 
 -- the questions said yes
 opens : (c : tie.In-Accepted) → let a =
-    c.before.before.before.before.before.before.before.before.before.before.before.args in
+    c.before.before.before.before.before.before.before.before.before.before.args in
     open_refusal a.pack.now a.workflow ≡ none
-opens c = accepted_none _ _ c.before.before.before.before.before.before.before.open-v.ensures c.enum_told-1.given.1
+opens c = accepted_none _ _ c.before.before.before.before.before.before.open-v.ensures c.in-Accepted.is
 
 pub sarthule_open_spec : {M : Type 1} → statement M
 unfolding opened_parts
@@ -43,7 +43,7 @@ sarthule_open_spec =
     (λ c.
     let o = c.before.before in
     let k = o.before.before.before.before.before in
-    let w = k.before.before.before.before in
+    let w = k.before.before.before in
     let v = w.before.before.before in
     told_open _ _ _ none _ _ _ _ _ v.before.if-answer-lt28.false (opens k) (w.before.judge.ensures _ v.open-v.ensures)
     w.write_answer-number.ensures.0
@@ -56,7 +56,7 @@ sarthule_open_spec =
     (λ c. search rules)
     (λ c.
     let o = c.before.before in
-    let w = o.before.before.before.before.before.before in
+    let w = o.before.before.before.before.before in
     let v = w.before.before.before in
-    told_open _ _ _ _ _ _ _ _ _ v.before.if-answer-lt28.false (refused_some _ _ _ _ _ v.open-v.ensures o.before.before.enum_told-in-Refused-1.given.1)
+    told_open _ _ _ _ _ _ _ _ _ v.before.if-answer-lt28.false (refused_some _ _ _ _ _ v.open-v.ensures o.before.before.in-Refused.is)
     (w.before.judge.ensures _ v.open-v.ensures) w.write_answer-number.ensures.0 refl o.write_parts-in-Refused.ensures))

@@ -23,24 +23,24 @@ moved_spec =
     (λ c κs. search rules)
     (λ c κs. search rules)
     (λ c κs. search rules)
-    (λ c. moved_set _ _ _ _ _ c.before.in_default.keys1 c.with_register.ensures)
+    (λ c. moved_set _ _ _ _ _ c.before.in-0.is c.with_register.ensures)
     (λ c.
     let so = c.before.before.before.before.before in
-    moved_copy _ _ _ _ _ _ so.register_named-s.ensures.0 so.before.requires.3 c.before.in_default.keys2 c.with_register-in-1.ensures)
+    moved_copy _ _ _ _ _ _ so.register_named-s.ensures.0 so.before.requires.3 c.before.in-1.is c.with_register-in-1.ensures)
     (λ c.
     let m = c.before.before in
     let so = m.before.before.before.before in
-    moved_add _ _ _ _ _ _ so.register_named-s.ensures.0 so.before.requires.3 m.in_default.keys3 _ c.before.add32.ensures
+    moved_add _ _ _ _ _ _ so.register_named-s.ensures.0 so.before.requires.3 m.in-2.is _ c.before.add32.ensures
     c.with_register-in-2.ensures)
     (λ c.
     let m = c.before.before in
     let so = m.before.before.before.before in
-    moved_sub _ _ _ _ _ _ so.register_named-s.ensures.0 so.before.requires.3 m.in_default.keys4 _ c.before.sub32.ensures
+    moved_sub _ _ _ _ _ _ so.register_named-s.ensures.0 so.before.requires.3 m.in-3.is _ c.before.sub32.ensures
     c.with_register-in-3.ensures)
     (λ c.
     let m = c.before in
     let so = m.before.before.before.before in
-    moved_less _ _ _ _ _ _ so.register_named-s.ensures.0 so.before.requires.3 _ m.before.target_of-target.ensures m.in_default.keys5
+    moved_less _ _ _ _ _ _ so.register_named-s.ensures.0 so.before.requires.3 _ m.before.target_of-target.ensures m.in-4.is
     c.jumped.ensures)
     (λ c.
     let m = c.before in

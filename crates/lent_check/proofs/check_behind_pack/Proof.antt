@@ -14,11 +14,11 @@ use Rattle.lent_check.proofs.check_behind_pack.Tie as tie
 
 -- from the answer to 9 to 12 back to the start
 abbrev start : tie.In-Accepted → tie.Start
-start t = t.before.before.before.before.before
+start t = t.before.before.before.before
 
 -- 9 to 12 say yes
 stored : (c : tie.In-Accepted) → store_refusal (start c).args.store.now ≡ none
-stored c = let k = c.before.before in accepted_none k.check_store-store_verdict.result _ k.check_store-store_verdict.ensures c.enum_told-1.given.1
+stored c = let k = c.before in accepted_none k.check_store-store_verdict.result _ k.check_store-store_verdict.ensures c.in-Accepted.is
 
 pub check_behind_pack_spec : {M : Type 1} → statement M
 check_behind_pack_spec =
@@ -36,12 +36,12 @@ check_behind_pack_spec =
     (λ c. search rules)
     (λ c.
     let t = c.before.before in
-    t.enum_told-1.given.1
+    t.in-Accepted.is
     ∙ sym (ap verdict_of (all_thirteen _ _ (start t).requires (stored t)
     (sym c.before.check_13.ensures ∙ not-false _ c.if-not-check_13.false))))
     (λ c.
-    let k = c.before.before in
+    let k = c.before in
     let s = k.before.before.before in
-    c.enum_told-in-Refused-1.given.1
+    c.in-Refused.is
     ∙ sym (ap verdict_of (thirteen_of_store _ _ s.requires _
-    (refused_some k.check_store-store_verdict.result _ _ _ _ k.check_store-store_verdict.ensures c.enum_told-in-Refused-1.given.1)))))
+    (refused_some k.check_store-store_verdict.result _ _ _ _ k.check_store-store_verdict.ensures c.in-Refused.is)))))

@@ -15,11 +15,11 @@ use Rattle.lent_check.proofs.check_lent.Tie as tie
 
 -- from the answer to 1 to 13 back to the start
 abbrev start : tie.In-Accepted → tie.Start
-start t = t.before.before.before.before.before
+start t = t.before.before.before.before
 
 -- 1 to 13 say yes
 to_13 : (c : tie.In-Accepted) → let a = (start c).args in first_thirteen a.pack.now a.store.now ≡ none
-to_13 c = let k = c.before.before in accepted_none k.check_to_13-verdict.result _ k.check_to_13-verdict.ensures c.enum_told-1.given.1
+to_13 c = let k = c.before in accepted_none k.check_to_13-verdict.result _ k.check_to_13-verdict.ensures c.in-Accepted.is
 
 pub check_lent_spec : {M : Type 1} → statement M
 check_lent_spec =
@@ -41,12 +41,12 @@ check_lent_spec =
     (λ c.
     let t = c.before.before in
     λ list.
-    t.enum_told-1.given.1
+    t.in-Accepted.is
     ∙ sym (ap verdict_of (all_yes _ (record { store = (start t).args.store.now; records = (start t).args.agents; list = list }) (to_13 t)
     (sym c.before.check_14.ensures ∙ not-false _ c.if-not-check_14.false))))
     (λ c.
-    let k = c.before.before in
+    let k = c.before in
     λ list.
-    c.enum_told-in-Refused-1.given.1
+    c.in-Refused.is
     ∙ sym (ap verdict_of (no_to_13 _ _ _
-    (refused_some k.check_to_13-verdict.result _ _ _ _ k.check_to_13-verdict.ensures c.enum_told-in-Refused-1.given.1)))))
+    (refused_some k.check_to_13-verdict.result _ _ _ _ k.check_to_13-verdict.ensures c.in-Refused.is)))))

@@ -13,14 +13,14 @@ use Rattle.lent_check.proofs.check_to_16.Tie as tie
 
 -- from the answer to 1 to 14 back to the start
 abbrev start : tie.In-Accepted → tie.Start
-start c = c.before.before.before.before.before
+start c = c.before.before.before.before
 
 -- 1 to 14 say yes
 lent_yes : (c : tie.In-Accepted) (list : Worklist) →
     let a = (start c).args in
-    lent_refusal a.pack.now (record { store = a.store.now; records = a.t3; list = list }) ≡ none
-lent_yes c list = let k = c.before.before in accepted_none k.check_lent-lent_verdict.result _ (k.check_lent-lent_verdict.ensures list)
-    c.enum_told-1.given.1
+    lent_refusal a.pack.now (record { store = a.store.now; records = a.agents; list = list }) ≡ none
+lent_yes c list = let k = c.before in accepted_none k.check_lent-lent_verdict.result _ (k.check_lent-lent_verdict.ensures list)
+    c.in-Accepted.is
 
 pub check_to_16_spec : {M : Type 1} → statement M
 check_to_16_spec =
@@ -45,10 +45,10 @@ check_to_16_spec =
     let e = c.before.before.before in
     let a = (start e.before).args in
     λ list.
-    e.before.enum_told-1.given.1
+    e.before.in-Accepted.is
     ∙ sym (ap verdict_of (all_sixteen _ _ a.slot a.used (lent_yes e.before list) e.if-slot-ge8.false (came_alike _ _ c.if-a-used.false))))
-    (λ c. let k = c.before.before in
+    (λ c. let k = c.before in
     λ list.
-    c.enum_told-in-Refused-1.given.1
+    c.in-Refused.is
     ∙ sym (ap verdict_of (no_of_lent _ _ _ _ _
-    (refused_some k.check_lent-lent_verdict.result _ _ _ _ (k.check_lent-lent_verdict.ensures list) c.enum_told-in-Refused-1.given.1)))))
+    (refused_some k.check_lent-lent_verdict.result _ _ _ _ (k.check_lent-lent_verdict.ensures list) c.in-Refused.is)))))

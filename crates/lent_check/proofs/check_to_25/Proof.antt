@@ -12,15 +12,15 @@ use Rattle.lent_check.proofs.check_to_25.Tie as tie
 
 -- from the answer to 1 to 14 back to the start
 abbrev start : tie.In-Accepted → tie.Start
-start c = c.before.before.before.before.before
+start c = c.before.before.before.before
 
 -- 1 to 14 say yes
 lent_yes : (c : tie.In-Accepted) →
     let a = (start c).args in
     lent_refusal a.pack.now (record { store = a.store.now; records = a.agents; list = a.list }) ≡ none
 lent_yes c =
-    let k = c.before.before in
-    accepted_none k.check_lent-verdict.result _ (k.check_lent-verdict.ensures (start c).args.list) c.enum_told-1.given.1
+    let k = c.before in
+    accepted_none k.check_lent-verdict.result _ (k.check_lent-verdict.ensures (start c).args.list) c.in-Accepted.is
 
 pub check_to_25_spec : {M : Type 1} → statement M
 check_to_25_spec =
@@ -39,12 +39,12 @@ check_to_25_spec =
     (λ c. search rules)
     (λ c.
     let t = c.before.before in
-    t.enum_told-1.given.1
+    t.in-Accepted.is
     ∙ sym (ap verdict_of (list_all _
     (record { store = (start t).args.store.now; records = (start t).args.agents; list = (start t).args.list })
     (lent_yes t) (sym c.before.is_right.ensures ∙ not-false _ c.if-not-is_right.false))))
     (λ c.
-    let k = c.before.before in
-    c.enum_told-in-Refused-1.given.1
+    let k = c.before in
+    c.in-Refused.is
     ∙ sym (ap verdict_of (list_of_lent _ _ _
-    (refused_some k.check_lent-verdict.result _ _ _ _ (k.check_lent-verdict.ensures _) c.enum_told-in-Refused-1.given.1)))))
+    (refused_some k.check_lent-verdict.result _ _ _ _ (k.check_lent-verdict.ensures _) c.in-Refused.is)))))

@@ -13,15 +13,15 @@ use Rattle.lent_check.proofs.sound.Tie as tie
 
 -- from the book's answer back to the start
 abbrev start : tie.In-Value-2 → tie.Start
-start c = c.before.before.before.before.before
+start c = c.before.before.before.before
 
 -- the workflow that the book has is below m
-below : (c : tie.In-Value-2) → c.booked-1.given.0.0 < count (start c).args.pack.now
+below : (c : tie.In-Value-2) → c.in-Value.workflow < count (start c).args.pack.now
 below c =
-    let k = c.before.before in
+    let k = c.before in
     let s = k.before.before.before in
     workflow_below s.args.pack.now s.args.store.now s.args.a.id _ k.booked_workflow-booked.ensures.1 s.requires.2
-    (got_some _ k.booked_workflow-booked.result k.booked_workflow-booked.ensures.0 _ c.booked-1.given.1)
+    (got_some _ k.booked_workflow-booked.result k.booked_workflow-booked.ensures.0 _ c.in-Value.is)
 
 pub sound_spec : {M : Type 1} → statement M
 unfolding Q.inside_at
@@ -31,41 +31,41 @@ sound_spec =
     (λ c κs. search rules)
     (λ c. search rules)
     (λ c. search rules)
-    (λ c κs. ((start c.before).requires.0, below c.before))
+    (λ c κs. ((start c).requires.0, below c))
     (λ c. search rules)
     (λ c.
     let o = c.before.before in
-    let g = o.before.before in
-    let k = g.before.before in
+    let g = o.before in
+    let k = g.before in
     let s = k.before.before.before in
     sym (sound_long s.args.pack.now (book_rows s.args.store.now) s.args.a k.booked_workflow-booked.ensures.1
     k.booked_workflow-booked.result _
-    k.booked_workflow-booked.ensures.0 g.booked-1.given.1 s.requires.0 (below g) _ o.operations_part-ops.ensures c.if-ops-position.true))
+    k.booked_workflow-booked.ensures.0 g.in-Value.is s.requires.0 (below g) _ o.operations_part-ops.ensures c.if-ops-position.true))
     (λ c κs. (search rules, refl))
     (λ c.
     let l = c.before.before in
     let o = l.before.before in
-    let g = o.before.before in
-    let k = g.before.before in
+    let g = o.before in
+    let k = g.before in
     let s = k.before.before.before in
     sym (sound_inside s.args.pack.now (book_rows s.args.store.now) s.args.a k.booked_workflow-booked.ensures.1
     k.booked_workflow-booked.result _
-    k.booked_workflow-booked.ensures.0 g.booked-1.given.1 s.requires.0 (below g) _ o.operations_part-ops.ensures l.if-ops-position.false
+    k.booked_workflow-booked.ensures.0 g.in-Value.is s.requires.0 (below g) _ o.operations_part-ops.ensures l.if-ops-position.false
     (sym c.before.is_inside.ensures ∙ c.if-is_inside.true)))
     (λ c. search rules)
     (λ c.
     let l = c.before.before.before in
     let o = l.before.before in
-    let g = o.before.before in
-    let k = g.before.before in
+    let g = o.before in
+    let k = g.before in
     let s = k.before.before.before in
     sym (sound_rest s.args.pack.now (book_rows s.args.store.now) s.args.a k.booked_workflow-booked.ensures.1
     k.booked_workflow-booked.result _
-    k.booked_workflow-booked.ensures.0 g.booked-1.given.1 s.requires.0 (below g) _ o.operations_part-ops.ensures l.if-ops-position.false
+    k.booked_workflow-booked.ensures.0 g.in-Value.is s.requires.0 (below g) _ o.operations_part-ops.ensures l.if-ops-position.false
     (sym c.before.before.is_inside.ensures ∙ c.before.if-is_inside.false)))
     (λ c.
-    let k = c.before.before in
+    let k = c.before in
     let s = k.before.before.before in
     sym (sound_none s.args.pack.now (book_rows s.args.store.now) s.args.a k.booked_workflow-booked.ensures.1
     k.booked_workflow-booked.result k.booked_workflow-booked.ensures.0
-    c.enum_told-1.given.1)))
+    c.in-Absent.is)))

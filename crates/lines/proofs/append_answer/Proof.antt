@@ -29,16 +29,16 @@ append_answer_spec =
     (λ c κs. search rules)
     (λ c. search rules)
     (λ c. let d = c.before.before in
-    (answer_as _ _ d.before.before.before.enum_told-1.given.1 d.append_bytes.ensures, omega arith))
+    (answer_as _ _ d.before.before.before.in-Done.is d.append_bytes.ensures, omega arith))
     (λ c. search rules)
     (λ c. let d = c.before.before in
-    (answer_as _ _ d.before.before.before.enum_told-in-Moved-1.given.1 d.append_bytes-in-Moved.ensures, omega arith))
+    (answer_as _ _ d.before.before.in-Moved.is d.append_bytes-in-Moved.ensures, omega arith))
     (λ c. search rules)
     (λ c. let d = c.before.before in
-    (answer_as _ _ d.before.before.before.answer-1.given.1 d.append_reply.ensures.0, omega arith))
+    (answer_as _ _ d.before.before.in-Reply.is d.append_reply.ensures.0, omega arith))
     (λ c. search rules)
     (λ c. let d = c.before.before in
-    (answer_as _ _ d.before.before.before.answer-in-Given-1.given.1 d.append_taken.ensures.0, omega arith))
+    (answer_as _ _ d.before.before.in-Given.is d.append_taken.ensures.0, omega arith))
     (λ c. search rules)
     (λ c. let d = c.before.before in
-    (answer_as _ _ d.before.before.before.answer-in-Refused-1.given.1 d.append_refused.ensures.0, omega arith)))
+    (answer_as _ _ d.before.before.before.in-Refused.is d.append_refused.ensures.0, omega arith)))

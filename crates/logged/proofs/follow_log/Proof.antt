@@ -40,32 +40,32 @@ follow_log_spec =
     (λ c κs. ((start c.before).requires.0, c.before.loop-moves.invariant.0))
     (λ c. search rules)
     (λ c.
-    let m = c.before.before.before in
+    let m = c.before in
     let lp = m.before.before in
     ap by_reply
     (sym (comes_to _ _ _ (start lp).requires.0 lp.loop-moves.place _ lp.loop-moves.invariant.0 _ _ m.move_by_log-stage.result
-    m.move_by_log-stage.ensures _ _ m.before.loop-moves-test.true _ c.before.led-1.given.1)
+    m.move_by_log-stage.ensures _ _ m.before.loop-moves-test.true _ c.in-Finished.is)
     ∙ lp.loop-moves.invariant.1))
     (λ c. search rules)
     (λ c.
-    let m = c.before.before in
+    let m = c.before in
     let lp = m.before.before in
     ap by_reply
     (sym (no_further _ _ _ (start lp).requires.0 lp.loop-moves.place _ lp.loop-moves.invariant.0 _ _ m.move_by_log-stage.result
-    m.move_by_log-stage.ensures _ _ m.before.loop-moves-test.true c.enum_told-1.given.1)
+    m.move_by_log-stage.ensures _ _ m.before.loop-moves-test.true c.in-NotLogged.is)
     ∙ lp.loop-moves.invariant.1))
     (λ c. search rules)
     (λ c. search rules)
     (λ c. search rules)
     (λ c.
     let t = c.before in
-    let m = t.before.before in
+    let m = t.before in
     let lp = m.before.before in (
       stands_further _ _ _ (start lp).requires.0 lp.loop-moves.place _ lp.loop-moves.invariant.0 _ _ m.move_by_log-stage.result m.move_by_log-stage.ensures
-          t.enum_told-in-UnderWay-1.given.1,
+          t.in-UnderWay.is,
       sym
           (still_sought _ _ _ (start lp).requires.0 lp.loop-moves.place _ lp.loop-moves.invariant.0 _ _ m.move_by_log-stage.result
-          m.move_by_log-stage.ensures _ _ m.before.loop-moves-test.true t.enum_told-in-UnderWay-1.given.1)
+          m.move_by_log-stage.ensures _ _ m.before.loop-moves-test.true t.in-UnderWay.is)
           ∙ lp.loop-moves.invariant.1,
     ))
     (λ c.

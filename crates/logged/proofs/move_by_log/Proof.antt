@@ -17,29 +17,29 @@ move_by_log_spec =
     (λ c. search rules)
     (λ c. search rules)
     (λ c κs.
-    let x = c.before in
-    let n = x.before.before.before in
+    let x = c in
+    let n = x.before.before in
     let s = start n in
-    may_seek _ _ _ s.requires.0 s.args.from _ s.requires.1 n.next_of-upcoming.result n.next_of-upcoming.ensures _ x.next-1.given.1)
+    may_seek _ _ _ s.requires.0 s.args.from _ s.requires.1 n.next_of-upcoming.result n.next_of-upcoming.ensures _ x.in-Does.is)
     (λ c κs.
-    let x = c.before.before in
-    let n = x.before.before.before in
+    let x = c.before in
+    let n = x.before.before in
     let s = start n in
-    may_pass _ _ _ s.requires.0 s.args.from _ s.requires.1 n.next_of-upcoming.result n.next_of-upcoming.ensures _ x.next-1.given.1)
+    may_pass _ _ _ s.requires.0 s.args.from _ s.requires.1 n.next_of-upcoming.result n.next_of-upcoming.ensures _ x.in-Does.is)
     (λ c. search rules)
     (λ c.
-    let n = c.before.before.before in
+    let n = c.before.before in
     let s = start n in
-    goes_on _ _ _ s.requires.0 s.args.from _ s.requires.1 n.next_of-upcoming.result n.next_of-upcoming.ensures _ _ c.enum_told-1.given.1)
+    goes_on _ _ _ s.requires.0 s.args.from _ s.requires.1 n.next_of-upcoming.result n.next_of-upcoming.ensures _ _ c.in-Goes.is)
     (λ c.
     let l = c.before in
-    let x = l.before.before in
-    let n = x.before.before.before in
+    let x = l.before in
+    let n = x.before.before in
     let s = start n in
     c.pass_block.ensures s.args.operands.now _ l.log_row-row.ensures
-    ∙ passes _ _ _ s.requires.0 s.args.from _ s.requires.1 n.next_of-upcoming.result n.next_of-upcoming.ensures _ x.next-1.given.1 _ _)
+    ∙ passes _ _ _ s.requires.0 s.args.from _ s.requires.1 n.next_of-upcoming.result n.next_of-upcoming.ensures _ x.in-Does.is _ _)
     (λ c.
-    let x = c.before in
-    let n = x.before.before.before in
+    let x = c in
+    let n = x.before.before in
     let s = start n in
-    replies _ _ _ s.requires.0 s.args.from _ s.requires.1 n.next_of-upcoming.result n.next_of-upcoming.ensures _ _ _ x.next-in-Says-1.given.1))
+    replies _ _ _ s.requires.0 s.args.from _ s.requires.1 n.next_of-upcoming.result n.next_of-upcoming.ensures _ _ _ x.in-Says.is))

@@ -24,6 +24,6 @@ entry_of_spec =
     λ i.
     record {
       side = c.before.before.side_in-side.ensures (side_of op) (operand_of op) (fixed_of op) e i;
-      operand = c.before.Operand-in.ensures (side_of op) (operand_of op) (fixed_of op) e i;
+      operand = c.before.operand_in-operand.ensures (side_of op) (operand_of op) (fixed_of op) e i;
       fixed = c.fixed_in.ensures (side_of op) (operand_of op) (fixed_of op) e i;
     }))

@@ -14,9 +14,9 @@ check_spec =
     (tie.spec
     (λ c κs. search rules)
     (λ c. search rules)
-    (λ c κs. laid _ (accepted _ _ c.before.before.check_layout-v.ensures c.enum_told-1.given.1))
+    (λ c κs. laid _ (accepted _ _ c.before.check_layout-v.ensures c.in-Accepted.is))
     (λ c. search rules)
     (λ c. let e = c.before in
     c.check_workflows.ensures
-    ∙ ap verdict_of (sym (layout_fine _ _ e.before.before.check_layout-v.ensures e.enum_told-1.given.1)))
-    (λ c. layout_refused _ _ _ _ _ c.before.before.check_layout-v.ensures c.enum_told-in-Refused-1.given.1))
+    ∙ ap verdict_of (sym (layout_fine _ _ e.before.check_layout-v.ensures e.in-Accepted.is)))
+    (λ c. layout_refused _ _ _ _ _ c.before.check_layout-v.ensures c.in-Refused.is))

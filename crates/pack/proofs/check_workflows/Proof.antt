@@ -141,15 +141,15 @@ check_workflows_spec =
     (λ c κs. sized c)
     (λ c. search rules)
     (λ c.
-    let k = c.before.before in
+    let k = c.before in
     let t = k.before.before.before.before in
-    first_stop _ _ _ t.loop-workflow-test.true _ _ _ _ (told k) c.enum_told-1.given.1 ∙ ap verdict_of (sym t.before.loop-workflow.invariant.2))
+    first_stop _ _ _ t.loop-workflow-test.true _ _ _ _ (told k) c.in-Refused.is ∙ ap verdict_of (sym t.before.loop-workflow.invariant.2))
     (λ c. search rules)
-    (λ c. omega (arith, few c.before.before.before.before.before))
+    (λ c. omega (arith, few c.before.before.before.before))
     (λ c. search rules)
     (λ c. search rules)
     (λ c.
-    let k = c.before.before in
+    let k = c.before in
     let z = k.before.before.before in
     let t = z.before in
     let l = t.before in (
@@ -160,6 +160,6 @@ check_workflows_spec =
         l.loop-workflow.invariant.1,
         z.size_at-size.ensures,
       ),
-      l.loop-workflow.invariant.2 ∙ first_yes _ _ _ t.loop-workflow-test.true _ (told k) c.enum_told-in_default-1.given.1,
+      l.loop-workflow.invariant.2 ∙ first_yes _ _ _ t.loop-workflow-test.true _ (told k) c.in_default.is,
     ))
     (λ c. ap verdict_of (sym (c.before.loop-workflow.invariant.2 ∙ first_done _ _ _ c.loop-workflow-test.false))))

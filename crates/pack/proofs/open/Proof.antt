@@ -11,8 +11,8 @@ use Rattle.pack.proofs.Workflows.{pack_laid, pack_refused, pack_fine, is_below, 
 use Rattle.pack.proofs.open.Statement.{statement}
 use Rattle.pack.proofs.open.Tie as tie
 
-laid_here : (c : tie.In-Accepted) → Laid c.before.before.before.before.args.pack.now
-laid_here c = pack_laid _ (accepted _ _ c.before.before.check-v.ensures c.enum_told-1.given.1)
+laid_here : (c : tie.In-Accepted) → Laid c.before.before.before.args.pack.now
+laid_here c = pack_laid _ (accepted _ _ c.before.check-v.ensures c.in-Accepted.is)
 
 pub open_spec : {M : Type 1} → statement M
 unfolding ask
@@ -25,12 +25,12 @@ open_spec =
     (λ c κs. search rules)
     (λ c. search rules)
     (λ c. let e = c.before.before in
-    ap verdict_of (sym (pack_fine _ _ _ true e.before.before.check-v.ensures e.enum_told-1.given.1
-    (is_below e.before.before.before.before.args.pack.now _ _ c.before.count_of.ensures c.if-workflow-count_of.true))))
+    ap verdict_of (sym (pack_fine _ _ _ true e.before.check-v.ensures e.in-Accepted.is
+    (is_below e.before.before.before.args.pack.now _ _ c.before.count_of.ensures c.if-workflow-count_of.true))))
     (λ c.
     let e = c.before.before.before in
     c.refused.ensures ∙ ap verdict_of
-    (sym (pack_fine _ _ _ false e.before.before.check-v.ensures e.enum_told-1.given.1
-    (not_below e.before.before.before.before.args.pack.now _ _ c.before.before.count_of.ensures
+    (sym (pack_fine _ _ _ false e.before.check-v.ensures e.in-Accepted.is
+    (not_below e.before.before.before.args.pack.now _ _ c.before.before.count_of.ensures
     c.before.if-workflow-count_of.false))))
-    (λ c. pack_refused _ _ _ _ _ _ c.before.before.check-v.ensures c.enum_told-in-Refused-1.given.1))
+    (λ c. pack_refused _ _ _ _ _ _ c.before.check-v.ensures c.in-Refused.is))

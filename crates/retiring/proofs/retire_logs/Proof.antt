@@ -46,7 +46,7 @@ retire_logs_spec =
     let a = (start lp).args in (
       omega (arith, il.loop-partition-test.true),
       kf.keep_from.auto.0 ∙ lp.loop-partition.invariant.1,
-      logs_more a.floor a.store.now lp.loop-partition.store kf.keep_from.new.0 lp.loop-partition.partition lp.before.log_key_lem.result
+      logs_more a.floor a.store.now lp.loop-partition.store kf.keep_from.new.store lp.loop-partition.partition lp.before.log_key_lem.result
           lp.loop-partition.invariant.2 lp.before.log_key_lem.ensures.0 kf.keep_from.ensures.0,
     ))
     (λ c. c.before.loop-partition.invariant.1)

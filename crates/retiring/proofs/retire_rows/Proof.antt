@@ -37,7 +37,7 @@ retire_rows_spec =
     let pc = counted fk in
     let st = start fk in
     let a = st.args in
-    made a.store.now a.floor fk.before.book_key_lem.ensures.1 st.requires.0 st.requires.1 kp.keep_and_put.new.0
-    rl.retire_logs.new.0 pc.partition_count-parts.result fk.before.book_key_lem.result fk.floor_key_lem.result
+    made a.store.now a.floor fk.before.book_key_lem.ensures.1 st.requires.0 st.requires.1 kp.keep_and_put.new.store
+    rl.retire_logs.new.store pc.partition_count-parts.result fk.before.book_key_lem.result fk.floor_key_lem.result
     pc.partition_count-parts.ensures fk.before.book_key_lem.ensures.0 fk.floor_key_lem.ensures kp.keep_and_put.ensures
     rl.retire_logs.ensures))

@@ -20,13 +20,13 @@ use Rattle.runtime.proofs.add.Tie as tie
 
 -- where the call began, from a yes to 1 to 14 and 25 on
 abbrev start : tie.In-Accepted → tie.Start
-start c = c.before.before.before.before.before
+start c = c.before.before.before.before
 
 -- 1 to 14 and 25 say yes
 begun : (c : tie.In-Accepted) →
     let a = (start c).args in
     list_refusal a.pack.now (record { store = a.store.now; records = a.agents; list = a.list }) ≡ none
-begun c = let k = c.before.before in accepted_none k.check_to_25-v.result _ k.check_to_25-v.ensures c.enum_told-1.given.1
+begun c = let k = c.before in accepted_none k.check_to_25-v.result _ k.check_to_25-v.ensures c.in-Accepted.is
 
 -- 26 says yes too
 room : (c : tie.Else-not-can_list) → let a = (start c.before.before).args in can_list a.id (worklist_of a.list) ≡ true
@@ -48,7 +48,7 @@ add_spec =
     (λ c κs. (store_ok _ (lent_store _ _ (list_lent _ _ (begun c.before.before)))).0)
     (λ c. search rules)
     (λ c κs.
-    let e = c.before.before.before in
+    let e = c.before.before in
     (list_right _ _ (begun e.before.before), room e))
     (λ c. search rules)
     (λ c κs. search rules)
@@ -56,28 +56,28 @@ add_spec =
     (λ c κs. search rules)
     (λ c.
     let y = c.before in
-    let k = y.before.before in
+    let k = y.before in
     let e = k.before in
     let t = e.before.before in
     let s = (start t).args in
     adds _ _ (begun t) s.id (room e) _
     (booked_some (book_rows s.store.now) s.id k.booked_workflow-g.ensures.1 k.booked_workflow-g.result
-    k.booked_workflow-g.ensures.0 _ y.enum_told-in-Value-1.given.1)
+    k.booked_workflow-g.ensures.0 _ y.in-Value.is)
     _ c.with_id.ensures)
     (λ c.
     let y = c.before in
-    let k = y.before.before in
+    let k = y.before in
     let e = k.before in
     let t = e.before.before in
     let s = (start t).args in
     is_unlisted _ _ _ _ 20 0 0
     (add_20 _ _ (begun t) s.id (room e)
     (booked_none (book_rows s.store.now) s.id k.booked_workflow-g.ensures.1 k.booked_workflow-g.result
-    k.booked_workflow-g.ensures.0 y.enum_told-in-Absent-1.given.1))
+    k.booked_workflow-g.ensures.0 y.in-Absent.is))
     c.unlisted-in-Absent.ensures)
     (λ c.
-    let v = c.before.before in
-    let k = v.before.before in
+    let v = c.before in
+    let k = v.before in
     is_unlisted _ _ _ _ _ _ _
-    (add_stops _ _ _ (refused_some k.check_to_25-v.result _ _ _ _ k.check_to_25-v.ensures v.v-1.given.1) _)
+    (add_stops _ _ _ (refused_some k.check_to_25-v.result _ _ _ _ k.check_to_25-v.ensures v.in-Refused.is) _)
     c.unlisted-in-Refused.ensures))

@@ -33,13 +33,13 @@ use Rattle.runtime.proofs.arrival.Tie as tie
 
 -- where the call began, from a yes to 1 to 16 on
 abbrev start : tie.In-Accepted → tie.Start
-start c = c.before.before.before.before.before.before
+start c = c
 
 -- 1 to 16 say yes
 begun : (c : tie.In-Accepted) (list : Worklist) →
     let a = (start c).args in
     first_sixteen a.pack.now (record { store = a.store.now; records = a.agents; list = list }) a.slot false ≡ none
-begun c list = let k = c.before.before in accepted_none k.check_to_16-v.result _ (k.check_to_16-v.ensures list) c.enum_told-1.given.1
+begun c list = let k = c.before in accepted_none k.check_to_16-v.result _ (k.check_to_16-v.ensures list) c.in-Accepted.is
 
 lent_yes : (c : tie.In-Accepted) (list : Worklist) →
     let a = (start c).args in
@@ -53,15 +53,15 @@ tidied : (c : tie.In-Accepted) → Tidy (start c).args.agents
 tidied c =
     let s = start c in
     tidy_typed s.args.pack.now (record { store = s.args.store.now; records = s.args.agents; list = no_worklist }) _
-    s.good.1.1.0
+    s.well_formed.1.1.0
     (lent_14 _ _ (lent_yes c no_worklist))
 
 -- that yes, from behind 17
 abbrev yes_16 : tie.Else-count_of-q → tie.In-Accepted
-yes_16 c = c.before.before.before.before.before.before.before
+yes_16 c = c.before.before.before.before.before.before
 
 -- what 30 asks: the floor that was read is the store's
-floor_is : (c : tie.After-floor) → c.floor.result ≡ floor_of (contents_of (store_of (start c.before.before.before).args.store.now))
+floor_is : (c : tie.After-floor) → c.floor.result ≡ floor_of (contents_of (store_of (start c.before.before).args.store.now))
 unfolding contents_of
 floor_is c = c.floor.ensures
 
@@ -98,25 +98,25 @@ arrival_spec =
     is_refused _ _ _ _ 24 0 0
     (arrival_left _ _ s.slot s.id s.q.workflow _ (begun t list)
     ∙ zero_no_lem s.id _ s.q.workflow (length (pack_of s.pack.now)) _ c.before.if-id-eq0.true) c.refused.ensures)
-    (λ c κs. (store_ok _ (lent_store _ _ (lent_yes c.before.before no_worklist))).0)
+    (λ c κs. (store_ok _ (lent_store _ _ (lent_yes c.before no_worklist))).0)
     (λ c κs. search rules)
     (λ c. search rules)
     (λ c.
     let f = c.before.before in
-    let t = f.before.before.before in
+    let t = f.before.before in
     let s = (start t).args in
     λ list.
     is_refused _ _ _ _ 30 0 0
     (arrival_left _ _ s.slot s.id s.q.workflow _ (begun t list)
     ∙ floor_no s.id _ s.q.workflow (length (pack_of s.pack.now)) _ f.before.before.if-id-eq0.false
     (omega (arith, c.before.if-id-floor.true, floor_is f))) c.refused-then-id-floor.ensures)
-    (λ c κs. omega (arith, (accepted_laid _ (lent_pack _ _ (lent_yes c.before.before.before.before no_worklist))).whole))
+    (λ c κs. omega (arith, (accepted_laid _ (lent_pack _ _ (lent_yes c.before.before.before no_worklist))).whole))
     (λ c κs. search rules)
     (λ c. search rules)
     (λ c.
     let m = c.before.before.before in
     let f = m.before.before in
-    let t = f.before.before.before in
+    let t = f.before.before in
     let s = (start t).args in
     λ list.
     is_refused _ _ _ _ 17 0 0
@@ -128,12 +128,12 @@ arrival_spec =
     (λ c κs.
     let e = c.before in
     let f = e.before.before.before.before in (
-      lent_store _ _ (lent_yes f.before.before.before no_worklist),
+      lent_store _ _ (lent_yes f.before.before no_worklist),
       omega (arith, e.before.before.before.if-id-floor.false, f.floor.ensures),
     ))
     (λ c. search rules)
     (λ c κs. search rules)
-    (λ c κs. let k = c.before.before.before.before.before in omega (arith, below (yes_16 k.before.before)))
+    (λ c κs. let k = c.before.before.before.before in omega (arith, below (yes_16 k.before.before)))
     (λ c κs. search rules)
     (λ c. search rules)
     (λ c κs. search rules)
@@ -143,11 +143,11 @@ arrival_spec =
     (λ c.
     let w = c.before in
     let y = w.before.before in
-    let k = y.before.before.before.before in
+    let k = y.before.before.before in
     let e = k.before.before in
     let t = yes_16 e in
     let s = (start t).args in
-    let yes_both = accepted_none k.book_request-b.result _ k.book_request-b.ensures.answer y.enum_told-in-Accepted-b-1.given.1 in
+    let yes_both = accepted_none k.book_request-b.result _ k.book_request-b.ensures.answer y.in-Accepted-b.is in
     λ list.
     is_done _ _ _ _ _ _ s.slot (some (record { id = s.id; course = Calls.start (asked s.q); step = 0 })) _ _ (tidied t) (below t)
     (later e list ∙ yes_both) (arrives (state_of (record { store = s.store.now; records = s.agents; list = list })) s.slot s.id
@@ -158,18 +158,18 @@ arrival_spec =
     ∙ ap (set s.agents s.slot) w.before.started.ensures))
     (λ c. search rules)
     (λ c.
-    let b = c.before.before in
-    let k = b.before.before.before.before in
+    let b = c.before in
+    let k = b.before.before.before in
     let e = k.before.before in
     let s = (start (yes_16 e)).args in
     λ list.
     is_unbooked _ _ _ _ _ s.id (asked s.q) k.book_request-b.result k.book_request-b.ensures (later e list)
-    _ _ _ b.b-1.given.1 c.refused-in-Refused-b.ensures)
+    _ _ _ b.in-Refused-b.is c.refused-in-Refused-b.ensures)
     (λ c. search rules)
     (λ c.
-    let v = c.before.before in
-    let k = v.before.before in
+    let v = c.before in
+    let k = v.before in
     λ list.
     is_refused _ _ _ _ _ _ _
-    (arrival_stops _ _ _ _ _ _ _ (refused_some k.check_to_16-v.result _ _ _ _ (k.check_to_16-v.ensures list) v.v-1.given.1))
+    (arrival_stops _ _ _ _ _ _ _ (refused_some k.check_to_16-v.result _ _ _ _ (k.check_to_16-v.ensures list) v.in-Refused.is))
     c.refused-in-Refused.ensures))

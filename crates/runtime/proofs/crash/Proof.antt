@@ -24,13 +24,13 @@ use Rattle.runtime.proofs.crash.Tie as tie
 
 -- where the call began, from a yes to 1 to 16 on
 abbrev start : tie.In-Accepted → tie.Start
-start c = c.before.before.before.before.before
+start c = c.before.before.before.before
 
 -- 1 to 16 say yes
 begun : (c : tie.In-Accepted) (list : Worklist) →
     let a = (start c).args in
     first_sixteen a.pack.now (record { store = a.store.now; records = a.agents; list = list }) a.slot true ≡ none
-begun c list = let k = c.before.before in accepted_none k.check_to_16-v.result _ (k.check_to_16-v.ensures list) c.enum_told-1.given.1
+begun c list = let k = c.before in accepted_none k.check_to_16-v.result _ (k.check_to_16-v.ensures list) c.in-Accepted.is
 
 lent_yes : (c : tie.In-Accepted) (list : Worklist) →
     let a = (start c).args in
@@ -44,7 +44,7 @@ tidied : (c : tie.In-Accepted) → Tidy (start c).args.agents
 tidied c =
     let s = start c in
     tidy_typed s.args.pack.now (record { store = s.args.store.now; records = s.args.agents; list = no_worklist }) _
-    s.good.1.1.0
+    s.well_formed.1.1.0
     (lent_14 _ _ (lent_yes c no_worklist))
 
 pub crash_spec : {M : Type 1} → statement M
@@ -69,9 +69,9 @@ crash_spec =
     (ap (λ (o : Outcome). o.agents) c.done.ensures ∙ w.with_agent.ensures
     ∙ ap (set s.agents s.slot) w.before.no_agent_lem.ensures))
     (λ c.
-    let v = c.before.before in
-    let k = v.before.before in
+    let v = c.before in
+    let k = v.before in
     λ list.
     is_refused _ _ _ _ _ _ _
-    (crash_stops _ _ _ _ (refused_some k.check_to_16-v.result _ _ _ _ (k.check_to_16-v.ensures list) v.v-1.given.1))
+    (crash_stops _ _ _ _ (refused_some k.check_to_16-v.result _ _ _ _ (k.check_to_16-v.ensures list) v.in-Refused.is))
     c.refused.ensures))

@@ -19,13 +19,13 @@ use Rattle.runtime.proofs.done.Tie as tie
 
 -- where the call began, from a yes to 1 to 14 and 25 on
 abbrev start : tie.In-Accepted → tie.Start
-start c = c.before.before.before.before.before
+start c = c.before.before.before.before
 
 -- 1 to 14 and 25 say yes
 begun : (c : tie.In-Accepted) →
     let a = (start c).args in
     list_refusal a.pack.now (record { store = a.store.now; records = a.agents; list = a.list }) ≡ none
-begun c = let k = c.before.before in accepted_none k.check_to_25-v.result _ k.check_to_25-v.ensures c.enum_told-1.given.1
+begun c = let k = c.before in accepted_none k.check_to_25-v.result _ k.check_to_25-v.ensures c.in-Accepted.is
 
 -- the id is listed as taken
 taken : (c : tie.Else-not-is_taken) → let a = (start c.before.before).args in taken_on a.id (worklist_of a.list) ≡ true
@@ -45,7 +45,7 @@ done_spec =
     (done_not_taken _ _ (begun k.before) _ (sym k.is_taken.ensures ∙ not-true _ c.before.if-not-is_taken.true)) c.unlisted.ensures)
     (λ c κs. let l = list_lent _ _ (begun c.before.before) in (lent_pack _ _ l, lent_store _ _ l, lent_13 _ _ l))
     (λ c. search rules)
-    (λ c κs. list_right _ _ (begun c.before.before.before.before.before))
+    (λ c κs. list_right _ _ (begun c.before.before.before.before))
     (λ c. search rules)
     (λ c κs. search rules)
     (λ c. search rules)
@@ -54,33 +54,33 @@ done_spec =
     (λ c κs. search rules)
     (λ c.
     let y = c.before in
-    let k = y.before.before in
+    let k = y.before in
     let e = k.before in
     let t = e.before.before in
     dones _ _ (begun t) (start t).args.id (taken e)
     (ap (λ (o : Option Result). is_some o) (through_is _ _ (start t).args.id _ k.reply_logged-l.ensures _
-    y.enum_told-in-Through-1.given.1).0) _ c.without_id.ensures)
+    y.in-Through.is).0) _ c.without_id.ensures)
     (λ c.
     let y = c.before in
-    let k = y.before.before in
+    let k = y.before in
     let e = k.before in
     let t = e.before.before in
     is_unlisted _ _ _ _ 27 0 0
     (done_not_through _ _ (begun t) (start t).args.id (taken e)
     (ap (λ (o : Option Result). is_some o) (not_yet_is _ _ (start t).args.id _ k.reply_logged-l.ensures
-    y.enum_told-in-NotYet-1.given.1).0)) c.unlisted-in-NotYet.ensures)
+    y.in-NotYet.is).0)) c.unlisted-in-NotYet.ensures)
     (λ c.
     let y = c.before in
-    let k = y.before.before in
+    let k = y.before in
     let e = k.before in
     let t = e.before.before in
     is_unlisted _ _ _ _ 27 0 0
     (done_not_through _ _ (begun t) (start t).args.id (taken e)
-    (unbooked_not_through _ _ _ (unbooked_is _ _ (start t).args.id _ k.reply_logged-l.ensures y.enum_told-in-Unbooked-1.given.1)))
+    (unbooked_not_through _ _ _ (unbooked_is _ _ (start t).args.id _ k.reply_logged-l.ensures y.in-Unbooked.is)))
     c.unlisted-in-Unbooked.ensures)
     (λ c.
-    let v = c.before.before in
-    let k = v.before.before in
+    let v = c.before in
+    let k = v.before in
     is_unlisted _ _ _ _ _ _ _
-    (done_stops _ _ _ (refused_some k.check_to_25-v.result _ _ _ _ k.check_to_25-v.ensures v.v-1.given.1) _)
+    (done_stops _ _ _ (refused_some k.check_to_25-v.result _ _ _ _ k.check_to_25-v.ensures v.in-Refused.is) _)
     c.unlisted-in-Refused.ensures))

@@ -16,20 +16,20 @@ order_spec =
     (λ c. search rules)
     (λ c. search rules)
     (λ c.
-    let k = c.before.before.before.before in
+    let k = c.before.before.before in
     let a = k.before.before.before.args in (
       λ pack records list.
-          order_done pack (record { store = a.store.now; records = records; list = list }) k.order-v.new.0 k.order-v.result
+          order_done pack (record { store = a.store.now; records = records; list = list }) k.order-v.new.store k.order-v.result
           k.order-v.ensures
-          c.enum_told-1.given.1,
-      λ y. k.order-v.ensures.made c.enum_told-1.given.1,
+          c.in-Accepted.is,
+      λ y. k.order-v.ensures.made c.in-Accepted.is,
     ))
     (λ c. search rules)
     (λ c.
-    let k = c.before.before.before.before.before in
+    let k = c.before.before.before in
     let a = k.before.before.before.args in (
       λ pack records list.
-          order_refused pack (record { store = a.store.now; records = records; list = list }) k.order-v.new.0 k.order-v.result
-          k.order-v.ensures _ _ _ c.before.v-1.given.1,
+          order_refused pack (record { store = a.store.now; records = records; list = list }) k.order-v.new.store k.order-v.result
+          k.order-v.ensures _ _ _ c.in-Refused.is,
       λ y. no_yes y,
     )))

@@ -11,11 +11,11 @@ use Rattle.runtime.proofs.reply.Tie as tie
 
 -- where the call began, from a yes to 1 to 13 on
 abbrev start : tie.In-Accepted → tie.Start
-start c = c.before.before.before.before.before
+start c = c.before.before.before.before
 
 -- 1 to 13 say yes
 to_13 : (c : tie.In-Accepted) → let a = (start c).args in first_thirteen a.pack.now a.store.now ≡ none
-to_13 c = let k = c.before.before in accepted_none k.check_to_13-v.result _ k.check_to_13-v.ensures c.enum_told-1.given.1
+to_13 c = let k = c.before in accepted_none k.check_to_13-v.result _ k.check_to_13-v.ensures c.in-Accepted.is
 
 pub reply_spec : {M : Type 1} → statement M
 reply_spec =
@@ -29,16 +29,16 @@ reply_spec =
     (λ c. search rules)
     (λ c. search rules)
     (λ c.
-    let y = c.before in
-    let k = y.before.before in
-    read_reply _ _ _ (to_13 k.before) _ (through_is _ _ _ _ k.reply_logged-l.ensures _ y.l-1.given.1))
+    let y = c in
+    let k = y.before in
+    read_reply _ _ _ (to_13 k.before) _ (through_is _ _ _ _ k.reply_logged-l.ensures _ y.in-Through.is))
     (λ c.
-    let k = c.before.before in
-    read_not_yet _ _ _ (to_13 k.before) (not_yet_is _ _ _ _ k.reply_logged-l.ensures c.enum_told-in-NotYet-1.given.1))
+    let k = c.before in
+    read_not_yet _ _ _ (to_13 k.before) (not_yet_is _ _ _ _ k.reply_logged-l.ensures c.in-NotYet.is))
     (λ c.
-    let k = c.before.before in
-    read_20 _ _ _ (to_13 k.before) (unbooked_is _ _ _ _ k.reply_logged-l.ensures c.enum_told-in-Unbooked-1.given.1))
+    let k = c.before in
+    read_20 _ _ _ (to_13 k.before) (unbooked_is _ _ _ _ k.reply_logged-l.ensures c.in-Unbooked.is))
     (λ c.
-    let v = c.before in
-    let k = v.before.before in
-    read_refused _ _ _ _ _ _ (refused_some k.check_to_13-v.result _ _ _ _ k.check_to_13-v.ensures v.v-1.given.1)))
+    let v = c in
+    let k = v.before in
+    read_refused _ _ _ _ _ _ (refused_some k.check_to_13-v.result _ _ _ _ k.check_to_13-v.ensures v.in-Refused.is)))

@@ -14,17 +14,17 @@ use Rattle.runtime.proofs.retire.Tie as tie
 
 -- where the call began, from a yes to 1 to 14 and 25 on
 abbrev start : tie.In-Accepted → tie.Start
-start c = c.before.before.before.before.before.before
+start c = c
 
 -- 1 to 14 and 25 say yes
 begun : (c : tie.In-Accepted) →
     let a = (start c).args in
     list_refusal a.pack.now (record { store = a.store.now; records = a.agents; list = a.list }) ≡ none
-begun c = let k = c.before.before in accepted_none k.check_to_25-v.result _ k.check_to_25-v.ensures c.enum_told-1.given.1
+begun c = let k = c.before in accepted_none k.check_to_25-v.result _ k.check_to_25-v.ensures c.in-Accepted.is
 
 -- that yes, from behind the test of 28 on
 abbrev yes_25 : tie.After-all_retirable → tie.In-Accepted
-yes_25 c = c.before.before
+yes_25 c = c.before
 
 pub retire_spec : {M : Type 1} → statement M
 unfolding state_of
@@ -34,7 +34,7 @@ retire_spec =
     (λ c κs. search rules)
     (λ c. search rules)
     (λ c κs.
-    let b = begun c.before in
+    let b = begun c in
     let l = list_lent _ _ b in
     (lent_pack _ _ l, lent_store _ _ l, lent_13 _ _ l, list_right _ _ b))
     (λ c κs. search rules)
@@ -70,8 +70,8 @@ retire_spec =
     (sym b.any_below.ensures ∙ not-false _ e.if-not-any_below.false) _ w.retire_rows.ensures)
     (λ c. search rules)
     (λ c.
-    let v = c.before.before in
-    let k = v.before.before in
+    let v = c.before in
+    let k = v.before in
     is_no _ _ _ _ _ _ _
-    (retire_stops _ _ _ (refused_some k.check_to_25-v.result _ _ _ _ k.check_to_25-v.ensures v.v-1.given.1) _)
+    (retire_stops _ _ _ (refused_some k.check_to_25-v.result _ _ _ _ k.check_to_25-v.ensures v.in-Refused.is) _)
     c.no_of-in-Refused.ensures))

@@ -30,13 +30,13 @@ use Rattle.runtime.proofs.retry.Tie as tie
 
 -- where the call began, from a yes to 1 to 16 on
 abbrev start : tie.In-Accepted → tie.Start
-start c = c.before.before.before.before.before
+start c = c.before.before.before.before
 
 -- 1 to 16 say yes
 begun : (c : tie.In-Accepted) (list : Worklist) →
     let a = (start c).args in
     first_sixteen a.pack.now (record { store = a.store.now; records = a.agents; list = list }) a.slot false ≡ none
-begun c list = let k = c.before.before in accepted_none k.check_to_16-v.result _ (k.check_to_16-v.ensures list) c.enum_told-1.given.1
+begun c list = let k = c.before in accepted_none k.check_to_16-v.result _ (k.check_to_16-v.ensures list) c.in-Accepted.is
 
 lent_yes : (c : tie.In-Accepted) (list : Worklist) →
     let a = (start c).args in
@@ -50,7 +50,7 @@ tidied : (c : tie.In-Accepted) → Tidy (start c).args.agents
 tidied c =
     let s = start c in
     tidy_typed s.args.pack.now (record { store = s.args.store.now; records = s.args.agents; list = no_worklist }) _
-    s.good.1.1.0
+    s.well_formed.1.1.0
     (lent_14 _ _ (lent_yes c no_worklist))
 
 sounds : (c : tie.In-Accepted) → Sound (start c).args.store.now
@@ -65,9 +65,9 @@ retry_spec =
     (λ c. search rules)
     (λ c κs. sounds c)
     (λ c. search rules)
-    (λ c κs. sounds c.before.before.before.before)
+    (λ c κs. sounds c.before.before)
     (λ c κs. search rules)
-    (λ c κs. let y = c.before.before.before in let k = y.before.before in omega (arith, below k.before))
+    (λ c κs. let y = c.before.before in let k = y.before in omega (arith, below k.before))
     (λ c κs. search rules)
     (λ c. search rules)
     (λ c κs. search rules)
@@ -76,13 +76,13 @@ retry_spec =
     (λ c.
     let w = c.before in
     let r = w.before.before in
-    let y = r.before.before in
-    let k = y.before.before in
+    let y = r.before in
+    let k = y.before in
     let t = k.before in
     let s = (start t).args in
-    let q : Request = record { workflow = y.g-1.given.0.0; arguments = arguments_of (value_in (book_rows s.store.now)) s.id } in
+    let q : Request = record { workflow = y.in-Value.w; arguments = arguments_of (value_in (book_rows s.store.now)) s.id } in
     let known = booked_some (book_rows s.store.now) s.id k.booked_workflow-g.ensures.1 k.booked_workflow-g.result
-    k.booked_workflow-g.ensures.0 _ y.g-1.given.1 in
+    k.booked_workflow-g.ensures.0 _ y.in-Value.is in
     λ list.
     is_done _ _ _ _ _ _ s.slot (some (record { id = s.id; course = Calls.start q; step = 0 })) _ _ (tidied t) (below t)
     (retry_left _ _ s.slot s.id (begun t list) ∙ known_yes _ q known)
@@ -92,18 +92,18 @@ retry_spec =
     ∙ ap (set s.agents s.slot) (w.before.started.ensures ∙ ap (started_with s.id) r.booked_request-known.ensures)))
     (λ c.
     let y = c.before in
-    let k = y.before.before in
+    let k = y.before in
     let t = k.before in
     let s = (start t).args in
     λ list.
     is_refused _ _ _ _ 20 0 0
     (retry_left _ _ s.slot s.id (begun t list)
     ∙ known_no _ (booked_none (book_rows s.store.now) s.id k.booked_workflow-g.ensures.1 k.booked_workflow-g.result
-    k.booked_workflow-g.ensures.0 y.enum_told-in-Absent-1.given.1)) c.refused.ensures)
+    k.booked_workflow-g.ensures.0 y.in-Absent.is)) c.refused.ensures)
     (λ c.
-    let v = c.before.before in
-    let k = v.before.before in
+    let v = c.before in
+    let k = v.before in
     λ list.
     is_refused _ _ _ _ _ _ _
-    (retry_stops _ _ _ _ _ (refused_some k.check_to_16-v.result _ _ _ _ (k.check_to_16-v.ensures list) v.v-1.given.1))
+    (retry_stops _ _ _ _ _ (refused_some k.check_to_16-v.result _ _ _ _ (k.check_to_16-v.ensures list) v.in-Refused.is))
     c.refused-in-Refused.ensures))

@@ -13,13 +13,13 @@ use Rattle.runtime.proofs.take.Tie as tie
 
 -- where the call began, from a yes to 1 to 14 and 25 on
 abbrev start : tie.In-Accepted → tie.Start
-start c = c.before.before.before.before.before
+start c = c.before.before.before.before
 
 -- 1 to 14 and 25 say yes
 begun : (c : tie.In-Accepted) →
     let a = (start c).args in
     list_refusal a.pack.now (record { store = a.store.now; records = a.agents; list = a.list }) ≡ none
-begun c = let k = c.before.before in accepted_none k.check_to_25-v.result _ k.check_to_25-v.ensures c.enum_told-1.given.1
+begun c = let k = c.before in accepted_none k.check_to_25-v.result _ k.check_to_25-v.ensures c.in-Accepted.is
 
 pub take_spec : {M : Type 1} → statement M
 take_spec =
@@ -42,8 +42,8 @@ take_spec =
     c.before.if-t.false))
     c.unlisted.ensures)
     (λ c.
-    let v = c.before.before in
-    let k = v.before.before in
+    let v = c.before in
+    let k = v.before in
     is_unlisted _ _ _ _ _ _ _
-    (take_stops _ _ _ (refused_some k.check_to_25-v.result _ _ _ _ k.check_to_25-v.ensures v.v-1.given.1))
+    (take_stops _ _ _ (refused_some k.check_to_25-v.result _ _ _ _ k.check_to_25-v.ensures v.in-Refused.is))
     c.unlisted-in-Refused.ensures))

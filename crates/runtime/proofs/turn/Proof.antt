@@ -22,26 +22,26 @@ use Rattle.runtime.proofs.turn.Tie as tie
 
 -- where the call began, from a yes to 1 to 16 on
 abbrev start : tie.In-Accepted → tie.Start
-start c = c.before.before.before.before.before.before
+start c = c
 
 -- 1 to 16 say yes
 begun : (c : tie.In-Accepted) (list : Worklist) →
     let a = (start c).args in
-    first_sixteen a.pack.now (record { store = a.store.now; records = a.t3; list = list }) a.slot true ≡ none
-begun c list = let k = c.before.before in accepted_none k.check_to_16-v.result _ (k.check_to_16-v.ensures list) c.enum_told-1.given.1
+    first_sixteen a.pack.now (record { store = a.store.now; records = a.agents; list = list }) a.slot true ≡ none
+begun c list = let k = c.before in accepted_none k.check_to_16-v.result _ (k.check_to_16-v.ensures list) c.in-Accepted.is
 
 lent_yes : (c : tie.In-Accepted) (list : Worklist) →
     let a = (start c).args in
-    lent_refusal a.pack.now (record { store = a.store.now; records = a.t3; list = list }) ≡ none
+    lent_refusal a.pack.now (record { store = a.store.now; records = a.agents; list = list }) ≡ none
 lent_yes c list = let a = (start c).args in begun_lent _ _ a.slot true (begun c list)
 
 below : (c : tie.In-Accepted) → (start c).args.slot < 8
 below c = begun_below _ _ _ true (begun c no_worklist)
 
-tidied : (c : tie.In-Accepted) → Tidy (start c).args.t3
+tidied : (c : tie.In-Accepted) → Tidy (start c).args.agents
 tidied c =
     let s = start c in
-    tidy_typed s.args.pack.now (record { store = s.args.store.now; records = s.args.t3; list = no_worklist }) _ s.good.1.1.0
+    tidy_typed s.args.pack.now (record { store = s.args.store.now; records = s.args.agents; list = no_worklist }) _ s.well_formed.1.1.0
     (lent_14 _ _ (lent_yes c no_worklist))
 
 pub turn_spec : {M : Type 1} → statement M
@@ -66,9 +66,9 @@ turn_spec =
     (ap (outcome g.turn_agent-t.result.answer) c.with_agent-all.ensures))
     (λ c. search rules)
     (λ c.
-    let v = c.before.before in
-    let k = v.before.before in
+    let v = c.before in
+    let k = v.before in
     λ list.
     is_refused _ _ _ _ _ _ _ (turn_stops _ _ _ _ (refused_some k.check_to_16-v.result _ _ _ _ (k.check_to_16-v.ensures list)
-    v.v-1.given.1))
+    v.in-Refused.is))
     c.refused.ensures))

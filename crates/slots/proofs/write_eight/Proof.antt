@@ -30,14 +30,14 @@ write_eight_spec =
     (λ c κs.
     let l = c.before.before.loop-i in
     let s = c.before.before.before.before.args in
-    omega (arith, ap length l.invariant.1 ∙ length_puts 4 s.bytes.now s.first s.t3 l.i))
+    omega (arith, ap length l.invariant.1 ∙ length_puts 4 s.bytes.now s.first s.eight l.i))
     (λ c. search rules)
     (λ c. search rules)
     (λ c.
     let l = c.before.before.before.before.before.loop-i in
     let s = c.before.before.before.before.before.before.before.args in
-    (search rules, cc (l.invariant.1, c.before.before.write32.ensures, puts_more 4 s.bytes.now s.first s.t3 l.i)))
+    (search rules, cc (l.invariant.1, c.before.before.write32.ensures, puts_more 4 s.bytes.now s.first s.eight l.i)))
     (λ c. let s = c.before.before.before.args in
-    ap length c.before.loop-i.invariant.1 ∙ length_puts 4 s.bytes.now s.first s.t3 c.before.loop-i.i)
+    ap length c.before.loop-i.invariant.1 ∙ length_puts 4 s.bytes.now s.first s.eight c.before.loop-i.i)
     (λ c. let s = c.before.before.before.args in
-    c.before.loop-i.invariant.1 ∙ ap (puts 4 s.bytes.now s.first s.t3) (omega arith)))
+    c.before.loop-i.invariant.1 ∙ ap (puts 4 s.bytes.now s.first s.eight) (omega arith)))

@@ -30,19 +30,19 @@ write_slots_spec =
     (λ c κs.
     let l = c.before.before.before.loop-slot in
     let s = c.before.before.before.before.before in
-    omega (arith, s.requires, ap length l.invariant.1 ∙ length_records s.args.bytes.now s.args.t2 l.slot))
+    omega (arith, s.requires, ap length l.invariant.1 ∙ length_records s.args.bytes.now s.args.slots l.slot))
     (λ c. search rules)
     (λ c. search rules)
     (λ c.
     let l = c.before.before.before.before.before.before.loop-slot in
     let s = c.before.before.before.before.before.before.before.before.args in
-    (search rules, cc (l.invariant.1, c.before.before.write_record.ensures, records_more s.bytes.now s.t2 l.slot)))
+    (search rules, cc (l.invariant.1, c.before.before.write_record.ensures, records_more s.bytes.now s.slots l.slot)))
     (λ c. let s = c.before.before.before.args in
-    ap length c.before.loop-slot.invariant.1 ∙ length_records s.bytes.now s.t2 c.before.loop-slot.slot)
+    ap length c.before.loop-slot.invariant.1 ∙ length_records s.bytes.now s.slots c.before.loop-slot.slot)
     (λ c.
     let s = c.before.before.before in
-    let e = c.before.loop-slot.invariant.1 ∙ ap (with_records s.args.bytes.now s.args.t2) (omega arith) in (
+    let e = c.before.loop-slot.invariant.1 ∙ ap (with_records s.args.bytes.now s.args.slots) (omega arith) in (
       e,
-      ap slots_in e ∙ slots_back s.args.bytes.now s.args.t2 s.requires (eight_records s.args.t2 _ s.well-formed.1.0)
-          (all_fitting s.args.t2 _ s.well-formed.1.0),
+      ap slots_in e ∙ slots_back s.args.bytes.now s.args.slots s.requires (eight_records s.args.slots _ s.well_formed.1.0)
+          (all_fitting s.args.slots _ s.well_formed.1.0),
     )))

@@ -13,11 +13,11 @@ use Rattle.store_check.proofs.check_store.Tie as tie
 
 -- the beginning, from where 9 and 10 have said yes
 abbrev start : tie.In-Accepted → tie.Start
-start c = c.before.before.before.before
+start c = c.before.before.before
 
 -- 9 and 10 say yes
 shape : (c : tie.In-Accepted) → Dimensions (start c).args.store.now
-shape c = shape_accepted _ _ c.before.before.check_shape-v.ensures c.enum_told-1.given.1
+shape c = shape_accepted _ _ c.before.check_shape-v.ensures c.in-Accepted.is
 
 -- 11 says yes
 rows : (c : tie.Else-not-check_partitions) → question11 (start c.before.before).args.store.now ≡ true
@@ -34,19 +34,19 @@ check_store_spec =
     (λ c κs. search rules)
     (λ c. let t = c.before.before.before in
     c.refused.ensures
-    ∙ ap verdict_of (sym (no_11 _ _ _ t.before.before.check_shape-v.ensures t.enum_told-1.given.1
+    ∙ ap verdict_of (sym (no_11 _ _ _ t.before.check_shape-v.ensures t.in-Accepted.is
     (sym c.before.before.check_partitions.ensures ∙ not-true _ c.before.if-not-check_partitions.true))))
     (λ c κs. sound_of _ (shape c.before.before) (rows c))
     (λ c κs. search rules)
     (λ c. let e = c.before.before.before in
     let t = e.before.before in
     c.refused-then-not-check_book.ensures
-    ∙ ap verdict_of (sym (no_12 _ _ _ t.before.before.check_shape-v.ensures t.enum_told-1.given.1 (rows e)
+    ∙ ap verdict_of (sym (no_12 _ _ _ t.before.check_shape-v.ensures t.in-Accepted.is (rows e)
     (sym c.before.before.check_book.ensures ∙ not-true _ c.before.if-not-check_book.true))))
     (λ c. search rules)
     (λ c. let e = c.before.before in
     let t = e.before.before in
-    t.enum_told-1.given.1
-    ∙ ap verdict_of (sym (all_yes _ _ _ t.before.before.check_shape-v.ensures t.enum_told-1.given.1 (rows e)
+    t.in-Accepted.is
+    ∙ ap verdict_of (sym (all_yes _ _ _ t.before.check_shape-v.ensures t.in-Accepted.is (rows e)
     (sym c.before.check_book.ensures ∙ not-false _ c.if-not-check_book.false))))
-    (λ c. no_shape _ _ _ c.before.before.check_shape-v.ensures _ _ _ c.enum_told-in-Refused-1.given.1))
+    (λ c. no_shape _ _ _ c.before.check_shape-v.ensures _ _ _ c.in-Refused.is))

@@ -19,7 +19,7 @@ abbrev decreases-loop : tie.decreases-loop-left
 decreases-loop store keys_at used key_at₀ left₀ key_at left = left
 
 -- five are left
-more : (c : tie.In-loop-left invariant-loop decreases-loop) → let l = c.before.loop-left.false in l ≡ suc (suc (suc (suc (suc (l - 5)))))
+more : (c : tie.In-loop-left invariant-loop decreases-loop) → let l = c.before.loop-left.left in l ≡ suc (suc (suc (suc (suc (l - 5)))))
 more c = let h = c.loop-left-test.true in omega arith
 
 pub five_each_spec : {M : Type 1} → statement M

@@ -21,18 +21,18 @@ leave_block_spec =
     (λ c. search rules)
     (λ c κs.
     let b = c.before in
-    let s = b.before.before.before.before.before in
-    let l = behind_short s.args.ops.now [] (place_of s.args.begin) b.before.before.outcome-1.given.0.0 s.requires.0 in
+    let s = b.before.before.before in
+    let l = behind_short s.args.ops.now [] (place_of s.args.begin) b.before.in-Result.value s.requires.0 in
     let e = ap (λ (x : Course). x.place.position) (b.behind_block_lem.ensures []) in
     omega (arith, l, e, s.requires.1))
     (λ c. search rules)
     (λ c ws.
     let b = c.before.before in
-    let g = b.before.before in
-    let s = g.before.before.before in
+    let g = b.before in
+    let s = g.before.before in
     c.stand_at.ensures
     ∙ (λ i. moved_to s.args.a (b.behind_block_lem.ensures ws i).place (add-one s.args.a.step i))
-    ∙ ap (behind_block (code_of s.args.ops.now ws) s.args.a (place_of s.args.begin)) (sym g.outcome-1.given.1))
+    ∙ ap (behind_block (code_of s.args.ops.now ws) s.args.a (place_of s.args.begin)) (sym g.in-Result.is))
     (λ c ws.
-    let s = c.before.before.before in
-    ap (behind_block (code_of s.args.ops.now ws) s.args.a (place_of s.args.begin)) (sym c.enum_told-1.given.1)))
+    let s = c.before.before in
+    ap (behind_block (code_of s.args.ops.now ws) s.args.a (place_of s.args.begin)) (sym c.in-NoRoom.is)))

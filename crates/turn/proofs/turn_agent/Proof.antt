@@ -15,14 +15,14 @@ small : (c : tie.After-workflow-of-arg) → c.before.before.before.args.a.id < 2
 small c = omega arith
 
 -- the workflow is below m
-under : (c : tie.After-workflow_of-workflow) → c.workflow_of-workflow.result < count c.before.before.before.before.args.pack.now
+under : (c : tie.After-workflow_of-workflow) → c.workflow_of-workflow.result < count c.args.pack.now
 under c =
-    let s = c.before.before.before.before in
+    let s = c in
     subst (λ (x : ℕ). x < count s.args.pack.now) (sym c.workflow_of-workflow.ensures) (below _ _ s.args.a (small c.before) s.requires)
 
 -- from the operand bytes back to the start
 abbrev start : tie.After-operands_part-operands → tie.Start
-start o = o.before.before.before.before.before.before
+start o = o
 
 -- its operation bytes and its operand bytes
 ops_are : (c : tie.After-operands_part-operands) →
@@ -44,9 +44,9 @@ pub turn_agent_spec : {M : Type 1} → statement M
 turn_agent_spec =
     tie.close
     (tie.spec
-    (λ c κs. (store_ok _ c.before.before.before.requires.stored).0)
-    (λ c κs. (accepted_laid _ c.before.before.before.before.requires.accepted, under c))
-    (λ c κs. (accepted_laid _ c.before.before.before.before.before.requires.accepted, under c.before))
+    (λ c κs. (store_ok _ c.requires.stored).0)
+    (λ c κs. (accepted_laid _ c.requires.accepted, under c))
+    (λ c κs. (accepted_laid _ c.requires.accepted, under c.before))
     (λ c. search rules)
     (λ c κs.
     let o = c.before.before in
@@ -54,52 +54,52 @@ turn_agent_spec =
     may_ask _ _ s.args.a (small o.before.before.before) s.requires _ _ (ops_are o) (words_are o))
     (λ c. search rules)
     (λ c κs.
-    let n = c.before.before.before in
+    let n = c.before.before in
     let o = n.before.before.before in
     let s = start o in
     may_go _ _ s.args.a (small o.before.before.before) s.requires _ _ (ops_are o) (words_are o) n.next_of-upcoming.result
-    n.next_of-upcoming.ensures c.enum_told-1.given.1)
+    n.next_of-upcoming.ensures c.in-Goes.is)
     (λ c. search rules)
     (λ c κs.
-    let x = c.before.before.before in
-    let n = x.before.before.before in
+    let x = c.before.before in
+    let n = x.before.before in
     let o = n.before.before.before in
     let s = start o in
     may_run _ _ s.args.a (small o.before.before.before) s.requires _ _ (ops_are o) (words_are o) n.next_of-upcoming.result
-    n.next_of-upcoming.ensures _ x.next-1.given.1)
+    n.next_of-upcoming.ensures _ x.in-Does.is)
     (λ c κs.
     let g = c.before.before in
-    let x = g.before.before.before.before in
-    let n = x.before.before.before in
+    let x = g.before.before.before in
+    let n = x.before.before in
     let o = n.before.before.before in
     let s = start o in
     may_leave _ _ s.args.a (small o.before.before.before) s.requires _ _ (ops_are o) (words_are o) n.next_of-upcoming.result
-    n.next_of-upcoming.ensures _ x.next-1.given.1)
+    n.next_of-upcoming.ensures _ x.in-Does.is)
     (λ c. search rules)
     (λ c κs. search rules)
     (λ c. search rules)
     (λ c.
     let x = c.before in
-    let n = x.before.before.before in
+    let n = x.before.before in
     let o = n.before.before.before in
     let s = start o in
     goes_on _ _ s.args.a (small o.before.before.before) s.requires _ _ (ops_are o) (words_are o) n.next_of-upcoming.result
-    n.next_of-upcoming.ensures x.enum_told-1.given.1 _ c.stand_at.ensures)
+    n.next_of-upcoming.ensures x.in-Goes.is _ c.stand_at.ensures)
     (λ c. search rules)
     (λ c.
     let g = c.before.before.before in
-    let x = g.before.before.before.before in
-    let n = x.before.before.before in
+    let x = g.before.before.before in
+    let n = x.before.before in
     let o = n.before.before.before in
     let s = start o in
     does_block _ _ s.args.a (small o.before.before.before) s.requires _ _ (ops_are o) (words_are o) n.next_of-upcoming.result
-    n.next_of-upcoming.ensures _ x.next-1.given.1
+    n.next_of-upcoming.ensures _ x.in-Does.is
     _ _ _ g.through_block-outcome.ensures (c.leave_block.ensures _))
     (λ c. search rules)
     (λ c.
-    let x = c.before.before in
-    let n = x.before.before.before in
+    let x = c.before in
+    let n = x.before.before in
     let o = n.before.before.before in
     let s = start o in
     replies _ _ s.args.a (small o.before.before.before) s.requires _ _ (ops_are o) (words_are o) n.next_of-upcoming.result
-    n.next_of-upcoming.ensures _ x.next-in-Says-1.given.1 _ c.reply.ensures))
+    n.next_of-upcoming.ensures _ x.in-Says.is _ c.reply.ensures))

@@ -29,5 +29,5 @@ all_waiting_spec =
     (λ c. search rules)
     (λ c. search rules)
     (λ c. let l = c.before.before.loop-i in let s = c.before.before.before.args in
-    (search rules, rw (l.invariant.1, waiting_more s.t1 l.i) refl))
-    (λ c. c.before.loop-i.invariant.1 ∙ ap (waiting_to c.before.before.args.t1) (omega arith)))
+    (search rules, rw (l.invariant.1, waiting_more s.places l.i) refl))
+    (λ c. c.before.loop-i.invariant.1 ∙ ap (waiting_to c.before.before.args.places) (omega arith)))

@@ -32,5 +32,5 @@ moved_up_spec =
     (λ c. search rules)
     (λ c. search rules)
     (λ c. let l = c.before.before.loop-i in let s = c.before.before.before.args in
-    (search rules, rw (l.invariant.1, moved_more s.t1 s.from l.i) refl))
-    (λ c. let s = c.before.before.args in c.before.loop-i.invariant.1 ∙ ap (moved_up s.t1 s.from) (omega arith)))
+    (search rules, rw (l.invariant.1, moved_more s.places s.from l.i) refl))
+    (λ c. let s = c.before.before.args in c.before.loop-i.invariant.1 ∙ ap (moved_up s.places s.from) (omega arith)))

@@ -17,8 +17,8 @@ restarted_spec =
     (λ c.
     let s = c.before.before.before.before.before in
     rw c.all_waiting-next.ensures
-    (restarted_right _ (sixteen_places s.args.l _ s.well-formed.0)
+    (restarted_right _ (sixteen_places s.args.l _ s.well_formed.0)
     (sym c.before.before.before.before.is_right.ensures ∙ c.before.before.before.if-is_right.true)))
     (λ c.
     let s = c.before.before in
-    restarted_wrong _ (sixteen_places s.args.l _ s.well-formed.0) (sym c.before.is_right.ensures ∙ c.if-is_right.false)))
+    restarted_wrong _ (sixteen_places s.args.l _ s.well_formed.0) (sym c.before.is_right.ensures ∙ c.if-is_right.false)))

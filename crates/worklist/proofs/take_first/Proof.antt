@@ -16,7 +16,7 @@ take_first_spec =
     (λ c.
     let s = c.before.before.before.before in
     let e = c.before.first_waiting-place.ensures in
-    (none_waits _ _ e c.if-place-count.true, took_none _ _ e (sixteen_places s.args.l _ s.well-formed.0) c.if-place-count.true))
+    (none_waits _ _ e c.if-place-count.true, took_none _ _ e (sixteen_places s.args.l _ s.well_formed.0) c.if-place-count.true))
     (λ c. search rules)
     (λ c. omega (arith, right_count _ _ c.before.before.before.before.requires))
     (λ c. search rules)
@@ -25,4 +25,4 @@ take_first_spec =
     let s = c.before.before.before.before.before in
     let e = c.before.before.first_waiting-place.ensures in
     let h = c.before.if-place-count.false in
-    (one_waits _ _ e h, took_one _ _ e (sixteen_places s.args.l _ s.well-formed.0) h (right_count _ _ s.requires))))
+    (one_waits _ _ e h, took_one _ _ e (sixteen_places s.args.l _ s.well_formed.0) h (right_count _ _ s.requires))))

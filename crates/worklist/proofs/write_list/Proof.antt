@@ -35,7 +35,7 @@ write_list_spec =
     omega (
       arith,
       s.requires,
-      ap length l.invariant.1 ∙ length_with w.new.0 s.args.l.places l.place,
+      ap length l.invariant.1 ∙ length_with w.new.s s.args.l.places l.place,
       ap length w.ensures ∙ length_put 4 s.args.bytes.now 0 s.args.l.count,
     ))
     (λ c. search rules)
@@ -44,21 +44,21 @@ write_list_spec =
     let l = c.before.before.before.before.before.before.loop-place in
     let w = c.before.before.before.before.before.before.before.before.before.before in
     let s = w.before.before.before.args in
-    (search rules, cc (l.invariant.1, c.before.before.write_entry.ensures, with_more w.write32.new.0 s.l.places l.place)))
+    (search rules, cc (l.invariant.1, c.before.before.write_entry.ensures, with_more w.write32.new.s s.l.places l.place)))
     (λ c.
     let l = c.before.loop-place in
     let w = c.before.before.before.before.before in
     let s = w.before.before.before.args in
-    ap length l.invariant.1 ∙ length_with w.write32.new.0 s.l.places l.place
+    ap length l.invariant.1 ∙ length_with w.write32.new.s s.l.places l.place
     ∙ ap length w.write32.ensures ∙ length_put 4 s.bytes.now 0 s.l.count)
     (λ c.
     let w = c.before.before.before.before.before in
     let s = w.before.before.before in
     let e =
-    c.before.loop-place.invariant.1 ∙ ap (with_entries w.write32.new.0 s.args.l.places) (omega arith)
+    c.before.loop-place.invariant.1 ∙ ap (with_entries w.write32.new.s s.args.l.places) (omega arith)
     ∙ ap (λ xs. with_entries xs s.args.l.places 16) w.write32.ensures in (
       e,
       ap list_in e
-          ∙ list_back s.args.bytes.now s.args.l s.requires (sixteen_places s.args.l _ s.well-formed.1.0)
-          (count_small s.args.l _ s.well-formed.1.0) (entries_small s.args.l _ s.well-formed.1.0),
+          ∙ list_back s.args.bytes.now s.args.l s.requires (sixteen_places s.args.l _ s.well_formed.1.0)
+          (count_small s.args.l _ s.well_formed.1.0) (entries_small s.args.l _ s.well_formed.1.0),
     )))

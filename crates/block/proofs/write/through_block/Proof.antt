@@ -17,37 +17,37 @@ through_block_spec =
     (λ c κs. search rules)
     (λ c. search rules)
     (λ c κs.
-    let f = c.before.before in
+    let f = c in
     let lr = f.before.before in
-    let st = lr.before.before.before.before.before in
+    let st = lr in
     let a = st.args in (
       st.requires.sound,
       omega (arith, st.requires.below),
-      at_row (log_key a.id a.step) (rows_of a.store.now a.partition) _ (sym lr.log_row-found.ensures ∙ f.found-1.given.1),
+      at_row (log_key a.id a.step) (rows_of a.store.now a.partition) _ (sym lr.log_row-found.ensures ∙ f.in-At.is),
     ))
     (λ c. search rules)
     (λ c κs.
-    let f = c.before.before in
-    let lr = f.before.before in
-    let st = lr.before.before.before.before.before in
-    (st.requires, sym lr.log_row-found.ensures ∙ f.found-in-Belongs-1.given.1))
+    let f = c.before in
+    let lr = f.before in
+    let st = lr in
+    (st.requires, sym lr.log_row-found.ensures ∙ f.in-Belongs.is))
     (λ c. search rules)
     (λ c.
-    let f = c.before.before.before in
+    let f = c.before in
     let lr = f.before.before in
-    let st = lr.before.before.before.before.before in
+    let st = lr in
     let a = st.args in
     through_logged _ _ _ _ _ _ _ _
     (log_some (rows_of a.store.now a.partition) a.id a.step _ (omega (arith, st.ranges.id.fits))
-    (omega (arith, st.ranges.step.fits)) (sym lr.log_row-found.ensures ∙ f.found-1.given.1)
+    (omega (arith, st.ranges.step.fits)) (sym lr.log_row-found.ensures ∙ f.in-At.is)
     ∙ ap some (sym c.value_at-value.ensures)) refl)
     (λ c. search rules)
     (λ c.
     let w = c.before.before in
-    let f = w.before.before.before in
-    let lr = f.before.before in
-    let st = lr.before.before.before.before.before in
+    let f = w.before.before in
+    let lr = f.before in
+    let st = lr in
     let a = st.args in
     rw (log_none (rows_of a.store.now a.partition) a.id a.step _ (omega (arith, st.ranges.id.fits))
-    (omega (arith, st.ranges.step.fits)) (sym lr.log_row-found.ensures ∙ f.found-in-Belongs-1.given.1))
+    (omega (arith, st.ranges.step.fits)) (sym lr.log_row-found.ensures ∙ f.in-Belongs.is))
     w.run_and_write.ensures))

@@ -8,5 +8,5 @@ use Rattle.store.proofs.rows.ended_at.Tie as tie
 pub ended_at_spec : {M : Type 1} → statement M
 unfolding ended_at
 ended_at_spec = tie.close
-    (tie.spec (λ c. search rules) (λ c. search rules) (λ c. sym (ap ended_at c.before.found-1.given.1))
-    (λ c. sym (ap ended_at c.before.found-in-Belongs-1.given.1)))
+    (tie.spec (λ c. search rules) (λ c. search rules) (λ c. sym (ap ended_at c.in-At.is))
+    (λ c. sym (ap ended_at c.in-Belongs.is)))

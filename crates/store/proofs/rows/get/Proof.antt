@@ -24,21 +24,21 @@ get_spec =
     (tie.spec
     (λ c κs. search rules)
     (λ c. search rules)
-    (λ c κs. let d = c.before.before.before in
+    (λ c κs. let d = c.before in
     let st = d.before.before in (
       st.requires.0,
       st.requires.1,
-      at_row st.args.key (rows_of st.args.store.now st.args.partition) c.before.found-1.given.0.0
-          (found d ∙ c.before.found-1.given.1),
+      at_row st.args.key (rows_of st.args.store.now st.args.partition) c.in-At.row
+          (found d ∙ c.in-At.is),
     ))
     (λ c. search rules)
-    (λ c. let m = c.before.before in
-    let d = m.before.before in
+    (λ c. let m = c.before in
+    let d = m.before in
     let st = d.before.before in
     ap Value c.value_at.ensures
-    ∙ sym (ap got_of (at_lookup st.args.key (rows_of st.args.store.now st.args.partition) m.found-1.given.0.0
-    (found d ∙ m.found-1.given.1))))
-    (λ c. let d = c.before.before in
+    ∙ sym (ap got_of (at_lookup st.args.key (rows_of st.args.store.now st.args.partition) m.in-At.row
+    (found d ∙ m.in-At.is))))
+    (λ c. let d = c.before in
     let st = d.before.before in
-    sym (ap got_of (no_lookup st.args.key (rows_of st.args.store.now st.args.partition) c.enum_told-1.given.0.0
-    (found d ∙ c.enum_told-1.given.1)))))
+    sym (ap got_of (no_lookup st.args.key (rows_of st.args.store.now st.args.partition) c.in-Belongs.field-0
+    (found d ∙ c.in-Belongs.is)))))

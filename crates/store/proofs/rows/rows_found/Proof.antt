@@ -8,5 +8,5 @@ use Rattle.store.proofs.rows.rows_found.Tie as tie
 pub rows_found_spec : {M : Type 1} → statement M
 unfolding rows_found
 rows_found_spec = tie.close
-    (tie.spec (λ c. search rules) (λ c. search rules) (λ c. sym (ap rows_found c.enum_told-1.given.1))
-    (λ c. sym (ap rows_found c.enum_told-in-Belongs-1.given.1)))
+    (tie.spec (λ c. search rules) (λ c. search rules) (λ c. sym (ap rows_found c.in-At.is))
+    (λ c. sym (ap rows_found c.in-Belongs.is)))

@@ -30,14 +30,14 @@ search_spec =
     (λ c. let rd = c.before.before in
     let lp = rd.before.before in
     let a = lp.before.before.args in
-    let q = next_equal a.key 8 a.store.now lp.loop-left.key_at lp.loop-left.false (lp.loop-left.false - 1) (omega arith)
+    let q = next_equal a.key 8 a.store.now lp.loop-left.key_at lp.loop-left.left (lp.loop-left.left - 1) (omega arith)
     (sym rd.read64-next.ensures ∙ sym c.if-key-next-2.true) in
     searched a.key (fields 8 a.store.now a.keys_at a.count) (At lp.loop-left.passed)
     (sym (lp.loop-left.invariant.2 ∙ ap (shift lp.loop-left.passed) q ∙ shift_at lp.loop-left.passed)))
     (λ c. let rd = c.before.before in
     let lp = rd.before.before in
     let a = lp.before.before.args in
-    let q = next_greater a.key 8 a.store.now lp.loop-left.key_at lp.loop-left.false (lp.loop-left.false - 1) (omega arith)
+    let q = next_greater a.key 8 a.store.now lp.loop-left.key_at lp.loop-left.left (lp.loop-left.left - 1) (omega arith)
     (omega (arith, rd.read64-next.ensures, c.if-key-next-2.false, c.before.if-key-next.true)) in
     searched a.key (fields 8 a.store.now a.keys_at a.count) (Belongs lp.loop-left.passed)
     (sym (lp.loop-left.invariant.2 ∙ ap (shift lp.loop-left.passed) q ∙ shift_belongs lp.loop-left.passed)))
@@ -48,16 +48,16 @@ search_spec =
     (λ c. let rd = c.before in
     let lp = rd.before.before in
     let a = lp.before.before.args in
-    let q = next_smaller a.key 8 a.store.now lp.loop-left.key_at lp.loop-left.false (lp.loop-left.false - 1) (omega arith)
+    let q = next_smaller a.key 8 a.store.now lp.loop-left.key_at lp.loop-left.left (lp.loop-left.left - 1) (omega arith)
     (omega (arith, rd.read64-next.ensures, c.if-key-next.false)) in (
       omega arith,
       omega arith,
       lp.loop-left.invariant.2 ∙ ap (shift lp.loop-left.passed) q
-          ∙ shift_more lp.loop-left.passed (sought a.key (fields 8 a.store.now (lp.loop-left.key_at + 8) (lp.loop-left.false - 1))),
+          ∙ shift_more lp.loop-left.passed (sought a.key (fields 8 a.store.now (lp.loop-left.key_at + 8) (lp.loop-left.left - 1))),
     ))
     (λ c. let lp = c.before in
     let a = lp.before.before.args in
     searched a.key (fields 8 a.store.now a.keys_at a.count) (Belongs lp.loop-left.passed)
     (sym (lp.loop-left.invariant.2 ∙ ap (shift lp.loop-left.passed)
-    (none_left a.key 8 a.store.now lp.loop-left.key_at lp.loop-left.false (omega arith))
+    (none_left a.key 8 a.store.now lp.loop-left.key_at lp.loop-left.left (omega arith))
     ∙ shift_belongs lp.loop-left.passed))))

@@ -49,7 +49,7 @@ create_spec =
     (λ c κs. search rules)
     (λ c. let w = c.before.before.before in
     let cl = w.before.before.before.before in
-    w.write16.auto.0 ∙ length-set cl.clear.new.0 0 _ ∙ cl.clear.auto.0)
+    w.write16.auto.0 ∙ length-set cl.clear.new.bytes 0 _ ∙ cl.clear.auto.0)
     (λ c. let w = c.before.before.before in
     let cl = w.before.before.before.before in
     let z = cl.before.before in
@@ -57,7 +57,7 @@ create_spec =
     let n = e.before in
     let a = n.before.before.args in
     let long = z.if-store-store_size.false ∙ z.before.store_size.ensures in
-    created_fresh a.store.now a.parts a.cap c.accepted.result w.write16.new.0
+    created_fresh a.store.now a.parts a.cap c.accepted.result w.write16.new.s
     (sym n.numbers_right.ensures ∙ not-false _ e.if-not-numbers_right.false) long
     (w.write16.ensures ∙ rw cl.clear.ensures (fresh_written a.parts a.cap (length a.store.now) long (right e).3))
     c.accepted.ensures))

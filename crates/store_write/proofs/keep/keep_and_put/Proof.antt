@@ -61,7 +61,7 @@ keep_and_put_spec =
     (λ c. let kb = c.before.before.before in
     let en = ended kb.before.before.before in
     let a = (start en).args in
-    stored_as a.store.now kb.keep_and_put_by.new.0 a.partition
+    stored_as a.store.now kb.keep_and_put_by.new.store a.partition
     (λ (rs : List Row). put_row a.key a.value (drop en.ended_at-first.result rs))
     (λ (rs : List Row). put_row a.key a.value (rows_from a.low rs)) kb.keep_and_put_by.ensures
     (ap (put_row a.key a.value) (left en))))

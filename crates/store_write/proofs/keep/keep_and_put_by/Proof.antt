@@ -50,7 +50,7 @@ room c = omega (arith, within c, (start c).requires.1.0)
 held : (c : tie.After-add_row) →
     let en = ended (clear_then (copied c)) in
     let a = (start en).args in
-    Holds (cap_of a.store.now) c.add_row.new.0 (en.ended_at-ahead.result + 1)
+    Holds (cap_of a.store.now) c.add_row.new.part (en.ended_at-ahead.result + 1)
     (put_row a.key a.value (drop a.first (rows_of a.store.now a.partition)))
 held c =
     let cr = copied c in
@@ -60,14 +60,14 @@ held c =
     let a = st.args in
     let rows = rows_of a.store.now a.partition in
     let count = en.ended_at-ahead.result in
-    subst (Holds (cap_of a.store.now) c.add_row.new.0 (count + 1))
+    subst (Holds (cap_of a.store.now) c.add_row.new.part (count + 1))
     (put_there a.key rows a.first en.before.find-found.result en.before.find-found.ensures count en.ended_at-ahead.ensures a.value
     (rows_rise a.store.now st.requires.0.0 a.partition st.requires.0.1) st.requires.1.2)
-    (subst (Adds cr.copy_rows.last.0 c.add_row.new.0 count a.key a.value) (sized en).capacity-cap.ensures
+    (subst (Adds cr.copy_rows.new.part c.add_row.new.part count a.key a.value) (sized en).capacity-cap.ensures
     c.add_row.ensures (take count (drop a.first rows))
-    (subst (λ (n : ℕ). Holds (cap_of a.store.now) cr.copy_rows.last.0 n (take count (drop a.first rows))) (omega arith)
+    (subst (λ (n : ℕ). Holds (cap_of a.store.now) cr.copy_rows.new.part n (take count (drop a.first rows))) (omega arith)
     (cr.copy_rows.ensures []
-    (cleared (cap_of a.store.now) cl.clear.last.0 a.part.now cl.clear.ensures st.requires.0.3))))
+    (cleared (cap_of a.store.now) cl.clear.new.bytes a.part.now cl.clear.ensures st.requires.0.3))))
 
 pub keep_and_put_by_spec : {M : Type 1} → statement M
 unfolding KeysGood
@@ -118,8 +118,8 @@ keep_and_put_by_spec =
     let st = start en in
     let a = st.args in
     let rows = rows_of a.store.now a.partition in
-    kept a.store.now cb.copy_back.new.0 a.partition (λ (rs : List Row). put_row a.key a.value (drop a.first rs))
-    ar.add_row.new.0 (en.ended_at-ahead.result + 1) st.requires.0.0 st.requires.0.1 (held ar)
+    kept a.store.now cb.copy_back.new.store a.partition (λ (rs : List Row). put_row a.key a.value (drop a.first rs))
+    ar.add_row.new.part (en.ended_at-ahead.result + 1) st.requires.0.0 st.requires.0.1 (held ar)
     (keys_one (eqb a.partition (parts_of a.store.now)) a.key a.value (drop a.first rows) st.requires.1.1
     (keys_behind (eqb a.partition (parts_of a.store.now)) a.first rows (st.requires.0.0.keys a.partition st.requires.0.1)))
     (cb.copy_back.ensures

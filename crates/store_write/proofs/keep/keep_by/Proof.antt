@@ -67,9 +67,9 @@ keep_by_spec =
     let a = st.args in
     let rows = rows_of a.store.now a.partition in
     let count = u.used_count.result - a.first in
-    kept a.store.now cb.copy_back.new.0 a.partition (drop a.first) cr.copy_rows.new.0 count st.requires.0 st.requires.1
-    (copied_all (cap_of a.store.now) cr.copy_rows.new.0 rows a.first count (omega (arith, u.used_count.ensures, st.requires.2))
-    (cr.copy_rows.ensures [] (cleared (cap_of a.store.now) cl.clear.last.0 a.part.now cl.clear.ensures st.requires.3)))
+    kept a.store.now cb.copy_back.new.store a.partition (drop a.first) cr.copy_rows.new.part count st.requires.0 st.requires.1
+    (copied_all (cap_of a.store.now) cr.copy_rows.new.part rows a.first count (omega (arith, u.used_count.ensures, st.requires.2))
+    (cr.copy_rows.ensures [] (cleared (cap_of a.store.now) cl.clear.new.bytes a.part.now cl.clear.ensures st.requires.3)))
     (keys_behind (eqb a.partition (parts_of a.store.now)) a.first rows (st.requires.0.keys a.partition st.requires.1))
     (cb.copy_back.ensures
     ∙ ap (λ (bs : List ℕ). with_part (parts_of a.store.now) (cap_of a.store.now) a.partition bs a.store.now)

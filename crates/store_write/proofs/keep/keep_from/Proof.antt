@@ -68,7 +68,7 @@ keep_from_spec =
     let en = ended cp in
     let st = start en in
     let a = st.args in (
-      stored_as a.store.now kb.keep_by.new.0 a.partition (drop en.ended_at-first.result) (rows_from a.low)
+      stored_as a.store.now kb.keep_by.new.store a.partition (drop en.ended_at-first.result) (rows_from a.low)
           kb.keep_by.ensures (left en),
       (λ same. absurd
           (fewer a.low (rows_of a.store.now a.partition) (rows_rise a.store.now st.requires.0 a.partition st.requires.1)
