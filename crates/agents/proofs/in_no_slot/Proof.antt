@@ -25,13 +25,13 @@ in_no_slot_spec =
     (λ c. search rules)
     (λ c. search rules)
     (λ c κs. search rules)
-    (λ c. let l = c.before.before.before.before in
-    sym (absent_no _ _ l.loop-slot.slot _ (omega arith) c.before.is_of.ensures c.if-is_of.true) ∙ l.loop-slot.invariant.1)
+    (λ c. let l = c in
+    sym (absent_no _ _ l.loop-slot.slot _ (omega arith) c.is_of.ensures c.if-is_of.true) ∙ l.loop-slot.invariant.1)
     (λ c. search rules)
     (λ c. search rules)
     (λ c. (
       search rules,
-      let l = c.before.before.before.before in
-          sym (absent_on _ _ l.loop-slot.slot _ (omega arith) c.before.is_of.ensures c.if-is_of.false) ∙ l.loop-slot.invariant.1,
+      let l = c in
+          sym (absent_on _ _ l.loop-slot.slot _ (omega arith) c.is_of.ensures c.if-is_of.false) ∙ l.loop-slot.invariant.1,
     ))
-    (λ c. sym (absent_done _ _ _ (omega arith)) ∙ c.before.loop-slot.invariant.1))
+    (λ c. sym (absent_done _ _ _ (omega arith)) ∙ c.loop-slot.invariant.1))

@@ -47,7 +47,7 @@ is_blank_spec =
     sym (zero_no_lem _ l.loop-i.i (omega arith) c.if-registers-i-ne0.true) ∙ l.loop-i.invariant.1 ∙ answered l)
     (λ c. search rules)
     (λ c. search rules)
-    (λ c. (search rules, sym (zero_on _ c.before.before.loop-i.i (omega arith) c.if-registers-i-ne0.false) ∙ c.before.before.loop-i.invariant.1))
+    (λ c. (search rules, sym (zero_on _ c.loop-i.i (omega arith) c.if-registers-i-ne0.false) ∙ c.loop-i.invariant.1))
     (λ c.
     let l = c.before in
     sym (zero_done _ l.loop-i.i (omega arith)) ∙ l.loop-i.invariant.1 ∙ answered l))

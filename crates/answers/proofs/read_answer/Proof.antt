@@ -14,16 +14,16 @@ read_answer_spec =
     (λ c. λ a h f. reads_moved _ _ a h c.if-number-eq1.true)
     (λ c κs. search rules)
     (λ c κs. search rules)
-    (λ c. λ a h f. reads_reply _ _ a h _ _ c.if-number-eq2.true c.before.before.read32-first.ensures c.before.read32-second.ensures)
-    (λ c. λ a h f. reads_given _ _ a h _ c.if-number-eq4.true c.before.before.before.read32-first.ensures)
+    (λ c. λ a h f. reads_reply _ _ a h _ _ c.if-number-eq2.true c.read32-first.ensures c.read32-second.ensures)
+    (λ c. λ a h f. reads_given _ _ a h _ c.if-number-eq4.true c.read32-first.ensures)
     (λ c. search rules)
     (λ c. search rules)
     (λ c κs. search rules)
     (λ c. search rules)
     (λ c. λ a h f.
-    let n4 = c.before in
-    let e = n4.before in
-    let two = e.before.before.before in
-    reads_refused _ _ a h two.before.if-number-eq0.false two.if-number-eq1.false e.if-number-eq2.false n4.if-number-eq4.false f _ _ _
-    e.before.before.read32-first.ensures
-    e.before.read32-second.ensures c.read32.ensures))
+    let n4 = c in
+    let e = n4 in
+    let two = e in
+    reads_refused _ _ a h two.if-number-eq0.false two.if-number-eq1.false e.if-number-eq2.false n4.if-number-eq4.false f _ _ _
+    e.read32-first.ensures
+    e.read32-second.ensures c.read32.ensures))

@@ -27,28 +27,28 @@ write_answer_spec =
     (λ c κs. search rules)
     (λ c κs. search rules)
     (λ c. search rules)
-    (λ c. rw c.before.before.before.before.in-Done.is ((refl, c.before.before.write_words.ensures), (λ f. refl)))
+    (λ c. rw c.in-Done.is ((refl, c.write_words.ensures), (λ f. refl)))
     (λ c. search rules)
-    (λ c. rw c.before.before.before.before.in-Moved.is ((refl, c.before.before.write_words-in-Moved.ensures), (λ f. refl)))
+    (λ c. rw c.in-Moved.is ((refl, c.write_words-in-Moved.ensures), (λ f. refl)))
     (λ c. search rules)
     (λ c.
-    let w = c.before.before.write_words-in-Reply.ensures in
-    rw c.before.before.before.before.in-Reply.is (
+    let w = c.write_words-in-Reply.ensures in
+    rw c.in-Reply.is (
       (refl, w),
       (λ f. heard_reply _ _ _ _ (search rules) (omega arith) (omega arith) w),
     ))
     (λ c. search rules)
     (λ c.
-    let w = c.before.before.write_words-in-Given.ensures in
-    rw c.before.before.before.before.in-Given.is (
+    let w = c.write_words-in-Given.ensures in
+    rw c.in-Given.is (
       (refl, w),
       (λ f. heard_given _ _ _ (search rules) (omega arith) w),
     ))
     (λ c. search rules)
     (λ c.
-    let w = rw (c.before.before.before.before.low.ensures, c.before.before.before.low-in-Refused.ensures)
-    at c.before.before.write_words-in-Refused.ensures ∙ low_words _ _ _ _ in
-    rw c.before.before.before.before.before.before.in-Refused.is (
+    let w = rw (c.low.ensures, c.low-in-Refused.ensures)
+    at c.write_words-in-Refused.ensures ∙ low_words _ _ _ _ in
+    rw c.in-Refused.is (
       (refl, w),
       (λ f. heard_refused _ _ _ _ _ (search rules) (omega arith) (omega (arith, f.1)) (omega (arith, f.2)) w),
     )))

@@ -16,8 +16,8 @@ write_figures_spec =
     (λ c κs. search rules)
     (λ c. search rules)
     (λ c.
-    let e = c.before.before in
-    let w = e.before.before.before.before in
-    let a = w.before.before.before.args in
+    let e = c in
+    let w = e in
+    let a = w.args in
     e.write_eight.ensures ∙ ap (λ (l : List ℕ). puts 4 l 16 a.rows 8) w.write32.ensures
     ∙ nine_words a.answer.now a.turns a.rows))

@@ -22,15 +22,15 @@ write_list_back_spec =
     (λ c κs. search rules)
     (λ c. search rules)
     (λ c. search rules)
-    (λ c. rw c.before.before.before.before.in-Done.is
-    (c.before.before.write_list.ensures.0, λ d. c.before.before.write_list.ensures.1))
+    (λ c. rw c.in-Done.is
+    (c.write_list.ensures.0, λ d. c.write_list.ensures.1))
     (λ c. search rules)
-    (λ c. rw c.before.before.before.before.in-Moved.is
-    (c.before.before.write_list-in-Moved.ensures.0, λ d. c.before.before.write_list-in-Moved.ensures.1))
+    (λ c. rw c.in-Moved.is
+    (c.write_list-in-Moved.ensures.0, λ d. c.write_list-in-Moved.ensures.1))
     (λ c. search rules)
-    (λ c. rw c.before.before.before.before.in-Reply.is
-    (c.before.before.write_list-in-Reply.ensures.0, λ d. c.before.before.write_list-in-Reply.ensures.1))
+    (λ c. rw c.in-Reply.is
+    (c.write_list-in-Reply.ensures.0, λ d. c.write_list-in-Reply.ensures.1))
     (λ c. search rules)
-    (λ c. rw c.before.before.before.before.in-Given.is
-    (c.before.before.write_list-in-Given.ensures.0, λ d. c.before.before.write_list-in-Given.ensures.1))
+    (λ c. rw c.in-Given.is
+    (c.write_list-in-Given.ensures.0, λ d. c.write_list-in-Given.ensures.1))
     (λ c. rw c.in-Refused.is (refl, λ e. yes_no (sym e))))

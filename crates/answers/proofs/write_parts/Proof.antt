@@ -18,9 +18,9 @@ write_parts_spec =
     (λ c κs. search rules)
     (λ c. search rules)
     (λ c.
-    let third = c.before.before.before.before.before in
-    let between = third.before in
-    let second = between.before.before.before.before.before in
-    let first = second.before.before.before.before.before in
-    let s = first.before.before.before.before.before.args in
+    let third = c in
+    let between = third in
+    let second = between in
+    let first = second in
+    let s = first.args in
     cc (low_parts s.answer.now s.first s.second s.third s.fourth)))

@@ -12,14 +12,14 @@ use Rattle.book.proofs.argument.Tie as tie
 
 -- what stands at the row's key
 got : (c : tie.After-get-found) →
-    let s = c.before.before.before.before.args in
+    let s = c.args in
     c.get-found.result ≡ got_of (lookup (book_key s.id s.j) (book_rows s.store.now))
 got c =
-    let k = c.before in
-    let p = k.before in
-    let s = p.before.before.args in
+    let k = c in
+    let p = k in
+    let s = p.args in
     c.get-found.ensures
-    ∙ ap₂ (λ (j q : ℕ). got_of (lookup j (rows_of s.store.now q))) k.book_key_lem.ensures.0 p.partition_count-book.ensures
+    ∙ ap₂ (λ (j q : ℕ). got_of (lookup j (rows_of s.store.now q))) k.book_key.ensures.0 p.partition_count-book.ensures
 
 pub argument_spec : {M : Type 1} → statement M
 argument_spec =

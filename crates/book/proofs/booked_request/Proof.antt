@@ -14,8 +14,8 @@ booked_request_spec =
     (λ c κs. search rules)
     (λ c i.
     record {
-      workflow = c.before.before.before.before.before.args.workflow;
+      workflow = c.args.workflow;
       arguments =
-          c.before.before.before.argument-a0.ensures i ∷ c.before.before.argument-a1.ensures i ∷ c.before.argument-a2.ensures i
+          c.argument-a0.ensures i ∷ c.argument-a1.ensures i ∷ c.argument-a2.ensures i
           ∷ c.argument-a3.ensures i ∷ [];
     }))

@@ -17,11 +17,11 @@ booked_row_spec =
     (λ c κs. search rules)
     (λ c κs. search rules)
     (λ c.
-    let k = c.before in
-    let p = k.before in
-    let st = p.before.before in
+    let k = c in
+    let p = k in
+    let st = p in
     let s = st.args in (
       c.find.ensures.all (rows_rise s.store.now st.requires p.partition_count-book.result (omega (arith, p.partition_count-book.ensures)))
-          ∙ ap₂ (λ (j q : ℕ). found_in j (keys_in (rows_of s.store.now q))) k.book_key_lem.ensures.0 p.partition_count-book.ensures,
-      k.book_key_lem.ensures.1,
+          ∙ ap₂ (λ (j q : ℕ). found_in j (keys_in (rows_of s.store.now q))) k.book_key.ensures.0 p.partition_count-book.ensures,
+      k.book_key.ensures.1,
     )))

@@ -15,10 +15,10 @@ booked_workflow_spec =
     (λ c κs. search rules)
     (λ c κs. search rules)
     (λ c.
-    let k = c.before in
-    let p = k.before in
-    let s = p.before.before.args in (
-      c.get.ensures ∙ ap₂ (λ (j q : ℕ). got_of (lookup j (rows_of s.store.now q))) k.book_key_lem.ensures.0
+    let k = c in
+    let p = k in
+    let s = p.args in (
+      c.get.ensures ∙ ap₂ (λ (j q : ℕ). got_of (lookup j (rows_of s.store.now q))) k.book_key.ensures.0
           p.partition_count-book.ensures,
-      k.book_key_lem.ensures.1,
+      k.book_key.ensures.1,
     )))

@@ -31,18 +31,18 @@ abbrev miss : tie.After-partition_count-book-in-Belongs → tie.In-Belongs-2
 miss pc = pc.before
 
 abbrev counted : tie.After-used_count → tie.After-partition_count-book-in-Belongs
-counted u = u.before.before.before
+counted u = u.before.before
 
 abbrev start : tie.After-booked_row-found → tie.Start
 start br = br
 
 -- what the book has of a known id
 known : (c : tie.After-value_at-workflow) →
-    let a = (start (hit c.before.before).before).args in
+    let a = (start (hit c.before).before).args in
     let rows = book_rows a.store.now in
     book_of (value_in rows) a.id ≡ some (record { workflow = c.value_at-workflow.result; arguments = arguments_of (value_in rows) a.id })
 known c =
-    let pc = c.before.before in
+    let pc = c.before in
     let f = hit pc in
     let br = f.before in
     let st = start br in
@@ -55,9 +55,9 @@ known c =
 
 -- and as it is read
 as_read : (c : tie.After-booked_request-known) →
-    let a = (start (hit c.before.before.before).before).args in
+    let a = (start (hit c.before.before).before).args in
     book_of (value_in (book_rows a.store.now)) a.id ≡ some (asked c.booked_request-known.result)
-as_read c = known c.before.before ∙ ap some (sym c.booked_request-known.ensures)
+as_read c = known c.before ∙ ap some (sym c.booked_request-known.ensures)
 
 -- five rows more, for a new id, by the book's used count
 more : (c : tie.After-used_count) →
@@ -81,11 +81,11 @@ unfolding contents_of
 book_request_spec =
     tie.close
     (tie.spec
-    (λ c κs. sounds c)
+    (λ c κs. sounds c.before)
     (λ c. search rules)
-    (λ c κs. let z = sounds (start c.before.before) in omega (arith, z.formed.shape.size))
+    (λ c κs. let z = sounds (start c.before) in omega (arith, z.formed.shape.size))
     (λ c κs.
-    let pc = c.before in
+    let pc = c in
     let f = hit pc in
     let br = f.before in
     let st = start br in
@@ -95,22 +95,22 @@ book_request_spec =
       rw pc.partition_count-book.ensures
           (at_row (book_key a.id 0) (book_rows a.store.now) _ (sym br.booked_row-found.ensures.0 ∙ f.in-At.is)),
     ))
-    (λ c κs. sounds (start (hit c.before.before).before))
+    (λ c κs. sounds (start (hit c.before).before))
     (λ c κs. search rules)
     (λ c κs. search rules)
     (λ c. search rules)
     (λ c.
-    let m = c.before.before in
-    let k = m.before in
-    booked_known _ _ _ _ (asked k.booked_request-known.result) (as_read k) (sym m.same.ensures ∙ c.before.if-same.true)
+    let m = c in
+    let k = m.before.before.before in
+    booked_known _ _ _ _ (asked k.booked_request-known.result) (as_read k) (sym m.same.ensures ∙ c.if-same.true)
     c.accepted.ensures)
     (λ c κs. search rules)
     (λ c. search rules)
-    (λ c κs. let z = sounds (start c.before.before) in omega (arith, z.formed.shape.size))
-    (λ c κs. let z = sounds (start (miss c.before).before) in omega (arith, z.formed.shape.size))
+    (λ c κs. let z = sounds (start c.before) in omega (arith, z.formed.shape.size))
+    (λ c κs. let z = sounds (start (miss c).before) in omega (arith, z.formed.shape.size))
     (λ c κs. (
-      (sounds (start (miss c.before.before).before)).formed.shape,
-      omega (arith, c.before.before.partition_count-book-in-Belongs.ensures),
+      (sounds (start (miss c.before).before)).formed.shape,
+      omega (arith, c.partition_count-book-in-Belongs.ensures),
     ))
     (λ c. let st = start (miss (counted c)).before.before in
     let z = sounds st in
@@ -129,7 +129,7 @@ book_request_spec =
     let a = (start br).args in
     booked_19 _ a.id _ _
     (found_none (book_rows a.store.now) a.id _ br.booked_row-found.ensures.1 (sym br.booked_row-found.ensures.0 ∙ f.in-Belongs.is))
-    (omega (arith, (more u).1, c.before.if-capacity-used_count.true, u.before.before.capacity.ensures)) c.refused-then-capacity-used_count.ensures)
+    (omega (arith, (more u).1, c.if-capacity-used_count.true, u.capacity.ensures)) c.refused-then-capacity-used_count.ensures)
     (λ c κs.
     let u = c.before.before in
     let f = miss (counted u) in
@@ -137,25 +137,25 @@ book_request_spec =
       sounds (start br),
       sym br.booked_row-found.ensures.0
           ∙ f.in-Belongs.is,
-      omega (arith, more u, c.before.if-capacity-used_count.false, u.before.before.capacity.ensures),
+      omega (arith, more u, c.if-capacity-used_count.false, u.capacity.ensures),
     ))
     (λ c κs. search rules)
     (λ c. search rules)
     (λ c.
-    let m = c.before.before in
-    let k = m.before in
-    booked_18 _ _ _ _ (asked k.booked_request-known.result) (as_read k) (sym m.same.ensures ∙ c.before.if-same.false) c.refused.ensures)
+    let m = c in
+    let k = m.before.before.before in
+    booked_18 _ _ _ _ (asked k.booked_request-known.result) (as_read k) (sym m.same.ensures ∙ c.if-same.false) c.refused.ensures)
     (λ c. search rules)
     (λ c.
-    let w = c.before.before.before in
-    let u = w.before.before.before in
+    let w = c in
+    let u = w.before.before.before.before.before.before in
     let f = miss (counted u) in
     let br = f.before in
     let st = start br in
     let a = st.args in
     let new = sym br.booked_row-found.ensures.0 ∙ f.in-Belongs.is in
     booked_new _ a.id _ _ _ (found_none (book_rows a.store.now) a.id _ br.booked_row-found.ensures.1 new)
-    (omega (arith, (more u).1, w.before.before.if-capacity-used_count.false, u.before.before.capacity.ensures))
+    (omega (arith, (more u).1, w.if-capacity-used_count.false, u.capacity.ensures))
     (wrote_request _ _ a.id a.q.workflow a.q.a0 a.q.a1 a.q.a2 a.q.a3 st.requires.0
     br.booked_row-found.ensures.1 st.requires.1
     (no_lookup (book_key a.id 0) _ _ new) w.write_request.ensures)

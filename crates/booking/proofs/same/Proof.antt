@@ -10,19 +10,19 @@ same_spec =
     tie.close
     (tie.spec
     (λ c. rw (ne_eqb _ _ c.if-q-known.true) refl)
-    (λ c. let w = c.before.before.before in rw (eq-eqb _ _ w.if-q-known.false, ne_eqb _ _ c.if-q-known-2.true) refl)
+    (λ c. let w = c in rw (eq-eqb _ _ w.if-q-known.false, ne_eqb _ _ c.if-q-known-2.true) refl)
     (λ c.
-    let a = c.before.before.before in
-    let w = a.before.before.before in
+    let a = c in
+    let w = a in
     rw (eq-eqb _ _ w.if-q-known.false, eq-eqb _ _ a.if-q-known-2.false, ne_eqb _ _ c.if-q-known-3.true) refl)
     (λ c.
-    let b = c.before.before.before in
-    let a = b.before.before.before in
-    let w = a.before.before.before in
+    let b = c in
+    let a = b in
+    let w = a in
     rw (eq-eqb _ _ w.if-q-known.false, eq-eqb _ _ a.if-q-known-2.false, eq-eqb _ _ b.if-q-known-3.false, ne_eqb _ _ c.if-q-known-4.true) refl)
     (λ c.
-    let d = c.before.before in
-    let b = d.before.before.before in
-    let a = b.before.before.before in
-    let w = a.before.before.before in
+    let d = c in
+    let b = d in
+    let a = b in
+    let w = a in
     rw (eq-eqb _ _ w.if-q-known.false, eq-eqb _ _ a.if-q-known-2.false, eq-eqb _ _ b.if-q-known-3.false, eq-eqb _ _ d.if-q-known-4.false) (and_last _)))

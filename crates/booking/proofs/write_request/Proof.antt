@@ -16,23 +16,23 @@ write_request_spec =
     (λ c. search rules)
     (λ c. search rules)
     (λ c κs.
-    let k = c.before.before.before in
-    let p = k.before.partition_count-book in
-    let s = k.before.before.before.before in
+    let k = c in
+    let p = k.partition_count-book in
+    let s = k in
     let a = s.args in
-    rw k.book_keys_lem.ensures.0 (
+    rw k.book_keys.ensures.0 (
       (s.requires.0, omega (arith, p.ensures), omega arith, refl, keys_rise a.id),
       (
-        keys_right a.store.now p.result a.id (asked a.q) p.ensures k.book_keys_lem.ensures.1,
+        keys_right a.store.now p.result a.id (asked a.q) p.ensures k.book_keys.ensures.1,
         first_belongs a.store.now p.result a.id (asked a.q) p.ensures a.place s.requires.1,
       ),
     ))
     (λ c. search rules)
     (λ c.
-    let w = c.before.before in
-    let k = w.before.before.before.before in
-    let p = k.before.partition_count-book in
-    let s = k.before.before.before.before in
+    let w = c in
+    let k = w in
+    let p = k.partition_count-book in
+    let s = k in
     let a = s.args in
-    five_stored a.store.now p.result a.id (asked a.q) p.ensures k.book_keys_lem.result _ w.put_all_lem.result
-    k.book_keys_lem.ensures.0 s.requires.2 w.put_all_lem.ensures))
+    five_stored a.store.now p.result a.id (asked a.q) p.ensures k.book_keys.result _ w.put_all.result
+    k.book_keys.ensures.0 s.requires.2 w.put_all.ensures))

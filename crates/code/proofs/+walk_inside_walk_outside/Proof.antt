@@ -17,7 +17,7 @@ use Rattle.code.proofs.Steps.{stays_outside, stays_inside, puts_next, puts_few, 
 use Rattle.code.proofs.walk_inside.Reads as walk_Inside
 use Rattle.code.proofs.walk_inside.Kinds as walk-inside-kinds
 use Rattle.code.proofs.+walk_inside_walk_outside.Lts-walk_inside as walk-inside-lts
-use Rattle.code.proofs.walk_outside.Reads as walk-outside
+use Rattle.code.proofs.walk_outside.Reads as walk_outside
 use Rattle.code.proofs.walk_outside.Kinds as walk-outside-kinds
 use Rattle.code.proofs.+walk_inside_walk_outside.Lts-walk_outside as walk-outside-lts
 use Rattle.operation.proofs.operation_of.Reads as operation-of-reads
@@ -45,7 +45,7 @@ outside_at t = and 2 walk-outside-kinds.ps (is 2 walk-outside-kinds.ps μ-outsid
 abbrev outside_below : ℕ → In 2 walk-outside-kinds.ps
 outside_below t = and 2 walk-outside-kinds.ps (falls 2 walk-outside-kinds.ps ◌<◌ μ-outside t) walk_outside.Pre
 
-abbrev invariant_inside : walk-inside-lts.invariant-loop
+abbrev invariant_inside : walk-inside-lts.invariant-loop-i
 invariant_inside ops operands workflow first puts₀ i₀ puts i =
     (inside_at ops i ≡ true)
     × (puts_before ops i ≡ puts)
@@ -54,17 +54,17 @@ invariant_inside ops operands workflow first puts₀ i₀ puts i =
     × (first_no (instruction_no workflow ops operands) (length ops - first) first ≡ first_no (instruction_no workflow ops operands)
     (length ops - i) i)
 
-abbrev decreases-loop-inside : walk-inside-lts.decreases-loop
+abbrev decreases-loop-inside : walk-inside-lts.decreases-loop-i
 decreases-loop-inside ops operands workflow first puts₀ i₀ puts i = length ops - i
 
-abbrev invariant_outside : walk-outside-lts.invariant-loop
+abbrev invariant_outside : walk-outside-lts.invariant-loop-i
 invariant_outside ops operands workflow first i₀ i =
     (inside_at ops i ≡ false)
     × (first ≤ i)
     × (first_no (instruction_no workflow ops operands) (length ops - first) first ≡ first_no (instruction_no workflow ops operands)
     (length ops - i) i)
 
-abbrev decreases-loop-outside : walk-outside-lts.decreases-loop
+abbrev decreases-loop-outside : walk-outside-lts.decreases-loop-i
 decreases-loop-outside ops operands workflow first i₀ i = length ops - i
 
 pub +walk_inside_walk_outside_spec : {M : Type 1} → statement M

@@ -15,7 +15,7 @@ unfolding inside_at ask question8
 check_workflow_spec =
     tie.close
     (tie.spec
-    (λ c κs. (c.before.before.requires.1, refl))
+    (λ c κs. (c.requires.1, refl))
     (λ c. search rules)
     (λ c. search rules)
     (λ c. search rules)
@@ -23,16 +23,16 @@ check_workflow_spec =
     (λ c κs. search rules)
     (λ c. search rules)
     (λ c.
-    let o = c.before in
-    let e = o.before.before in
-    let k = e.before in
+    let o = c in
+    let e = o in
+    let k = e in
     ap verdict_of (sym (code_walked _ _ _ _ k.walk_outside-v.ensures true e.in-Accepted.is
     (eq-eqb _ 11 (sym o.operation_of.ensures ∙ c.if-operation_of-eq-RETURN.true)))))
     (λ c.
-    let o = c.before.before in
-    let e = o.before.before in
-    let k = e.before in
+    let o = c in
+    let e = o in
+    let k = e in
     c.refused.ensures
     ∙ ap verdict_of (sym (code_walked _ _ _ _ k.walk_outside-v.ensures false e.in-Accepted.is
-    (ne_eqb _ 11 (λ q. c.before.if-operation_of-eq-RETURN.false (o.operation_of.ensures ∙ q))))))
-    (λ c. code_refused _ _ _ _ c.before.walk_outside-v.ensures _ _ _ c.in-Refused.is))
+    (ne_eqb _ 11 (λ q. c.if-operation_of-eq-RETURN.false (o.operation_of.ensures ∙ q))))))
+    (λ c. code_refused _ _ _ _ c.walk_outside-v.ensures _ _ _ c.in-Refused.is))

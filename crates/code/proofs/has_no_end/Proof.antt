@@ -25,13 +25,13 @@ has_no_end_spec =
     (λ c. search rules)
     (λ c κs. search rules)
     (λ c.
-    let t = c.before.before.before in
-    sym (t.before.loop-i.invariant
-    ∙ each_fails _ _ _ t.loop-i-test.true (end_here _ _ (sym c.before.operation_of.ensures ∙ c.if-operation_of-eq-END.true))))
+    let t = c in
+    sym (t.loop-i.invariant
+    ∙ each_fails _ _ _ t.loop-i-test.true (end_here _ _ (sym c.operation_of.ensures ∙ c.if-operation_of-eq-END.true))))
     (λ c. search rules)
     (λ c. search rules)
     (λ c.
-    let t = c.before.before.before in
-    t.before.loop-i.invariant ∙ each_more _ _ _ t.loop-i-test.true
-    (no_end_here _ _ (λ e. c.if-operation_of-eq-END.false (c.before.operation_of.ensures ∙ e))))
-    (λ c. sym (c.before.loop-i.invariant ∙ each_none _ _ _ c.loop-i-test.false)))
+    let t = c in
+    t.loop-i.invariant ∙ each_more _ _ _ t.loop-i-test.true
+    (no_end_here _ _ (λ e. c.if-operation_of-eq-END.false (c.operation_of.ensures ∙ e))))
+    (λ c. sym (c.loop-i.invariant ∙ each_none _ _ _ c.loop-i-test.false)))

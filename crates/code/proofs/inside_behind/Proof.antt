@@ -11,6 +11,6 @@ inside_behind_spec =
     tie.close
     (tie.spec
     (λ c κs. search rules)
-    (λ c. rw (← c.before.operation_of-op.ensures) (search tests))
-    (λ c. rw (← c.before.before.operation_of-op.ensures) (search tests))
-    (λ c. rw (← c.before.before.operation_of-op.ensures) (search tests)))
+    (λ c. rw (← c.operation_of-op.ensures) (search tests))
+    (λ c. rw (← c.operation_of-op.ensures) (search tests))
+    (λ c. rw (← c.operation_of-op.ensures) (search tests)))

@@ -11,5 +11,5 @@ is_counted_spec =
     tie.close
     (tie.spec
     (λ c κs. search rules)
-    (λ c. rw (← c.before.operation_of.ensures, eq-eqb _ 9 c.if-operation_of-eq-PUT.true))
-    (λ c. rw (← c.before.operation_of.ensures, ne_eqb _ 9 c.if-operation_of-eq-PUT.false)))
+    (λ c. rw (← c.operation_of.ensures, eq-eqb _ 9 c.if-operation_of-eq-PUT.true))
+    (λ c. rw (← c.operation_of.ensures, ne_eqb _ 9 c.if-operation_of-eq-PUT.false)))

@@ -17,12 +17,12 @@ decreases-loop ops start index inside₀ i₀ inside i = index - i
 loop_again : tie.Need-loop-i-preserved invariant-loop decreases-loop
 unfolding inside_at
 loop_again c =
-    let l = c.before.before.before.loop-i in
+    let l = c.loop-i in
     (search rules, c.inside_behind-inside.ensures ∙ rw (add-one, ← l.invariant.1))
 
 returns : tie.Need-returns invariant-loop decreases-loop
 returns c =
-    let l = c.before.loop-i in
+    let l = c.loop-i in
     l.invariant.1 ∙ ap (inside_at _) (omega arith)
 
 pub is_inside_spec : {M : Type 1} → statement M
@@ -31,7 +31,7 @@ is_inside_spec =
     (tie.spec
     invariant-loop
     decreases-loop
-    (λ c. (search rules, sym c.before.requires.1))
+    (λ c. (search rules, sym c.requires.1))
     (λ c. search rules)
     (λ c κs. search rules)
     (λ c. search rules)

@@ -12,5 +12,5 @@ is_legal_spec =
     (tie.spec
     (λ c κs. search rules)
     (λ c κs. search rules)
-    (λ c. rw (← c.before.before.operation_of.ensures, le-leb _ _ c.before.if-operation_of-le11.true) c.bit3_clear.ensures)
-    (λ c. rw (← c.before.operation_of.ensures, lt-leb _ _ c.if-operation_of-le11.false)))
+    (λ c. rw (← c.operation_of.ensures, le-leb _ _ c.if-operation_of-le11.true) c.bit3_clear.ensures)
+    (λ c. rw (← c.operation_of.ensures, lt-leb _ _ c.if-operation_of-le11.false)))

@@ -12,7 +12,7 @@ is_ranged_spec =
     (λ c κs. search rules)
     (λ c κs. search rules)
     (λ c.
-    let p = c.before.before.before in
-    rw (← p.operand_in_range.ensures, c.before.before.if-operand_in_range.true, c.before.if-entry.true, c.register_of.ensures))
-    (λ c. let p = c.before.before in rw (← p.operand_in_range.ensures, c.before.if-operand_in_range.true, c.if-entry.false))
-    (λ c. let p = c.before in rw (← p.operand_in_range.ensures, c.if-operand_in_range.false)))
+    let p = c in
+    rw (← p.operand_in_range.ensures, c.if-operand_in_range.true, c.if-entry.true, c.register_of.ensures))
+    (λ c. let p = c in rw (← p.operand_in_range.ensures, c.if-operand_in_range.true, c.if-entry.false))
+    (λ c. let p = c in rw (← p.operand_in_range.ensures, c.if-operand_in_range.false)))

@@ -9,8 +9,8 @@ use Rattle.code.proofs.is_sided_inside.Statement.{statement}
 use Rattle.code.proofs.is_sided_inside.Tie as tie
 
 -- where the instruction stands right, its landing is the answer
-stood : (c : tie.Then-stands_on) → stands c.before.before.before.args.entry.side true ≡ true
-stood c = sym c.before.stands_on.ensures ∙ c.if-stands_on.true
+stood : (c : tie.Then-stands_on) → stands c.args.entry.side true ≡ true
+stood c = sym c.stands_on.ensures ∙ c.if-stands_on.true
 
 pub is_sided_inside_spec : {M : Type 1} → statement M
 unfolding lands_from lands
@@ -21,7 +21,7 @@ is_sided_inside_spec =
     (λ c. search rules)
     (λ c. search rules)
     (λ c. search rules)
-    (λ c. let s = c.before.before.before.before in
+    (λ c. let s = c in
     omega (
       arith,
       target_below _ _ _ _ c.in-Jump.is s.requires.1,
@@ -30,8 +30,8 @@ is_sided_inside_spec =
     (λ c κs. search rules)
     (λ c. search rules)
     (λ c κs.
-    let p = c.before in
-    let s = p.before.before.before.before in
+    let p = c in
+    let s = p in
     let t = c.target_of.ensures in
     let a = target_ahead _ _ _ _ p.in-Jump.is s.requires.1 in
     let b = target_below _ _ _ _ p.in-Jump.is s.requires.1 in
@@ -40,7 +40,7 @@ is_sided_inside_spec =
     (λ c. rw (stood c.before, c.in-Any.is))
     (λ c. rw (stood c.before, c.in-Below8.is))
     (λ c.
-    let p = c.before.before in
-    rw (stood p.before, p.in-Jump.is, ← c.before.target_of.ensures) c.has_no_end.ensures)
+    let p = c in
+    rw (stood p.before.before.before, p.in-Jump.is, ← c.target_of.ensures) c.has_no_end.ensures)
     (λ c. rw (stood c.before, c.in-Zero.is))
-    (λ c. rw (← c.before.stands_on.ensures, c.if-stands_on.false)))
+    (λ c. rw (← c.stands_on.ensures, c.if-stands_on.false)))

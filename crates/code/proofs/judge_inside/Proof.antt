@@ -30,8 +30,8 @@ from_counted c = from_sided c.before.before
 
 module _ (c : tie.After-entry_of-entry) where
   -- at the table: the entry is the operation's, the word is the instruction's
-  word_known : let a = (from_entry c).args in c.before.before.before.read32-word.result ≡ word_at a.operands.now a.index
-  word_known = c.before.before.before.read32-word.ensures
+  word_known : let a = (from_entry c).args in c.read32-word.result ≡ word_at a.operands.now a.index
+  word_known = c.read32-word.ensures
 
   entry_known : let a = (from_entry c).args in c.entry_of-entry.result ≡ entry_of (operation_at a.ops.now a.index)
   entry_known = c.entry_of-entry.ensures
@@ -51,13 +51,13 @@ q6 c =
     asked_6 _ _ _ _ _ (word_known r) (entry_known r) true _ (from_sided c).requires.1.0 c.is_sided_inside.ensures
 
 yes4 : (c : tie.Else-not-is_legal) → let a = (from_legal c.before).args in question4 a.ops.now a.index ≡ true
-yes4 c = q4 c.before ∙ not-false _ c.if-not-is_legal.false
+yes4 c = q4 c.before ∙ c.if-not-is_legal.false
 
 yes5 : (c : tie.Else-not-is_ranged) → let a = (from_ranged c.before).args in question5 a.ops.now a.operands.now a.index ≡ true
-yes5 c = q5 c.before ∙ not-false _ c.if-not-is_ranged.false
+yes5 c = q5 c.before ∙ c.if-not-is_ranged.false
 
 yes6 : (c : tie.Else-not-is_sided_inside) → let a = (from_sided c.before).args in question6 a.ops.now a.operands.now a.index ≡ true
-yes6 c = q6 c.before ∙ not-false _ c.if-not-is_sided_inside.false
+yes6 c = q6 c.before ∙ c.if-not-is_sided_inside.false
 
 q7 : (c : tie.After-is_counted) → let a = (from_counted c).args in question7 a.ops.now a.index ≡ c.is_counted.result
 q7 c = inside_7 _ _ _ _ (from_counted c).requires.1.1 c.is_counted.ensures
@@ -73,18 +73,18 @@ judge_inside_spec =
     (λ c κs. search rules)
     (λ c κs. search rules)
     (λ c. c.refused.ensures
-    ∙ ap verdict_of (sym (judged _ _ _ _ false _ _ _ (q4 c.before.before ∙ not-true _ c.before.if-not-is_legal.true) refl refl refl)))
+    ∙ ap verdict_of (sym (judged _ _ _ _ false _ _ _ (q4 c.before.before ∙ c.if-not-is_legal.true) refl refl refl)))
     (λ c κs. search rules)
     (λ c κs. search rules)
     (λ c κs. search rules)
     (λ c.
     let r = c.before.before in
     c.refused-then-not-is_ranged.ensures
-    ∙ ap verdict_of (sym (judged _ _ _ _ true false _ _ (yes4 r.before.before) (q5 r ∙ not-true _ c.before.if-not-is_ranged.true) refl refl)))
+    ∙ ap verdict_of (sym (judged _ _ _ _ true false _ _ (yes4 r.before.before) (q5 r ∙ c.if-not-is_ranged.true) refl refl)))
     (λ c κs.
     let r = c.before in (
       (from_ranged r).requires.1.0,
-      ranged_operand _ _ _ _ _ _ _ r.is_ranged.ensures (not-false _ c.if-not-is_ranged.false),
+      ranged_operand _ _ _ _ _ _ _ r.is_ranged.ensures c.if-not-is_ranged.false,
     ))
     (λ c κs. search rules)
     (λ c.
@@ -92,7 +92,7 @@ judge_inside_spec =
     c.refused-then-not-is_sided_inside.ensures
     ∙ ap verdict_of
     (sym (judged _ _ _ _ true true false _ (yes4 n.before.before.before) (yes5 n)
-    (q6 c.before.before ∙ not-true _ c.before.if-not-is_sided_inside.true) refl)))
+    (q6 c.before.before ∙ c.if-not-is_sided_inside.true) refl)))
     (λ c κs. search rules)
     (λ c κs. search rules)
     (λ c.
@@ -101,10 +101,10 @@ judge_inside_spec =
     c.refused-then-not-is_counted.ensures
     ∙ ap verdict_of
     (sym (judged _ _ _ _ true true true false (yes4 m.before.before.before) (yes5 m) (yes6 n)
-    (q7 c.before.before ∙ not-true _ c.before.if-not-is_counted.true))))
+    (q7 c.before.before ∙ c.if-not-is_counted.true))))
     (λ c.
     let n = c.before.before in
     let m = n.before.before in
     ap verdict_of
     (sym (judged _ _ _ _ true true true true (yes4 m.before.before.before) (yes5 m) (yes6 n)
-    (q7 c.before ∙ not-false _ c.if-not-is_counted.false)))))
+    (q7 c.before ∙ c.if-not-is_counted.false)))))

@@ -27,8 +27,8 @@ from_sided c = from_ranged c.before.before
 
 module _ (c : tie.After-entry_of-entry) where
   -- at the table: the entry is the operation's, the word is the instruction's
-  word_known : let a = (from_entry c).args in c.before.before.before.read32-word.result ≡ word_at a.operands.now a.index
-  word_known = c.before.before.before.read32-word.ensures
+  word_known : let a = (from_entry c).args in c.read32-word.result ≡ word_at a.operands.now a.index
+  word_known = c.read32-word.ensures
 
   entry_known : let a = (from_entry c).args in c.entry_of-entry.result ≡ entry_of (operation_at a.ops.now a.index)
   entry_known = c.entry_of-entry.ensures
@@ -48,13 +48,13 @@ q6 c =
     asked_6 _ _ _ _ _ (word_known r) (entry_known r) false _ (from_sided c).requires.1 c.is_sided_outside.ensures
 
 yes4 : (c : tie.Else-not-is_legal) → let a = (from_legal c.before).args in question4 a.ops.now a.index ≡ true
-yes4 c = q4 c.before ∙ not-false _ c.if-not-is_legal.false
+yes4 c = q4 c.before ∙ c.if-not-is_legal.false
 
 yes5 : (c : tie.Else-not-is_ranged) → let a = (from_ranged c.before).args in question5 a.ops.now a.operands.now a.index ≡ true
-yes5 c = q5 c.before ∙ not-false _ c.if-not-is_ranged.false
+yes5 c = q5 c.before ∙ c.if-not-is_ranged.false
 
 yes6 : (c : tie.Else-not-is_sided_outside) → let a = (from_sided c.before).args in question6 a.ops.now a.operands.now a.index ≡ true
-yes6 c = q6 c.before ∙ not-false _ c.if-not-is_sided_outside.false
+yes6 c = q6 c.before ∙ c.if-not-is_sided_outside.false
 
 pub judge_outside_spec : {M : Type 1} → statement M
 unfolding ask
@@ -67,18 +67,18 @@ judge_outside_spec =
     (λ c κs. search rules)
     (λ c κs. search rules)
     (λ c. c.refused.ensures
-    ∙ ap verdict_of (sym (judged _ _ _ _ false _ _ _ (q4 c.before.before ∙ not-true _ c.before.if-not-is_legal.true) refl refl refl)))
+    ∙ ap verdict_of (sym (judged _ _ _ _ false _ _ _ (q4 c.before.before ∙ c.if-not-is_legal.true) refl refl refl)))
     (λ c κs. search rules)
     (λ c κs. search rules)
     (λ c κs. search rules)
     (λ c.
     let r = c.before.before in
     c.refused-then-not-is_ranged.ensures
-    ∙ ap verdict_of (sym (judged _ _ _ _ true false _ _ (yes4 r.before.before) (q5 r ∙ not-true _ c.before.if-not-is_ranged.true) refl refl)))
+    ∙ ap verdict_of (sym (judged _ _ _ _ true false _ _ (yes4 r.before.before) (q5 r ∙ c.if-not-is_ranged.true) refl refl)))
     (λ c κs.
     let r = c.before in (
       (from_ranged r).requires.1,
-      ranged_operand _ _ _ _ _ _ _ r.is_ranged.ensures (not-false _ c.if-not-is_ranged.false),
+      ranged_operand _ _ _ _ _ _ _ r.is_ranged.ensures c.if-not-is_ranged.false,
     ))
     (λ c κs. search rules)
     (λ c.
@@ -86,7 +86,7 @@ judge_outside_spec =
     c.refused-then-not-is_sided_outside.ensures
     ∙ ap verdict_of
     (sym (judged _ _ _ _ true true false _ (yes4 n.before.before.before) (yes5 n)
-    (q6 c.before.before ∙ not-true _ c.before.if-not-is_sided_outside.true) refl)))
+    (q6 c.before.before ∙ c.if-not-is_sided_outside.true) refl)))
     (λ c.
     let m = c.before.before in
     ap verdict_of

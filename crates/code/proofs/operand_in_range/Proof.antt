@@ -16,13 +16,13 @@ operand_in_range_spec =
     (λ c κs. search rules)
     (λ c. search rules)
     (λ c κs. search rules)
-    (λ c. rw (c.before.before.before.in-Jump.is, ← c.before.source_of.ensures, le-ltb _ _ c.if-source_of-ge8.true))
+    (λ c. rw (c.in-Jump.is, ← c.source_of.ensures, le-ltb _ _ c.if-source_of-ge8.true))
     (λ c.
     rw (
-      c.before.before.before.before.in-Jump.is,
-      ← c.before.before.source_of.ensures,
-      lt-ltb _ _ c.before.if-source_of-ge8.false,
-      ← c.before.before.before.target_of-target.ensures,
+      c.in-Jump.is,
+      ← c.source_of.ensures,
+      lt-ltb _ _ c.if-source_of-ge8.false,
+      ← c.target_of-target.ensures,
       le-ltb _ _ c.if-target-index.true,
     ))
     (λ c. search rules)
@@ -30,10 +30,10 @@ operand_in_range_spec =
     (λ c. rw c.in-Below8.is)
     (λ c.
     rw (
-      c.before.before.before.before.in-Jump.is,
-      ← c.before.before.source_of.ensures,
-      lt-ltb _ _ c.before.if-source_of-ge8.false,
-      ← c.before.before.before.target_of-target.ensures,
+      c.in-Jump.is,
+      ← c.source_of.ensures,
+      lt-ltb _ _ c.if-source_of-ge8.false,
+      ← c.target_of-target.ensures,
       lt-ltb _ _ c.if-target-index.false,
     ))
     (λ c. rw c.in-Zero.is))

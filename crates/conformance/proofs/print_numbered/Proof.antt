@@ -18,7 +18,7 @@ array_share_prefix_line c = search rules
 
 -- src/main.rt:13:42
 slice_aggregate_print_case : tie.Need-slice_bounds-print_case-end
-slice_aggregate_print_case c = sym (length-take-le _ _ c.before.before.case_line-written.ensures.1)
+slice_aggregate_print_case c = sym (length-take-le _ _ c.case_line-written.ensures.1)
 
 -- src/main.rt:13:9
 print_case_requires : tie.Need-print_case-size-requires

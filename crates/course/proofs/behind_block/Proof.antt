@@ -15,5 +15,5 @@ behind_block_spec =
     (λ c. search rules)
     (λ c κs. search rules)
     (λ c ws.
-    let s = c.before.before.before.args in
-    λ i. going (record { position = c.behind_end_lem.ensures ws i; registers = set s.begin.registers 0 s.result })))
+    let s = c.args in
+    λ i. going (record { position = c.behind_end.ensures ws i; registers = set s.begin.registers 0 s.result })))

@@ -13,7 +13,7 @@ pub next_of_spec : {M : Type 1} → statement M
 next_of_spec =
     tie.close
     (tie.spec
-    (λ c. let h = c.before.before.before.requires.in_code in search rules)
+    (λ c. let h = c.requires.in_code in search rules)
     (λ c κs. search rules)
     (λ c κs. search rules)
     (λ c. search rules)
@@ -22,7 +22,7 @@ next_of_spec =
     (λ c.
     let r = c.before.before in
     let s = start r in
-    replies _ _ s.args.from s.requires _ _ r.before.operation_of-op.ensures r.register_of-d.ensures c.before.if-op-eq-RETURN.true)
+    replies _ _ s.args.from s.requires _ _ r.operation_of-op.ensures r.register_of-d.ensures c.if-op-eq-RETURN.true)
     (λ c κs.
     let s = start c.before in
     omega (arith, s.requires.in_code, s.requires.right.sized))
@@ -30,18 +30,18 @@ next_of_spec =
     (λ c.
     let r = c.before.before.before in
     let s = start r in
-    opens_block _ _ s.args.from s.requires _ _ r.before.operation_of-op.ensures r.register_of-d.ensures _
-    c.before.word_in-word.ensures c.if-op-eq-BEGIN.true)
+    opens_block _ _ s.args.from s.requires _ _ r.operation_of-op.ensures r.register_of-d.ensures _
+    c.word_in-word.ensures c.if-op-eq-BEGIN.true)
     (λ c κs.
     let r = c.before.before.before in
     let s = start r in
     let m =
-    may_move _ _ s.args.from s.requires _ _ r.before.operation_of-op.ensures r.register_of-d.ensures _ c.before.word_in-word.ensures
-    c.before.before.if-op-eq-RETURN.false c.if-op-eq-BEGIN.false in
+    may_move _ _ s.args.from s.requires _ _ r.operation_of-op.ensures r.register_of-d.ensures _ c.word_in-word.ensures
+    c.if-op-eq-RETURN.false c.if-op-eq-BEGIN.false in
     (m.0, search rules, search rules, m.1))
     (λ c.
     let r = c.before.before.before.before in
     let s = start r in
-    moves_on _ _ s.args.from s.requires _ _ r.before.operation_of-op.ensures r.register_of-d.ensures _
-    c.before.before.word_in-word.ensures
+    moves_on _ _ s.args.from s.requires _ _ r.operation_of-op.ensures r.register_of-d.ensures _
+    c.word_in-word.ensures
     c.moved-place.result c.moved-place.ensures))

@@ -12,6 +12,6 @@ block_of_spec =
     (λ c. search rules)
     (λ c. search rules)
     (λ c. search rules)
-    (λ c. rw (c.before.in-Rows.is, eq-eqb _ _ c.if-partition-counted.true) refl)
+    (λ c. rw (c.in-Rows.is, eq-eqb _ _ c.if-partition-counted.true) refl)
     (λ c. search rules)
-    (λ c. rw (c.before.in-Rows.is, ne_eqb _ _ c.if-partition-counted.false) refl))
+    (λ c. rw (c.in-Rows.is, ne_eqb _ _ c.if-partition-counted.false) refl))

@@ -10,8 +10,8 @@ use Rattle.figures.proofs.figures.Statement.{statement}
 use Rattle.figures.proofs.figures.Tie as tie
 
 -- no question says no
-opens : (c : tie.In-Accepted) → let a = c.before.before.before.args in open_refusal a.pack.now a.workflow ≡ none
-opens c = accepted _ _ c.before.«open».ensures c.in-Accepted.is
+opens : (c : tie.In-Accepted) → let a = c.args in open_refusal a.pack.now a.workflow ≡ none
+opens c = accepted _ _ c.«open».ensures c.in-Accepted.is
 
 pub figures_spec : {M : Type 1} → statement M
 figures_spec =
@@ -21,14 +21,14 @@ figures_spec =
     (λ c. search rules)
     (λ c κs. (open_laid _ _ (opens c), open_below _ _ (opens c)))
     (λ c κs. (open_laid _ _ (opens c.before), open_below _ _ (opens c.before)))
-    (λ c κs. opened_sized _ _ (opens c.before.before) _ _ c.before.operations_part-ops.ensures c.operands_part-operands.ensures)
+    (λ c κs. opened_sized _ _ (opens c.before.before) _ _ c.operations_part-ops.ensures c.operands_part-operands.ensures)
     (λ c κs.
-    let p = c.before in
-    opened_sized _ _ (opens p.before.before) _ _ p.before.operations_part-ops.ensures p.operands_part-operands.ensures)
+    let p = c in
+    opened_sized _ _ (opens p.before.before.before) _ _ p.operations_part-ops.ensures p.operands_part-operands.ensures)
     (λ c. search rules)
     (λ c.
-    let p = c.before.before in
-    let t = p.before.before in
-    answered _ _ (opens t) _ _ p.before.operations_part-ops.ensures p.operands_part-operands.ensures _ t.in-Accepted.is
-    c.most_rows-rows.ensures.0 c.before.most_of-turns.ensures c.most_rows-rows.ensures.1)
-    (λ c. refused _ _ _ _ _ _ c.before.«open».ensures c.in-Refused.is))
+    let p = c in
+    let t = p.before.before.before.before in
+    answered _ _ (opens t) _ _ p.operations_part-ops.ensures p.operands_part-operands.ensures _ t.in-Accepted.is
+    c.most_rows-rows.ensures.0 c.most_of-turns.ensures c.most_rows-rows.ensures.1)
+    (λ c. refused _ _ _ _ _ _ c.«open».ensures c.in-Refused.is))

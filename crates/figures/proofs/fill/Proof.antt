@@ -52,8 +52,8 @@ module _ (t : tie.In-loop-index invariant-loop decreases-loop) where
   filled_ahead =
       subst (λ n. Filled s.args.by s.args.ops.now s.args.operands.now n l.loop-index.most) (is_next ∙ sym (add-one k))
       l.loop-index.invariant.4
+      its side is known
 
--- its side is known
 abbrev test_before : tie.After-inside_before-inside invariant-loop decreases-loop → tie.In-loop-index invariant-loop decreases-loop
 test_before i = i.before.before.before
 
@@ -63,7 +63,7 @@ side_known i =
     let t = test_before i in
     i.inside_before-inside.ensures
     ∙ ap (λ n. if◌then◌else◌ (eqb n op_end) true (if◌then◌else◌ (eqb n op_begin) false (l t).loop-index.inside))
-    i.before.operation_of-op.ensures
+    i.operation_of-op.ensures
     ∙ side_before _ _ (s t).requires.0 (k t) (in_code t) (l t).loop-index.inside
     ((l t).loop-index.invariant.1 ∙ ap (inside_at (s t).args.ops.now) (is_next t))
 
@@ -80,28 +80,28 @@ fill_spec =
     (tie.spec
     invariant-loop
     decreases-loop
-    (λ c. let s = c.before.before.before in
+    (λ c. let s = c in
     (omega arith, outside_last _ _ s.requires.0, no_end_last _ _ s.requires.0, refl, nothing_filled _ _ _ _ s.requires.1))
     (λ c. omega (arith, c.loop-index-test.true))
     (λ c. in_code c.before)
     (λ c κs. search rules)
     (λ c κs. search rules)
-    (λ c κs. (reached c.before, filled_ahead (test_before c.before)))
-    (λ c. let t = test_before c.before.before in omega (arith, in_code t, (s t).requires.0.few))
-    (λ c. let t = test_before c.before.before in omega (arith, in_code t, (filled_ahead t).long))
-    (λ c κs. let t = test_before c.before.before in omega (arith, in_code t, (s t).requires.0.few))
-    (λ c. omega (arith, (test_before c.before.before.before).loop-index-test.true))
-    (λ c. let i = c.before.before.before in
+    (λ c κs. (reached c, filled_ahead (test_before c)))
+    (λ c. let t = test_before c.before in omega (arith, in_code t, (s t).requires.0.few))
+    (λ c. let t = test_before c.before in omega (arith, in_code t, (filled_ahead t).long))
+    (λ c κs. let t = test_before c.before in omega (arith, in_code t, (s t).requires.0.few))
+    (λ c. omega (arith, (test_before c.before.before).loop-index-test.true))
+    (λ c. let i = c.before.before in
     let t = test_before i in (
       omega (arith, in_code t),
       side_known i,
       c.behind_before-behind.ensures
-          ∙ ap (λ n. if◌then◌else◌ (eqb n op_end) (k t + 1) (l t).loop-index.behind) i.before.operation_of-op.ensures
+          ∙ ap (λ n. if◌then◌else◌ (eqb n op_end) (k t + 1) (l t).loop-index.behind) i.operation_of-op.ensures
           ∙ end_before _ _ (s t).requires.0 (k t) (in_code t) (l t).loop-index.behind (end_ahead t),
       simp length-set (l t).loop-index.invariant.3,
-      one_filled _ _ _ (l t).loop-index.most (k t) _ (in_code t) (filled_ahead t) c.before.most_at-value.ensures,
+      one_filled _ _ _ (l t).loop-index.most (k t) _ (in_code t) (filled_ahead t) c.most_at-value.ensures,
     ))
     (λ c. search rules)
-    (λ c. let l = c.before in
-    let a = l.before.before.before.before.args in
+    (λ c. let l = c in
+    let a = l.args in
     subst (λ n. Filled a.by a.ops.now a.operands.now n l.loop-index.most) (omega (arith, c.loop-index-test.false)) l.loop-index.invariant.4))

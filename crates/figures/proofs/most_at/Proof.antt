@@ -54,7 +54,7 @@ by_block c =
     (λ n. MostAt (s t).args.by (s t).args.ops.now (s t).args.operands.now (s t).args.index
     (n + get_or (s t).args.most.now (s t).args.behind 0))
     (ap (λ w. (counting_of (s t).args.by).block w (get_or (s t).args.most.now ((s t).args.index + 1) 0))
-    (sym c.before.before.word_in.ensures)
+    (sym c.word_in.ensures)
     ∙ sym c.block_of-block.ensures)
     (begin_most _ _ _ _ _ (s t).requires.0 (s t).args.by _ (s t).requires.1 (is_begin t))
 
@@ -65,12 +65,12 @@ most_at_spec =
     (λ c. search rules)
     (λ c κs. search rules)
     (λ c. let s = start c.before in
-    end_most _ _ _ _ _ s.requires.0 s.args.by (sym c.before.operation_of-op.ensures ∙ c.if-op-eq-END.true))
+    end_most _ _ _ _ _ s.requires.0 s.args.by (sym c.operation_of-op.ensures ∙ c.if-op-eq-END.true))
     (λ c κs. search rules)
     (λ c. let o = c.before.before.before in
     let s = start o in
-    subst (MostAt s.args.by s.args.ops.now s.args.operands.now s.args.index) (sym c.one_of_lem.ensures)
-    (return_most _ _ _ _ _ s.requires.0 s.args.by (sym o.operation_of-op.ensures ∙ c.before.if-op-eq-RETURN.true)))
+    subst (MostAt s.args.by s.args.ops.now s.args.operands.now s.args.index) (sym c.one_of.ensures)
+    (return_most _ _ _ _ _ s.requires.0 s.args.by (sym o.operation_of-op.ensures ∙ c.if-op-eq-RETURN.true)))
     (λ c κs. search rules)
     (λ c. search rules)
     (λ c. search rules)

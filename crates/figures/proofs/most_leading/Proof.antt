@@ -30,12 +30,12 @@ start o = o.before.before.before.before.before.before
 
 -- what it counts, by its operation
 own_count : (o : tie.After-own_of-own) → let a = (start o).args in
-    o.own_of_lem.result
+    o.own_of.result
     ≡ if◌then◌else◌ a.inside (if◌then◌else◌ (eqb (operation_at a.ops.now a.index) op_put) 1 0) (counting_of a.by).one
 own_count o =
-    o.own_of_lem.ensures
+    o.own_of.ensures
     ∙ ap (λ n. if◌then◌else◌ (start o).args.inside (if◌then◌else◌ (eqb n op_put) 1 0) (counting_of (start o).args.by).one)
-    o.before.operation_of.ensures
+    o.operation_of.ensures
 
 -- ── a jump ──
 
@@ -47,10 +47,10 @@ module _ (t : tie.After-target_of-target) where
   s = start (own_before t)
 
   jump : is_jump (operand_of (operation_at s.args.ops.now s.args.index)) ≡ true
-  jump = sym t.before.before.before.is_jump_lem.ensures ∙ t.before.before.if-is_jump.true
+  jump = sym t.is_jump.ensures ∙ t.if-is_jump.true
 
   target : t.target_of-target.result ≡ target_of (word_at s.args.operands.now s.args.index)
-  target = t.target_of-target.ensures ∙ ap target_of t.before.word_in.ensures
+  target = t.target_of-target.ensures ∙ ap target_of t.word_in.ensures
 
   target_there : t.target_of-target.result < length s.args.most.now
   target_there =
@@ -60,25 +60,25 @@ module _ (t : tie.After-target_of-target) where
       omega (arith, target)
 
   by_both : MostAt s.args.by s.args.ops.now s.args.operands.now s.args.index
-      ((own_before t).own_of_lem.result
+      ((own_before t).own_of.result
       + larger (get_or s.args.most.now (s.args.index + 1) 0) (get_or s.args.most.now t.target_of-target.result 0))
   by_both =
       let p = s.requires in
       subst
       (λ n. MostAt s.args.by s.args.ops.now s.args.operands.now s.args.index
-      ((own_before t).own_of_lem.result + larger (get_or s.args.most.now (s.args.index + 1) 0) (get_or s.args.most.now n 0)))
+      ((own_before t).own_of.result + larger (get_or s.args.most.now (s.args.index + 1) 0) (get_or s.args.most.now n 0)))
       (sym target)
       (jump_most _ _ _ _ _ p.0.1 s.args.by _ p.1.0 p.1.1.0 p.1.1.1 p.1.1.2 jump _ (own_count (own_before t)))
+      with the larger of the two worked out
 
--- with the larger of the two worked out
 by_larger : (c : tie.After-larger) →
     let t = c.before.before in
     MostAt (s t).args.by (s t).args.ops.now (s t).args.operands.now (s t).args.index
-    ((own_before t).own_of_lem.result + c.larger.result)
+    ((own_before t).own_of.result + c.larger.result)
 by_larger c =
     let t = c.before.before in
     subst
-    (λ n. MostAt (s t).args.by (s t).args.ops.now (s t).args.operands.now (s t).args.index ((own_before t).own_of_lem.result + n))
+    (λ n. MostAt (s t).args.by (s t).args.ops.now (s t).args.operands.now (s t).args.index ((own_before t).own_of.result + n))
     (sym c.larger.ensures) (by_both t)
 
 -- ── no jump ──
@@ -88,11 +88,11 @@ module _ (c : tie.Else-is_jump) where
   o = c.before.before.before
 
   by_next : MostAt (start o).args.by (start o).args.ops.now (start o).args.operands.now (start o).args.index
-      (o.own_of_lem.result + get_or (start o).args.most.now ((start o).args.index + 1) 0)
+      (o.own_of.result + get_or (start o).args.most.now ((start o).args.index + 1) 0)
   by_next =
       let p = (start o).requires in
       next_most _ _ _ _ _ p.0.1 (start o).args.by _ p.1.0 p.1.1.0 p.1.1.1 p.1.1.2 _ (own_count o)
-      (sym c.before.is_jump_lem.ensures ∙ c.if-is_jump.false)
+      (sym c.is_jump.ensures ∙ c.if-is_jump.false)
 
 pub most_leading_spec : {M : Type 1} → statement M
 most_leading_spec =

@@ -12,5 +12,5 @@ most_of_spec =
     (λ c κs. search rules)
     (λ c. search rules)
     (λ c.
-    let s = c.before.before.before.before.before in
-    c.before.fill.ensures.each 0 (omega arith) (omega (arith, s.requires.some_instruction))))
+    let s = c in
+    c.fill.ensures.each 0 (omega arith) (omega (arith, s.requires.some_instruction))))

@@ -27,11 +27,11 @@ most_rows_spec =
     (λ c. search rules)
     (λ c. search rules)
     (λ c. search rules)
-    (λ c. let l = c.before.before in
+    (λ c. let l = c in
     let n = l.loop-partition.invariant.1 in
-    let below = c.before.loop-partition-test.true in (
+    let below = c.loop-partition-test.true in (
       omega (arith, below),
       simp length-set n,
       one_more _ _ l.loop-partition.partition l.loop-partition.rows _ (omega (arith, n, below)) l.loop-partition.invariant.2 c.most_of.ensures,
     ))
-    (λ c. (c.before.loop-partition.invariant.1, λ p l. c.before.loop-partition.invariant.2 p (omega (arith, c.loop-partition-test.false)))))
+    (λ c. (c.loop-partition.invariant.1, λ p l. c.loop-partition.invariant.2 p (omega (arith, c.loop-partition-test.false)))))

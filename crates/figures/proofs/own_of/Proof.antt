@@ -9,7 +9,7 @@ pub own_of_spec : {M : Type 1} → statement M
 own_of_spec =
     tie.close
     (tie.spec
-    (λ c. rw (c.before.if-inside.true, eq-eqb _ _ c.if-op-eq-PUT.true) refl)
-    (λ c. rw (c.before.if-inside.true, ne_eqb _ _ c.if-op-eq-PUT.false) refl)
+    (λ c. rw (c.if-inside.true, eq-eqb _ _ c.if-op-eq-PUT.true) refl)
+    (λ c. rw (c.if-inside.true, ne_eqb _ _ c.if-op-eq-PUT.false) refl)
     (λ c κs. search rules)
     (λ c. search rules))

@@ -34,5 +34,5 @@ write_turns_spec =
     (λ c. let t = turn_made c.before in (search rules, t.turned-t.kept.1.0 ∙ (its_loop t).loop-i.invariant.1))
     (λ c. let t = turn_made c.before in t.turned-t.kept.1.0 ∙ (its_loop t).loop-i.invariant.1)
     (λ c. search rules)
-    (λ c. c.before.loop-i.invariant.1)
+    (λ c. c.loop-i.invariant.1)
     (λ c. search rules))

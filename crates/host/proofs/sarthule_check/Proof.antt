@@ -16,7 +16,7 @@ sarthule_check_spec =
     (λ c κs. search rules)
     (λ c. search rules)
     (λ c.
-    let w = c.before.before in
-    let k = w.before.before in
-    told_judged _ (pack_refusal _) _ _ _ k.before.before.if-answer-lt12.false (pack_placed _) (w.before.judge.ensures _ k.check.ensures)
+    let w = c in
+    let k = w in
+    told_judged _ (pack_refusal _) _ _ _ k.if-answer-lt12.false (pack_placed _) (w.judge.ensures _ k.check.ensures)
     w.write_answer.ensures.0))

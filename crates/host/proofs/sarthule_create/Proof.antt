@@ -15,7 +15,7 @@ sarthule_create_spec =
     (λ c. search rules)
     (λ c. search rules)
     (λ c.
-    let w = c.before.before in
-    let m = w.before.before.before.before.before in
-    made _ _ _ _ _ _ _ _ _ m.before.before.if-answer-lt12.false m.create-v.ensures (w.before.judge.ensures _ m.create-v.ensures.answer)
+    let w = c in
+    let m = w in
+    made _ _ _ _ _ _ _ _ _ m.if-answer-lt12.false m.create-v.ensures (w.judge.ensures _ m.create-v.ensures.answer)
     w.write_answer.ensures.0))

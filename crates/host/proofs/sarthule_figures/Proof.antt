@@ -15,8 +15,8 @@ sarthule_figures_spec =
     (λ c κs. search rules)
     (λ c. search rules)
     (λ c.
-    let o = c.before.before in
-    let w = o.before.before.before.before in
-    let v = w.before.before.before.before in
-    told_figures _ _ _ v.figures-f.result _ _ _ _ v.before.if-answer-lt48.false v.figures-f.ensures
-    (w.before.judge.ensures _ v.figures-f.ensures.verdict) w.write_answer-number.ensures.0 o.write_figures.ensures))
+    let o = c in
+    let w = o in
+    let v = w in
+    told_figures _ _ _ v.figures-f.result _ _ _ _ v.if-answer-lt48.false v.figures-f.ensures
+    (w.judge.ensures _ v.figures-f.ensures.verdict) w.write_answer-number.ensures.0 o.write_figures.ensures))

@@ -13,9 +13,9 @@ use Rattle.host.proofs.sarthule_open.Tie as tie
 
 -- the questions said yes
 opens : (c : tie.In-Accepted) → let a =
-    c.before.before.before.before.before.before.before.before.before.before.args in
+    c.args in
     open_refusal a.pack.now a.workflow ≡ none
-opens c = accepted_none _ _ c.before.before.before.before.before.before.open-v.ensures c.in-Accepted.is
+opens c = accepted_none _ _ c.open-v.ensures c.in-Accepted.is
 
 pub sarthule_open_spec : {M : Type 1} → statement M
 unfolding opened_parts
@@ -34,29 +34,29 @@ sarthule_open_spec =
     let o = c.before.before.before.before in
     record {
       fits = omega
-          (arith, c.before.before.before.size_at-size.ensures, ((open_laid _ _ (opens o)).sizes _ (open_below _ _ (opens o))).1);
+          (arith, c.size_at-size.ensures, ((open_laid _ _ (opens o)).sizes _ (open_below _ _ (opens o))).1);
     })
     (λ c κs. search rules)
     (λ c. search rules)
     (λ c κs. search rules)
     (λ c. search rules)
     (λ c.
-    let o = c.before.before in
-    let k = o.before.before.before.before.before in
-    let w = k.before.before.before in
-    let v = w.before.before.before in
-    told_open _ _ _ none _ _ _ _ _ v.before.if-answer-lt28.false (opens k) (w.before.judge.ensures _ v.open-v.ensures)
+    let o = c in
+    let k = o.before.before.before.before.before.before.before in
+    let w = k in
+    let v = w in
+    told_open _ _ _ none _ _ _ _ _ v.if-answer-lt28.false (opens k) (w.judge.ensures _ v.open-v.ensures)
     w.write_answer-number.ensures.0
     (rw (
-      o.before.before.before.before.size_at-size.ensures,
-      o.before.before.operations_at.ensures,
-      o.before.operands_at.ensures,
+      o.size_at-size.ensures,
+      o.operations_at.ensures,
+      o.operands_at.ensures,
     ) refl)
     o.write_parts.ensures)
     (λ c. search rules)
     (λ c.
-    let o = c.before.before in
-    let w = o.before.before.before.before.before in
-    let v = w.before.before.before in
-    told_open _ _ _ _ _ _ _ _ _ v.before.if-answer-lt28.false (refused_some _ _ _ _ _ v.open-v.ensures o.before.before.in-Refused.is)
-    (w.before.judge.ensures _ v.open-v.ensures) w.write_answer-number.ensures.0 refl o.write_parts-in-Refused.ensures))
+    let o = c in
+    let w = o in
+    let v = w in
+    told_open _ _ _ _ _ _ _ _ _ v.if-answer-lt28.false (refused_some _ _ _ _ _ v.open-v.ensures o.in-Refused.is)
+    (w.judge.ensures _ v.open-v.ensures) w.write_answer-number.ensures.0 refl o.write_parts-in-Refused.ensures))

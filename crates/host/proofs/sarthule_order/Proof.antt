@@ -14,6 +14,6 @@ sarthule_order_spec =
     (λ c. search rules)
     (λ c. search rules)
     (λ c.
-    let w = c.before.before in
-    let o = w.before.before.before.before in
-    in_order _ _ _ _ _ o.order-a.result o.before.before.if-answer-lt12.false o.order-a.ensures w.write_answer.ensures))
+    let w = c in
+    let o = w in
+    in_order _ _ _ _ _ o.order-a.result o.if-answer-lt12.false o.order-a.ensures w.write_answer.ensures))

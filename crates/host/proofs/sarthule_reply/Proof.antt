@@ -25,22 +25,22 @@ sarthule_reply_spec =
     (λ c κs. search rules)
     (λ c. search rules)
     (λ c.
-    let w = c.before.before in
-    let y = w.before.before in
-    let k = y.before in
-    reply_told _ _ _ _ NotYet _ _ k.before.if-answer-lt12.false (sym y.in-NotYet.is ∙ k.reply-k.ensures) (omega arith)
+    let w = c in
+    let y = w in
+    let k = y in
+    reply_told _ _ _ _ NotYet _ _ k.if-answer-lt12.false (sym y.in-NotYet.is ∙ k.reply-k.ensures) (omega arith)
     (λ v e. absurd (let z : ◌≡◌ {A = ℕ} 0 1 = cc in omega arith)) refl w.write_answer.ensures.0.1)
     (λ c. search rules)
     (λ c.
-    let w = c.before.before in
-    let y = w.before.before in
-    let k = y.before in
-    reply_told _ _ _ _ (Reply y.in-Reply.value) _ _ k.before.if-answer-lt12.false (sym y.in-Reply.is ∙ k.reply-k.ensures) (omega arith)
+    let w = c in
+    let y = w in
+    let k = y in
+    reply_told _ _ _ _ (Reply y.in-Reply.value) _ _ k.if-answer-lt12.false (sym y.in-Reply.is ∙ k.reply-k.ensures) (omega arith)
     (λ v e. let f : y.in-Reply.value ≡ v = cc in omega (arith, f)) w.write_answer-in-Reply.ensures.0.0 w.write_answer-in-Reply.ensures.0.1)
     (λ c. search rules)
     (λ c.
-    let w = c.before.before in
-    let y = w.before.before in
-    let k = y.before in
-    reply_told _ _ _ _ _ _ _ k.before.if-answer-lt12.false (sym y.in-Refused.is ∙ k.reply-k.ensures) (omega arith)
+    let w = c in
+    let y = w in
+    let k = y in
+    reply_told _ _ _ _ _ _ _ k.if-answer-lt12.false (sym y.in-Refused.is ∙ k.reply-k.ensures) (omega arith)
     (λ v e. absurd (let z : ◌≡◌ {A = ℕ} 0 1 = cc in omega arith)) w.write_answer-in-Refused.ensures.0.0 w.write_answer-in-Refused.ensures.0.1))

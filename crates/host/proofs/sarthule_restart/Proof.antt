@@ -12,8 +12,8 @@ sarthule_restart_spec =
     tie.close
     (tie.spec
     (λ c. restart_wrong _ _ _ 100 (short_answer _ _ _ c.if-answer-lt12.true))
-    (λ c. restart_wrong _ _ _ 101 (wrong_slots _ _ _ c.before.if-answer-lt12.false c.if-slots-ne384.true))
-    (λ c. restart_wrong _ _ _ 102 (short_list _ _ _ c.before.before.if-answer-lt12.false c.before.if-slots-ne384.false c.if-list-lt132.true))
+    (λ c. restart_wrong _ _ _ 101 (wrong_slots _ _ _ c.if-answer-lt12.false c.if-slots-ne384.true))
+    (λ c. restart_wrong _ _ _ 102 (short_list _ _ _ c.if-answer-lt12.false c.if-slots-ne384.false c.if-list-lt132.true))
     (λ c κs. search rules)
     (λ c κs. search rules)
     (λ c κs. search rules)
@@ -23,12 +23,12 @@ sarthule_restart_spec =
     (λ c. search rules)
     (λ c. search rules)
     (λ c.
-    let a = c.before.before in
-    let w = a.before.before.before.before in
-    let s = w.before.before.before.before in
-    let r = s.before.before.before.before in
-    let l = r.before in
-    let e = l.before.before in
+    let a = c in
+    let w = a in
+    let s = w in
+    let r = s in
+    let l = r in
+    let e = l in
     restarted_all _ _ _ _ _ _ _ _ _ _
-    (right_buffers _ _ _ e.before.before.if-answer-lt12.false e.before.if-slots-ne384.false e.if-list-lt132.false) l.read_list.ensures
+    (right_buffers _ _ _ e.if-answer-lt12.false e.if-slots-ne384.false e.if-list-lt132.false) l.read_list.ensures
     r.restart-r.ensures s.write_slots.ensures w.write_list.ensures a.write_answer.ensures.0))

@@ -9,8 +9,8 @@ sarthule_take_spec =
     tie.close
     (tie.spec
     (λ c. list_wrong_lem _ _ _ _ _ _ 100 (short_answer _ _ _ c.if-answer-lt12.true))
-    (λ c. list_wrong_lem _ _ _ _ _ _ 101 (wrong_slots _ _ _ c.before.if-answer-lt12.false c.if-slots-ne384.true))
-    (λ c. list_wrong_lem _ _ _ _ _ _ 102 (short_list _ _ _ c.before.before.if-answer-lt12.false c.before.if-slots-ne384.false c.if-list-lt132.true))
+    (λ c. list_wrong_lem _ _ _ _ _ _ 101 (wrong_slots _ _ _ c.if-answer-lt12.false c.if-slots-ne384.true))
+    (λ c. list_wrong_lem _ _ _ _ _ _ 102 (short_list _ _ _ c.if-answer-lt12.false c.if-slots-ne384.false c.if-list-lt132.true))
     (λ c κs. search rules)
     (λ c κs. search rules)
     (λ c κs. search rules)
@@ -18,12 +18,12 @@ sarthule_take_spec =
     (λ c. search rules)
     (λ c. search rules)
     (λ c.
-    let f = c.before.before.before.before in
-    let o = f.before.before.before.before in
-    let l = o.before in
-    let s = l.before.before in
-    let e = s.before in
+    let f = c in
+    let o = f in
+    let l = o in
+    let s = l in
+    let e = s in
     list_exported _ _ _ _ _ _ _ _ _ _ _ _ _
-    (right_buffers _ _ _ e.before.before.if-answer-lt12.false e.before.if-slots-ne384.false e.if-list-lt132.false)
+    (right_buffers _ _ _ e.if-answer-lt12.false e.if-slots-ne384.false e.if-list-lt132.false)
     s.read_slots-agents.ensures l.read_list.ensures o.take-o.ensures tt
     f.finish_list.ensures.0 f.finish_list.ensures.1.0 f.finish_list.ensures.1.1.0 f.finish_list.ensures.1.1.1))

@@ -9,7 +9,7 @@ sarthule_turn_spec =
     tie.close
     (tie.spec
     (λ c. exported_short _ _ _ _ _ c.if-answer-lt12.true)
-    (λ c. exported_slots _ _ _ _ _ c.before.if-answer-lt12.false c.if-slots-ne384.true)
+    (λ c. exported_slots _ _ _ _ _ c.if-answer-lt12.false c.if-slots-ne384.true)
     (λ c κs. search rules)
     (λ c κs. search rules)
     (λ c κs. search rules)
@@ -17,8 +17,8 @@ sarthule_turn_spec =
     (λ c. search rules)
     (λ c. search rules)
     (λ c.
-    let f = c.before.before.before.before in
-    let t = f.before.before.before.before.before in
-    let s = t.before.before in
-    exported _ _ _ _ _ _ _ _ _ _ _ s.before.before.before.if-answer-lt12.false s.before.before.if-slots-ne384.false s.read_slots-agents.ensures
+    let f = c in
+    let t = f in
+    let s = t in
+    exported _ _ _ _ _ _ _ _ _ _ _ s.if-answer-lt12.false s.if-slots-ne384.false s.read_slots-agents.ensures
     t.turn-o.ensures tt f.finish.ensures.0 f.finish.ensures.1.0 f.finish.ensures.1.1.0 f.finish.ensures.1.1.1))

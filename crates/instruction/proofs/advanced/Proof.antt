@@ -5,4 +5,4 @@ use Rattle.instruction.proofs.advanced.Statement.{statement}
 use Rattle.instruction.proofs.advanced.Tie as tie
 
 pub advanced_spec : {M : Type 1} → statement M
-advanced_spec = tie.close (tie.spec (λ c. search rules) (λ c. next_at_lem c.before.before.args.x))
+advanced_spec = tie.close (tie.spec (λ c. search rules) (λ c. next_at_lem c.args.x))

@@ -24,25 +24,25 @@ got_spec =
     (λ c κs. search rules)
     (λ c κs. search rules)
     (λ c.
-    let st = c.before in
-    let m = c.before.before in
-    let sv = m.before in
-    let dk = sv.before.before in
-    let s = dk.before.before.before.before.before in
+    let st = c in
+    let m = c in
+    let sv = m in
+    let dk = sv in
+    let s = dk in
     let a = s.args in
-    let k = dk.data_key_lem.ensures in
+    let k = dk.data_key.ensures in
     let v = m.in-Value.v in
     rw c.at_place.ensures
     (step_get (rows_of a.store.now a.partition) a.x st.with_register.result s.requires.2 a.d a.s k.1 (some v)
     (got_some _ _ (rw k.0 at sv.seen_value-found.ensures) v m.in-Value.is) st.with_register.ensures))
     (λ c.
-    let st = c.before in
-    let m = st.before in
-    let sv = m.before in
-    let dk = sv.before.before in
-    let s = dk.before.before.before.before.before in
+    let st = c in
+    let m = st in
+    let sv = m in
+    let dk = sv in
+    let s = dk in
     let a = s.args in
-    let k = dk.data_key_lem.ensures in
+    let k = dk.data_key.ensures in
     rw c.at_place-in-Absent.ensures
     (step_get (rows_of a.store.now a.partition) a.x st.with_register-in-Absent.result s.requires.2 a.d a.s k.1 none
     (got_none _ _ (rw k.0 at sv.seen_value-found.ensures) m.in-Absent.is) st.with_register-in-Absent.ensures)))

@@ -8,6 +8,6 @@ pub jumped_spec : {M : Type 1} → statement M
 jumped_spec =
     tie.close
     (tie.spec
-    (λ c. rw c.before.if-taken.true refl)
+    (λ c. rw c.if-taken.true refl)
     (λ c κs. search rules)
-    (λ c. rw c.before.if-taken.false c.advanced.ensures))
+    (λ c. rw c.if-taken.false c.advanced.ensures))

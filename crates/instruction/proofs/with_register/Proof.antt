@@ -11,4 +11,4 @@ with_register_spec =
     (λ c. search rules)
     (λ c. search rules)
     (λ c. search rules)
-    (λ c. let a = c.before.before.args in becomes_at a.x a.d a.value))
+    (λ c. let a = c.args in becomes_at a.x a.d a.value))

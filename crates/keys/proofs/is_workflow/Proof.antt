@@ -11,5 +11,5 @@ is_workflow_spec =
     tie.close
     (tie.spec
     (λ c κs. search rules)
-    (λ c. rw (sym c.before.is_book.ensures ∙ c.if-is_book.true) refl)
-    (λ c. rw (sym c.before.is_book.ensures ∙ c.if-is_book.false) refl))
+    (λ c. rw (sym c.is_book.ensures ∙ c.if-is_book.true) refl)
+    (λ c. rw (sym c.is_book.ensures ∙ c.if-is_book.false) refl))

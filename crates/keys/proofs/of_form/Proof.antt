@@ -11,10 +11,10 @@ of_form_spec =
     tie.close
     (tie.spec
     (λ c κs. search rules)
-    (λ c. rw (c.before.before.if-book.true, sym c.before.is_book.ensures ∙ c.if-is_book.true) refl)
+    (λ c. rw (c.if-book.true, sym c.is_book.ensures ∙ c.if-is_book.true) refl)
     (λ c κs. search rules)
-    (λ c. let b = c.before.before in rw (b.before.if-book.true, sym b.is_book.ensures ∙ c.before.if-is_book.false) c.is_floor.ensures)
+    (λ c. let b = c in rw (b.if-book.true, sym b.is_book.ensures ∙ c.if-is_book.false) c.is_floor.ensures)
     (λ c κs. search rules)
-    (λ c. rw (c.before.before.if-book.false, sym c.before.is_data.ensures ∙ c.if-is_data.true) refl)
+    (λ c. rw (c.if-book.false, sym c.is_data.ensures ∙ c.if-is_data.true) refl)
     (λ c κs. search rules)
-    (λ c. rw (c.before.before.before.if-book.false, sym c.before.before.is_data.ensures ∙ c.before.if-is_data.false) c.is_log.ensures))
+    (λ c. rw (c.if-book.false, sym c.is_data.ensures ∙ c.if-is_data.false) c.is_log.ensures))

@@ -14,6 +14,6 @@ turn_one_spec =
     (λ c. search rules)
     (λ c. search rules)
     (λ c.
-    let t = c.before.before.before.before in
-    let w = t.before.before in
-    one_turned _ _ _ _ _ _ _ _ w.before.no_agents.ensures w.with_agent-slots.ensures t.turn-o.ensures))
+    let t = c in
+    let w = t in
+    one_turned _ _ _ _ _ _ _ _ w.no_agents.ensures w.with_agent-slots.ensures t.turn-o.ensures))

@@ -11,5 +11,5 @@ books_below_spec =
     tie.close
     (tie.spec
     (λ c κs. search rules)
-    (λ c. rw (sym c.before.is_workflow.ensures ∙ c.if-is_workflow.true) refl)
-    (λ c. rw (sym c.before.is_workflow.ensures ∙ c.if-is_workflow.false) refl))
+    (λ c. rw (sym c.is_workflow.ensures ∙ c.if-is_workflow.true) refl)
+    (λ c. rw (sym c.is_workflow.ensures ∙ c.if-is_workflow.false) refl))

@@ -13,5 +13,5 @@ check_13_spec =
     (tie.spec
     (λ c κs. search rules)
     (λ c κs. search rules)
-    (λ c. c.opens_right.ensures ∙ sym (and_yes _ _ (sym c.before.before.booked_right.ensures ∙ c.before.if-booked_right.true)))
-    (λ c. sym (and_no _ _ (sym c.before.booked_right.ensures ∙ c.if-booked_right.false))))
+    (λ c. c.opens_right.ensures ∙ sym (and_yes _ _ (sym c.booked_right.ensures ∙ c.if-booked_right.true)))
+    (λ c. sym (and_no _ _ (sym c.booked_right.ensures ∙ c.if-booked_right.false))))

@@ -24,15 +24,15 @@ check_14_spec =
     (λ c. (search rules, slots_start _ _ _))
     (λ c. search rules)
     (λ c. search rules)
-    (λ c κs. c.before.before.before.before.before.requires)
-    (λ c. let l = c.before.before.before.before in
-    sym (slots_no _ _ _ l.loop-slot.slot _ (omega arith) c.before.slot_right.ensures (not-true _ c.if-not-slot_right.true)) ∙ l.loop-slot.invariant.1)
+    (λ c κs. c.requires)
+    (λ c. let l = c in
+    sym (slots_no _ _ _ l.loop-slot.slot _ (omega arith) c.slot_right.ensures c.if-not-slot_right.true) ∙ l.loop-slot.invariant.1)
     (λ c. search rules)
     (λ c. search rules)
     (λ c. (
       search rules,
-      let l = c.before.before.before.before in
-          sym (slots_on _ _ _ l.loop-slot.slot _ (omega arith) c.before.slot_right.ensures (not-false _ c.if-not-slot_right.false))
+      let l = c in
+          sym (slots_on _ _ _ l.loop-slot.slot _ (omega arith) c.slot_right.ensures c.if-not-slot_right.false)
           ∙ l.loop-slot.invariant.1,
     ))
-    (λ c. sym (slots_done _ _ _ _ (omega arith)) ∙ c.before.loop-slot.invariant.1))
+    (λ c. sym (slots_done _ _ _ _ (omega arith)) ∙ c.loop-slot.invariant.1))

@@ -18,7 +18,7 @@ start t = t.before.before.before.before
 
 -- 9 to 12 say yes
 stored : (c : tie.In-Accepted) → store_refusal (start c).args.store.now ≡ none
-stored c = let k = c.before in accepted_none k.check_store-store_verdict.result _ k.check_store-store_verdict.ensures c.in-Accepted.is
+stored c = let k = c in accepted_none k.check_store-store_verdict.result _ k.check_store-store_verdict.ensures c.in-Accepted.is
 
 pub check_behind_pack_spec : {M : Type 1} → statement M
 check_behind_pack_spec =
@@ -32,16 +32,16 @@ check_behind_pack_spec =
     let t = c.before.before.before in
     c.refused.ensures
     ∙ sym (ap verdict_of (thirteen_of_13 _ _ (start t).requires (stored t)
-    (sym c.before.before.check_13.ensures ∙ not-true _ c.before.if-not-check_13.true))))
+    (sym c.check_13.ensures ∙ c.if-not-check_13.true))))
     (λ c. search rules)
     (λ c.
     let t = c.before.before in
     t.in-Accepted.is
     ∙ sym (ap verdict_of (all_thirteen _ _ (start t).requires (stored t)
-    (sym c.before.check_13.ensures ∙ not-false _ c.if-not-check_13.false))))
+    (sym c.check_13.ensures ∙ c.if-not-check_13.false))))
     (λ c.
-    let k = c.before in
-    let s = k.before.before.before in
+    let k = c in
+    let s = k in
     c.in-Refused.is
     ∙ sym (ap verdict_of (thirteen_of_store _ _ s.requires _
     (refused_some k.check_store-store_verdict.result _ _ _ _ k.check_store-store_verdict.ensures c.in-Refused.is)))))

@@ -19,7 +19,7 @@ start t = t.before.before.before.before
 
 -- 1 to 13 say yes
 to_13 : (c : tie.In-Accepted) → let a = (start c).args in first_thirteen a.pack.now a.store.now ≡ none
-to_13 c = let k = c.before in accepted_none k.check_to_13-verdict.result _ k.check_to_13-verdict.ensures c.in-Accepted.is
+to_13 c = let k = c in accepted_none k.check_to_13-verdict.result _ k.check_to_13-verdict.ensures c.in-Accepted.is
 
 pub check_lent_spec : {M : Type 1} → statement M
 check_lent_spec =
@@ -36,16 +36,16 @@ check_lent_spec =
     λ list.
     c.refused.ensures
     ∙ sym (ap verdict_of (no_of_14 _ (record { store = (start t).args.store.now; records = (start t).args.agents; list = list }) (to_13 t)
-    (sym c.before.before.check_14.ensures ∙ not-true _ c.before.if-not-check_14.true))))
+    (sym c.check_14.ensures ∙ c.if-not-check_14.true))))
     (λ c. search rules)
     (λ c.
     let t = c.before.before in
     λ list.
     t.in-Accepted.is
     ∙ sym (ap verdict_of (all_yes _ (record { store = (start t).args.store.now; records = (start t).args.agents; list = list }) (to_13 t)
-    (sym c.before.check_14.ensures ∙ not-false _ c.if-not-check_14.false))))
+    (sym c.check_14.ensures ∙ c.if-not-check_14.false))))
     (λ c.
-    let k = c.before in
+    let k = c in
     λ list.
     c.in-Refused.is
     ∙ sym (ap verdict_of (no_to_13 _ _ _

@@ -13,9 +13,9 @@ check_to_13_spec =
     (tie.spec
     (λ c κs. search rules)
     (λ c. search rules)
-    (λ c κs. let k = c.before in accepted_none k.check-pack_verdict.result _ k.check-pack_verdict.ensures c.in-Accepted.is)
+    (λ c κs. let k = c in accepted_none k.check-pack_verdict.result _ k.check-pack_verdict.ensures c.in-Accepted.is)
     (λ c. search rules)
     (λ c. search rules)
-    (λ c. let k = c.before in
+    (λ c. let k = c in
     c.in-Refused.is
     ∙ sym (ap verdict_of (thirteen_of_pack _ _ _ (refused_some k.check-pack_verdict.result _ _ _ _ k.check-pack_verdict.ensures c.in-Refused.is)))))

@@ -19,7 +19,7 @@ start c = c.before.before.before.before
 lent_yes : (c : tie.In-Accepted) (list : Worklist) →
     let a = (start c).args in
     lent_refusal a.pack.now (record { store = a.store.now; records = a.agents; list = list }) ≡ none
-lent_yes c list = let k = c.before in accepted_none k.check_lent-lent_verdict.result _ (k.check_lent-lent_verdict.ensures list)
+lent_yes c list = let k = c in accepted_none k.check_lent-lent_verdict.result _ (k.check_lent-lent_verdict.ensures list)
     c.in-Accepted.is
 
 pub check_to_16_spec : {M : Type 1} → statement M
@@ -29,25 +29,25 @@ check_to_16_spec =
     (λ c κs. search rules)
     (λ c. search rules)
     (λ c κs. search rules)
-    (λ c. λ list. c.refused.ensures ∙ sym (ap verdict_of (no_of_15 _ _ _ _ (lent_yes c.before.before list) c.before.if-slot-ge8.true)))
+    (λ c. λ list. c.refused.ensures ∙ sym (ap verdict_of (no_of_15 _ _ _ _ (lent_yes c.before.before list) c.if-slot-ge8.true)))
     (λ c. search rules)
     (λ c. search rules)
     (λ c κs. search rules)
     (λ c.
-    let e = c.before.before.before.before in
-    let a = (start e.before).args in
+    let e = c in
+    let a = (start e.before.before.before.before.before).args in
     λ list.
     c.refused-then-a-used.ensures
-    ∙ sym (ap verdict_of (no_of_16 _ _ a.slot a.used (lent_yes e.before list) e.if-slot-ge8.false (came_unlike _ _
-    c.before.if-a-used.true))))
+    ∙ sym (ap verdict_of (no_of_16 _ _ a.slot a.used (lent_yes e.before.before.before.before.before list) e.if-slot-ge8.false (came_unlike _ _
+    c.if-a-used.true))))
     (λ c. search rules)
     (λ c.
-    let e = c.before.before.before in
-    let a = (start e.before).args in
+    let e = c in
+    let a = (start e.before.before.before.before).args in
     λ list.
-    e.before.in-Accepted.is
-    ∙ sym (ap verdict_of (all_sixteen _ _ a.slot a.used (lent_yes e.before list) e.if-slot-ge8.false (came_alike _ _ c.if-a-used.false))))
-    (λ c. let k = c.before in
+    e.in-Accepted.is
+    ∙ sym (ap verdict_of (all_sixteen _ _ a.slot a.used (lent_yes e.before.before.before.before list) e.if-slot-ge8.false (came_alike _ _ c.if-a-used.false))))
+    (λ c. let k = c in
     λ list.
     c.in-Refused.is
     ∙ sym (ap verdict_of (no_of_lent _ _ _ _ _

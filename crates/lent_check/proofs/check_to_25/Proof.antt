@@ -19,7 +19,7 @@ lent_yes : (c : tie.In-Accepted) →
     let a = (start c).args in
     lent_refusal a.pack.now (record { store = a.store.now; records = a.agents; list = a.list }) ≡ none
 lent_yes c =
-    let k = c.before in
+    let k = c in
     accepted_none k.check_lent-verdict.result _ (k.check_lent-verdict.ensures (start c).args.list) c.in-Accepted.is
 
 pub check_to_25_spec : {M : Type 1} → statement M
@@ -35,16 +35,16 @@ check_to_25_spec =
     c.refused.ensures
     ∙ sym (ap verdict_of (list_of_25 _
     (record { store = (start t).args.store.now; records = (start t).args.agents; list = (start t).args.list })
-    (lent_yes t) (sym c.before.before.is_right.ensures ∙ not-true _ c.before.if-not-is_right.true))))
+    (lent_yes t) (sym c.is_right.ensures ∙ c.if-not-is_right.true))))
     (λ c. search rules)
     (λ c.
     let t = c.before.before in
     t.in-Accepted.is
     ∙ sym (ap verdict_of (list_all _
     (record { store = (start t).args.store.now; records = (start t).args.agents; list = (start t).args.list })
-    (lent_yes t) (sym c.before.is_right.ensures ∙ not-false _ c.if-not-is_right.false))))
+    (lent_yes t) (sym c.is_right.ensures ∙ c.if-not-is_right.false))))
     (λ c.
-    let k = c.before in
+    let k = c in
     c.in-Refused.is
     ∙ sym (ap verdict_of (list_of_lent _ _ _
     (refused_some k.check_lent-verdict.result _ _ _ _ (k.check_lent-verdict.ensures _) c.in-Refused.is)))))

@@ -16,6 +16,6 @@ opens_below_spec =
     (λ c κs. search rules)
     (λ c κs. search rules)
     (λ c. search rules)
-    (λ c. let b = c.before.before in
-    rw (sym c.read32.ensures, eq-eqb _ op_begin (sym b.operation_of.ensures ∙ c.before.if-operation_of-eq-BEGIN.true)))
-    (λ c. rw (ne_eqb _ op_begin (λ e. c.if-operation_of-eq-BEGIN.false (c.before.operation_of.ensures ∙ e)))))
+    (λ c. let b = c in
+    rw (sym c.read32.ensures, eq-eqb _ op_begin (sym b.operation_of.ensures ∙ c.if-operation_of-eq-BEGIN.true)))
+    (λ c. rw (ne_eqb _ op_begin (λ e. c.if-operation_of-eq-BEGIN.false (c.operation_of.ensures ∙ e)))))

@@ -34,7 +34,7 @@ opens_right_spec =
     (λ c. search rules)
     (λ c. search rules)
     (λ c. search rules)
-    (λ c. (search rules, opens_start _ _ _ c.before.first_of-instructions.ensures))
+    (λ c. (search rules, opens_start _ _ _ c.first_of-instructions.ensures))
     (λ c. search rules)
     (λ c. search rules)
     (λ c. search rules)
@@ -43,8 +43,8 @@ opens_right_spec =
     let l = c.before.before.before in
     let s = (start l).args in
     sym (opens_no s.pack.now s.store.now _ l.loop-instruction.instruction (count s.pack.now) _ _ (omega arith) refl
-    l.before.before.first_of-instructions.ensures l.before.partition_count-partitions.ensures
-    c.before.opens_below.ensures (not-true _ c.if-not-opens_below.true))
+    l.first_of-instructions.ensures l.partition_count-partitions.ensures
+    c.opens_below.ensures c.if-not-opens_below.true)
     ∙ l.loop-instruction.invariant.1)
     (λ c. search rules)
     (λ c. search rules)
@@ -53,8 +53,8 @@ opens_right_spec =
       let l = c.before.before.before in
           let s = (start l).args in
           sym (opens_on s.pack.now s.store.now _ l.loop-instruction.instruction (count s.pack.now) _ _ (omega arith) refl
-          l.before.before.first_of-instructions.ensures l.before.partition_count-partitions.ensures
-          c.before.opens_below.ensures (not-false _ c.if-not-opens_below.false))
+          l.first_of-instructions.ensures l.partition_count-partitions.ensures
+          c.opens_below.ensures c.if-not-opens_below.false)
           ∙ l.loop-instruction.invariant.1,
     ))
-    (λ c. sym (opens_done _ _ _ _ (omega arith)) ∙ c.before.loop-instruction.invariant.1))
+    (λ c. sym (opens_done _ _ _ _ (omega arith)) ∙ c.loop-instruction.invariant.1))

@@ -10,6 +10,6 @@ slot_right_spec =
     tie.close
     (tie.spec
     (λ c κs. search rules)
-    (λ c. c.sound.ensures ∙ sym (slot_used _ _ _ c.before.if-a.true))
+    (λ c. c.sound.ensures ∙ sym (slot_used _ _ _ c.if-a.true))
     (λ c κs. search rules)
-    (λ c. c.is_blank.ensures ∙ sym (slot_free _ _ _ c.before.if-a.false)))
+    (λ c. c.is_blank.ensures ∙ sym (slot_free _ _ _ c.if-a.false)))

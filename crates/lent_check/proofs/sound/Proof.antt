@@ -18,8 +18,8 @@ start c = c.before.before.before.before
 -- the workflow that the book has is below m
 below : (c : tie.In-Value-2) → c.in-Value.workflow < count (start c).args.pack.now
 below c =
-    let k = c.before in
-    let s = k.before.before.before in
+    let k = c in
+    let s = k in
     workflow_below s.args.pack.now s.args.store.now s.args.a.id _ k.booked_workflow-booked.ensures.1 s.requires.2
     (got_some _ k.booked_workflow-booked.result k.booked_workflow-booked.ensures.0 _ c.in-Value.is)
 
@@ -34,38 +34,38 @@ sound_spec =
     (λ c κs. ((start c).requires.0, below c))
     (λ c. search rules)
     (λ c.
-    let o = c.before.before in
-    let g = o.before in
-    let k = g.before in
-    let s = k.before.before.before in
+    let o = c in
+    let g = o in
+    let k = g in
+    let s = k in
     sym (sound_long s.args.pack.now (book_rows s.args.store.now) s.args.a k.booked_workflow-booked.ensures.1
     k.booked_workflow-booked.result _
     k.booked_workflow-booked.ensures.0 g.in-Value.is s.requires.0 (below g) _ o.operations_part-ops.ensures c.if-ops-position.true))
     (λ c κs. (search rules, refl))
     (λ c.
-    let l = c.before.before in
-    let o = l.before.before in
-    let g = o.before in
-    let k = g.before in
-    let s = k.before.before.before in
+    let l = c in
+    let o = l in
+    let g = o in
+    let k = g in
+    let s = k in
     sym (sound_inside s.args.pack.now (book_rows s.args.store.now) s.args.a k.booked_workflow-booked.ensures.1
     k.booked_workflow-booked.result _
     k.booked_workflow-booked.ensures.0 g.in-Value.is s.requires.0 (below g) _ o.operations_part-ops.ensures l.if-ops-position.false
-    (sym c.before.is_inside.ensures ∙ c.if-is_inside.true)))
+    (sym c.is_inside.ensures ∙ c.if-is_inside.true)))
     (λ c. search rules)
     (λ c.
-    let l = c.before.before.before in
-    let o = l.before.before in
-    let g = o.before in
-    let k = g.before in
-    let s = k.before.before.before in
+    let l = c in
+    let o = l in
+    let g = o in
+    let k = g in
+    let s = k in
     sym (sound_rest s.args.pack.now (book_rows s.args.store.now) s.args.a k.booked_workflow-booked.ensures.1
     k.booked_workflow-booked.result _
     k.booked_workflow-booked.ensures.0 g.in-Value.is s.requires.0 (below g) _ o.operations_part-ops.ensures l.if-ops-position.false
-    (sym c.before.before.is_inside.ensures ∙ c.before.if-is_inside.false)))
+    (sym c.is_inside.ensures ∙ c.if-is_inside.false)))
     (λ c.
-    let k = c.before in
-    let s = k.before.before.before in
+    let k = c in
+    let s = k in
     sym (sound_none s.args.pack.now (book_rows s.args.store.now) s.args.a k.booked_workflow-booked.ensures.1
     k.booked_workflow-booked.result k.booked_workflow-booked.ensures.0
     c.in-Absent.is)))

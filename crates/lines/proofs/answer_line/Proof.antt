@@ -16,10 +16,10 @@ answer_line_spec =
     (λ c κs. search rules)
     (λ c κs. search rules)
     (λ c. search rules)
-    (λ c. let d4 = c.before.before in
-    let d3 = d4.before.before.before.before in
-    let d2 = d3.before.before.before.before in
-    let d1 = d2.before.before.before.before in (
+    (λ c. let d4 = c in
+    let d3 = d4 in
+    let d2 = d3 in
+    let d1 = d2 in (
       appended_then d1.append_number-written.ensures.0
           (appended_then d2.append_byte-written.ensures (appended_then d3.append_answer-written.ensures.0 d4.append_byte.ensures)),
       omega

@@ -28,17 +28,17 @@ append_answer_spec =
     (λ c. search rules)
     (λ c κs. search rules)
     (λ c. search rules)
-    (λ c. let d = c.before.before in
-    (answer_as _ _ d.before.before.before.in-Done.is d.append_bytes.ensures, omega arith))
+    (λ c. let d = c in
+    (answer_as _ _ d.in-Done.is d.append_bytes.ensures, omega arith))
     (λ c. search rules)
-    (λ c. let d = c.before.before in
-    (answer_as _ _ d.before.before.in-Moved.is d.append_bytes-in-Moved.ensures, omega arith))
+    (λ c. let d = c in
+    (answer_as _ _ d.in-Moved.is d.append_bytes-in-Moved.ensures, omega arith))
     (λ c. search rules)
-    (λ c. let d = c.before.before in
-    (answer_as _ _ d.before.before.in-Reply.is d.append_reply.ensures.0, omega arith))
+    (λ c. let d = c in
+    (answer_as _ _ d.in-Reply.is d.append_reply.ensures.0, omega arith))
     (λ c. search rules)
-    (λ c. let d = c.before.before in
-    (answer_as _ _ d.before.before.in-Given.is d.append_taken.ensures.0, omega arith))
+    (λ c. let d = c in
+    (answer_as _ _ d.in-Given.is d.append_taken.ensures.0, omega arith))
     (λ c. search rules)
     (λ c. let d = c.before.before in
     (answer_as _ _ d.before.before.before.in-Refused.is d.append_refused.ensures.0, omega arith)))

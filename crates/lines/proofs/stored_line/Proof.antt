@@ -10,22 +10,22 @@ stored_line_spec =
     tie.close
     (tie.spec
     (λ c κs. search rules)
-    (λ c κs. sym c.before.before.is_data.ensures ∙ c.before.if-is_data.true)
+    (λ c κs. sym c.is_data.ensures ∙ c.if-is_data.true)
     (λ c κs. search rules)
     (λ c. search rules)
-    (λ c. let d = c.before.before in
-    let b = d.before.before.before.before in (
-      data_line _ _ _ (sym b.is_data.ensures ∙ d.before.before.before.if-is_data.true)
-          (rw (← d.before.data_of.ensures) d.row_Line.ensures.0),
+    (λ c. let d = c in
+    let b = d in (
+      data_line _ _ _ (sym b.is_data.ensures ∙ d.if-is_data.true)
+          (rw (← d.data_of.ensures) d.row_Line.ensures.0),
       d.row_Line.ensures.1,
     ))
     (λ c κs. search rules)
     (λ c κs. search rules)
     (λ c κs. search rules)
     (λ c. search rules)
-    (λ c. let d = c.before.before in
-    let b = d.before.before.before.before.before in (
-      log_line_lem _ _ _ (sym b.is_data.ensures ∙ d.before.before.before.before.if-is_data.false)
-          (rw (← d.before.before.id_of.ensures, ← d.before.step_of_lem.ensures) d.log_line_lem.ensures.0),
-      d.log_line_lem.ensures.1,
+    (λ c. let d = c in
+    let b = d in (
+      log_line_lem _ _ _ (sym b.is_data.ensures ∙ d.if-is_data.false)
+          (rw (← d.id_of.ensures, ← d.step_of.ensures) d.log_line.ensures.0),
+      d.log_line.ensures.1,
     )))

@@ -30,15 +30,15 @@ start c = c.before.before.before.before.before.before
 
 -- in the loop: the row is one of the partition's
 row_there : (c : tie.In-loop-row invariant-loop decreases-loop) →
-    let a = (start c).args in c.before.loop-row.row < length (rows_of a.store.now a.partition)
+    let a = (start c).args in c.loop-row.row < length (rows_of a.store.now a.partition)
 row_there c = omega (arith, (start c).requires.3)
 
 -- and so both its places lie within the store
 places : (c : tie.In-loop-row invariant-loop decreases-loop)
-    → (c.before.loop-row.key_from + 8 ≤ length (start c).args.store.now)
-    × (c.before.loop-row.value_from + 4 ≤ length (start c).args.store.now)
+    → (c.loop-row.key_from + 8 ≤ length (start c).args.store.now)
+    × (c.loop-row.value_from + 4 ≤ length (start c).args.store.now)
 places c =
-    let lp = c.before in
+    let lp = c in
     let st = start c in
     let h = row_within st.args.store.now st.requires.0.formed st.args.partition st.requires.1 lp.loop-row.row (row_there c) in
     (omega (arith, lp.loop-row.invariant.1, h.0), omega (arith, lp.loop-row.invariant.2, h.1))
@@ -53,15 +53,15 @@ print_rows_spec =
     (tie.spec
     invariant-loop
     decreases-loop
-    (λ c κs. let st = c.before.before in
+    (λ c κs. let st = c in
     let h = st.requires.0.formed in
     (h.shape, st.requires.1, omega (arith, h.shape.cap_low, used_le st.args.store.now h st.args.partition st.requires.1)))
-    (λ c κs. let st = c.before.before.before in
+    (λ c κs. let st = c in
     let h = st.requires.0.formed in
     (h.shape, st.requires.1, omega (arith, h.shape.cap_low, used_le st.args.store.now h st.args.partition st.requires.1)))
     (λ c. (
       printing_none _ _ _ _ (omega arith) (lines_all _ _ _ _),
-      c.before.key_place-key_from.ensures,
+      c.key_place-key_from.ensures,
       c.value_place-value_from.ensures,
       refl,
       omega arith,
@@ -74,11 +74,11 @@ print_rows_spec =
     (λ c. omega (arith, (places (turn c)).1))
     (λ c. let st = start (turn c) in omega (arith, few_rows _ _ st.requires.0 st.requires.1))
     (λ c. search rules)
-    (λ c. let d = c.before.before in
-    let v = d.before.before in
-    let k = v.before in
-    let i = k.before in
-    let l = i.before.loop-row in
+    (λ c. let d = c in
+    let v = d in
+    let k = v in
+    let i = k.before.before.before.before.before.before in
+    let l = i.loop-row in
     let st = start i in
     let a = st.args in
     let key = key_read a.store.now a.partition l.row (row_there i) l.key_from _ l.invariant.1 k.read64-key.ensures in
@@ -92,4 +92,4 @@ print_rows_spec =
       omega arith,
     ))
     (λ c. search rules)
-    (λ c. (printing_done c.before.loop-row.invariant.0 (lines_none _ _ _ _ (omega arith)), omega arith)))
+    (λ c. (printing_done c.loop-row.invariant.0 (lines_none _ _ _ _ (omega arith)), omega arith)))

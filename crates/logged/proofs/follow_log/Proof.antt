@@ -36,38 +36,38 @@ follow_log_spec =
     (tie.spec
     invariant-loop
     decreases-loop
-    (λ c. (c.before.before.before.requires.1, rw sub-zero refl))
-    (λ c κs. ((start c.before).requires.0, c.before.loop-moves.invariant.0))
+    (λ c. (c.requires.1, rw sub-zero refl))
+    (λ c κs. ((start c.before).requires.0, c.loop-moves.invariant.0))
     (λ c. search rules)
     (λ c.
-    let m = c.before in
-    let lp = m.before.before in
+    let m = c in
+    let lp = m.before.before.before in
     ap by_reply
     (sym (comes_to _ _ _ (start lp).requires.0 lp.loop-moves.place _ lp.loop-moves.invariant.0 _ _ m.move_by_log-stage.result
-    m.move_by_log-stage.ensures _ _ m.before.loop-moves-test.true _ c.in-Finished.is)
+    m.move_by_log-stage.ensures _ _ m.loop-moves-test.true _ c.in-Finished.is)
     ∙ lp.loop-moves.invariant.1))
     (λ c. search rules)
     (λ c.
-    let m = c.before in
-    let lp = m.before.before in
+    let m = c in
+    let lp = m.before.before.before in
     ap by_reply
     (sym (no_further _ _ _ (start lp).requires.0 lp.loop-moves.place _ lp.loop-moves.invariant.0 _ _ m.move_by_log-stage.result
-    m.move_by_log-stage.ensures _ _ m.before.loop-moves-test.true c.in-NotLogged.is)
+    m.move_by_log-stage.ensures _ _ m.loop-moves-test.true c.in-NotLogged.is)
     ∙ lp.loop-moves.invariant.1))
     (λ c. search rules)
     (λ c. search rules)
     (λ c. search rules)
     (λ c.
-    let t = c.before in
-    let m = t.before in
-    let lp = m.before.before in (
+    let t = c in
+    let m = t in
+    let lp = m.before.before.before.before in (
       stands_further _ _ _ (start lp).requires.0 lp.loop-moves.place _ lp.loop-moves.invariant.0 _ _ m.move_by_log-stage.result m.move_by_log-stage.ensures
           t.in-UnderWay.is,
       sym
           (still_sought _ _ _ (start lp).requires.0 lp.loop-moves.place _ lp.loop-moves.invariant.0 _ _ m.move_by_log-stage.result
-          m.move_by_log-stage.ensures _ _ m.before.loop-moves-test.true t.in-UnderWay.is)
+          m.move_by_log-stage.ensures _ _ m.loop-moves-test.true t.in-UnderWay.is)
           ∙ lp.loop-moves.invariant.1,
     ))
     (λ c.
-    let lp = c.before in
+    let lp = c in
     ap by_reply (sym (used_up _ _ _ _ _ c.loop-moves-test.false _ _) ∙ lp.loop-moves.invariant.1)))

@@ -15,9 +15,9 @@ log_row_spec =
     (λ c κs. search rules)
     (λ c κs. search rules)
     (λ c.
-    let k = c.before in
-    let st = k.before.before in
+    let k = c in
+    let st = k in
     let s = st.args in
     c.get.ensures
-    ∙ ap (λ (n : ℕ). got_of (lookup n (rows_of s.store.now s.partition))) k.log_key_lem.ensures.0
-    ∙ ap got_of (usual_row s.store.now s.partition s.id s.step st.requires.1 k.log_key_lem.ensures.1 k.log_key_lem.ensures.2)))
+    ∙ ap (λ (n : ℕ). got_of (lookup n (rows_of s.store.now s.partition))) k.log_key.ensures.0
+    ∙ ap got_of (usual_row s.store.now s.partition s.id s.step st.requires.1 k.log_key.ensures.1 k.log_key.ensures.2)))

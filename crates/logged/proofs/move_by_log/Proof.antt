@@ -13,7 +13,7 @@ pub move_by_log_spec : {M : Type 1} → statement M
 move_by_log_spec =
     tie.close
     (tie.spec
-    (λ c κs. let s = c.before.before.before in may_ask _ _ _ s.requires.0 s.args.from _ s.requires.1)
+    (λ c κs. let s = c in may_ask _ _ _ s.requires.0 s.args.from _ s.requires.1)
     (λ c. search rules)
     (λ c. search rules)
     (λ c κs.
@@ -22,8 +22,8 @@ move_by_log_spec =
     let s = start n in
     may_seek _ _ _ s.requires.0 s.args.from _ s.requires.1 n.next_of-upcoming.result n.next_of-upcoming.ensures _ x.in-Does.is)
     (λ c κs.
-    let x = c.before in
-    let n = x.before.before in
+    let x = c in
+    let n = x.before.before.before in
     let s = start n in
     may_pass _ _ _ s.requires.0 s.args.from _ s.requires.1 n.next_of-upcoming.result n.next_of-upcoming.ensures _ x.in-Does.is)
     (λ c. search rules)
@@ -32,9 +32,9 @@ move_by_log_spec =
     let s = start n in
     goes_on _ _ _ s.requires.0 s.args.from _ s.requires.1 n.next_of-upcoming.result n.next_of-upcoming.ensures _ _ c.in-Goes.is)
     (λ c.
-    let l = c.before in
-    let x = l.before in
-    let n = x.before.before in
+    let l = c in
+    let x = l in
+    let n = x.before.before.before.before in
     let s = start n in
     c.pass_block.ensures s.args.operands.now _ l.log_row-row.ensures
     ∙ passes _ _ _ s.requires.0 s.args.from _ s.requires.1 n.next_of-upcoming.result n.next_of-upcoming.ensures _ x.in-Does.is _ _)

@@ -12,5 +12,5 @@ pass_block_spec =
     (λ c κs. search rules)
     (λ c. search rules)
     (λ c. search rules)
-    (λ c ws logged e. row_passes _ _ logged _ e _ c.before.in-Value.is _ (c.behind_block_lem.ensures ws))
+    (λ c ws logged e. row_passes _ _ logged _ e _ c.in-Value.is _ (c.behind_block.ensures ws))
     (λ c ws logged e. no_row _ _ logged _ e c.in-Absent.is))

@@ -18,12 +18,12 @@ entry_of_spec =
     (λ c κs. search rules)
     (λ c κs. search rules)
     (λ c.
-    let o = c.before.before.before.before in
-    let op = operation_of o.before.args.byte in
-    let e = c.before.before.before.packed_of-entry.ensures ∙ ap packed_of o.operation_of.ensures in
+    let o = c in
+    let op = operation_of o.args.byte in
+    let e = c.packed_of-entry.ensures ∙ ap packed_of o.operation_of.ensures in
     λ i.
     record {
-      side = c.before.before.side_in-side.ensures (side_of op) (operand_of op) (fixed_of op) e i;
-      operand = c.before.operand_in-operand.ensures (side_of op) (operand_of op) (fixed_of op) e i;
+      side = c.side_in-side.ensures (side_of op) (operand_of op) (fixed_of op) e i;
+      operand = c.operand_in-operand.ensures (side_of op) (operand_of op) (fixed_of op) e i;
       fixed = c.fixed_in.ensures (side_of op) (operand_of op) (fixed_of op) e i;
     }))

@@ -14,6 +14,6 @@ operand_in_spec =
     (λ c s o f e. is_zero o (sym (operand_bits_lem _ s o f e) ∙ sym (and_mask _ 2) ∙ c.if-bits-eq3.true))
     (λ c s o f e.
     is_any o
-    (λ q. c.before.before.if-bits-eq1.false (and_mask _ 2 ∙ operand_bits_lem _ s o f e ∙ q))
-    (λ q. c.before.if-bits-eq2.false (and_mask _ 2 ∙ operand_bits_lem _ s o f e ∙ q))
+    (λ q. c.if-bits-eq1.false (and_mask _ 2 ∙ operand_bits_lem _ s o f e ∙ q))
+    (λ q. c.if-bits-eq2.false (and_mask _ 2 ∙ operand_bits_lem _ s o f e ∙ q))
     (λ q. c.if-bits-eq3.false (and_mask _ 2 ∙ operand_bits_lem _ s o f e ∙ q))))

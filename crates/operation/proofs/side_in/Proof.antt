@@ -13,5 +13,5 @@ side_in_spec =
     (λ c s o f e. is_outside s (sym (side_bits_lem _ s o f e) ∙ sym (and_mask _ 2) ∙ c.if-bits-eq2.true))
     (λ c s o f e.
     is_anywhere s
-    (λ q. c.before.if-bits-eq1.false (and_mask _ 2 ∙ side_bits_lem _ s o f e ∙ q))
+    (λ q. c.if-bits-eq1.false (and_mask _ 2 ∙ side_bits_lem _ s o f e ∙ q))
     (λ q. c.if-bits-eq2.false (and_mask _ 2 ∙ side_bits_lem _ s o f e ∙ q))))

@@ -14,9 +14,9 @@ check_spec =
     (tie.spec
     (λ c κs. search rules)
     (λ c. search rules)
-    (λ c κs. laid _ (accepted _ _ c.before.check_layout-v.ensures c.in-Accepted.is))
+    (λ c κs. laid _ (accepted _ _ c.check_layout-v.ensures c.in-Accepted.is))
     (λ c. search rules)
-    (λ c. let e = c.before in
+    (λ c. let e = c in
     c.check_workflows.ensures
-    ∙ ap verdict_of (sym (layout_fine _ _ e.before.check_layout-v.ensures e.in-Accepted.is)))
-    (λ c. layout_refused _ _ _ _ _ c.before.check_layout-v.ensures c.in-Refused.is))
+    ∙ ap verdict_of (sym (layout_fine _ _ e.check_layout-v.ensures e.in-Accepted.is)))
+    (λ c. layout_refused _ _ _ _ _ c.check_layout-v.ensures c.in-Refused.is))

@@ -28,7 +28,7 @@ decreases-loop pack m operations operands first₀ workflow₀ first workflow = 
 loop_holds : tie.Need-loop-workflow-init invariant-loop decreases-loop
 unfolding first_of
 loop_holds c =
-    let p = c.before.before.before.before.args.pack.now in
+    let p = c.args.pack.now in
     (omega arith, refl, ap (λ n. first_no (workflow_no p) n 0) (omega arith))
 
 -- where the call began, and the pack that it was lent, from the loop on
@@ -40,41 +40,41 @@ lent l = (began l).args.pack.now
 
 -- the parts of a workflow are within the pack
 module _ (c : tie.After-size_at-size invariant-loop decreases-loop) where
-  few : c.before.before.loop-workflow.first + c.size_at-size.result ≤ 2048
+  few : c.loop-workflow.first + c.size_at-size.result ≤ 2048
   few =
       let l = c.before.before in
       let s = began l in
       omega (
         arith,
-        few_instructions s.args.pack.now s.requires l.loop-workflow.workflow c.before.loop-workflow-test.true,
+        few_instructions s.args.pack.now s.requires l.loop-workflow.workflow c.loop-workflow-test.true,
         c.size_at-size.ensures,
         l.loop-workflow.invariant.1,
       )
 
   operations_fit : let l = c.before.before in
-      l.before.before.operations_begin-operations.result + l.loop-workflow.first + c.size_at-size.result ≤ length
+      l.operations_begin-operations.result + l.loop-workflow.first + c.size_at-size.result ≤ length
       (lent l)
   operations_fit =
       let l = c.before.before in
       let s = began l in
       omega (
         arith,
-        operations_within s.args.pack.now s.requires l.loop-workflow.workflow c.before.loop-workflow-test.true,
-        l.before.before.operations_begin-operations.ensures,
+        operations_within s.args.pack.now s.requires l.loop-workflow.workflow c.loop-workflow-test.true,
+        l.operations_begin-operations.ensures,
         c.size_at-size.ensures,
         l.loop-workflow.invariant.1,
       )
 
   operands_fit : let l = c.before.before in
-      l.before.operands_begin-operands.result + 4 * l.loop-workflow.first + 4 * c.size_at-size.result ≤ length
+      l.operands_begin-operands.result + 4 * l.loop-workflow.first + 4 * c.size_at-size.result ≤ length
       (lent l)
   operands_fit =
       let l = c.before.before in
       let s = began l in
       omega (
         arith,
-        operands_within s.args.pack.now s.requires l.loop-workflow.workflow c.before.loop-workflow-test.true,
-        l.before.operands_begin-operands.ensures,
+        operands_within s.args.pack.now s.requires l.loop-workflow.workflow c.loop-workflow-test.true,
+        l.operands_begin-operands.ensures,
         c.size_at-size.ensures,
         l.loop-workflow.invariant.1,
       )
@@ -83,38 +83,38 @@ module _ (c : tie.After-size_at-size invariant-loop decreases-loop) where
   short : length (lent c.before.before) ≤ 10273
   short = let s = began c.before.before in omega (arith, s.requires.whole, s.requires.few, s.requires.short)
 
--- the parts in hand are the workflow's
+   the parts in hand are the workflow's
 module _ (c : tie.After-part invariant-loop decreases-loop) where
   operations_here : let l = c.before.before.before.before in
-      c.before.part-ops.result.now ≡ operations_of (lent l) l.loop-workflow.workflow
+      c.part-ops.result.now ≡ operations_of (lent l) l.loop-workflow.workflow
   operations_here =
-      let z = c.before.before in
-      let l = z.before.before in
-      operations_are _ _ _ _ l.loop-workflow.invariant.1 z.size_at-size.ensures _ _ l.before.before.operations_begin-operations.ensures
-      c.before.part-ops.ensures
+      let z = c in
+      let l = z in
+      operations_are _ _ _ _ l.loop-workflow.invariant.1 z.size_at-size.ensures _ _ l.operations_begin-operations.ensures
+      c.part-ops.ensures
 
   operands_here : let l = c.before.before.before.before in
       c.part.result.now ≡ operands_of (lent l) l.loop-workflow.workflow
   operands_here =
-      let z = c.before.before in
-      let l = z.before.before in
-      operands_are _ _ _ _ l.loop-workflow.invariant.1 z.size_at-size.ensures _ _ l.before.operands_begin-operands.ensures c.part.ensures
+      let z = c in
+      let l = z in
+      operands_are _ _ _ _ l.loop-workflow.invariant.1 z.size_at-size.ensures _ _ l.operands_begin-operands.ensures c.part.ensures
 
   workflow_here : let l = c.before.before.before.before in
-      code_no l.loop-workflow.workflow c.before.part-ops.result.now c.part.result.now ≡ workflow_no
+      code_no l.loop-workflow.workflow c.part-ops.result.now c.part.result.now ≡ workflow_no
       (lent l) l.loop-workflow.workflow
   workflow_here = parts_of_lem _ _ _ _ operations_here operands_here
 
-  sized : (1 ≤ length c.before.part-ops.result.now) × (length c.part.result.now ≡ 4 * length c.before.part-ops.result.now)
+  sized : (1 ≤ length c.part-ops.result.now) × (length c.part.result.now ≡ 4 * length c.part-ops.result.now)
   sized =
-      let t = c.before.before.before in
-      let l = t.before in
+      let t = c in
+      let l = t.before.before.before.before in
       let s = began l in
       let a = ap length operations_here ∙ length_operations s.args.pack.now s.requires l.loop-workflow.workflow t.loop-workflow-test.true in
       let b = ap length operands_here ∙ length_operands s.args.pack.now s.requires l.loop-workflow.workflow t.loop-workflow-test.true in
       (omega (arith, a, (s.requires.sizes l.loop-workflow.workflow t.loop-workflow-test.true).0), omega (arith, a, b))
 
--- the verdict on a workflow
+   the verdict on a workflow
 told : (c : tie.After-check_workflow-v invariant-loop decreases-loop) →
     let l = c.before.before.before.before.before in
     c.check_workflow-v.result ≡ verdict_of (workflow_no (lent l) l.loop-workflow.workflow)
@@ -142,17 +142,17 @@ check_workflows_spec =
     (λ c. search rules)
     (λ c.
     let k = c.before in
-    let t = k.before.before.before.before in
-    first_stop _ _ _ t.loop-workflow-test.true _ _ _ _ (told k) c.in-Refused.is ∙ ap verdict_of (sym t.before.loop-workflow.invariant.2))
+    let t = k in
+    first_stop _ _ _ t.loop-workflow-test.true _ _ _ _ (told k) c.in-Refused.is ∙ ap verdict_of (sym t.loop-workflow.invariant.2))
     (λ c. search rules)
     (λ c. omega (arith, few c.before.before.before.before))
     (λ c. search rules)
     (λ c. search rules)
     (λ c.
     let k = c.before in
-    let z = k.before.before.before in
-    let t = z.before in
-    let l = t.before in (
+    let z = k in
+    let t = z in
+    let l = t.before.before.before.before.before in (
       omega arith,
       omega (
         arith,
@@ -162,4 +162,4 @@ check_workflows_spec =
       ),
       l.loop-workflow.invariant.2 ∙ first_yes _ _ _ t.loop-workflow-test.true _ (told k) c.in_default.is,
     ))
-    (λ c. ap verdict_of (sym (c.before.loop-workflow.invariant.2 ∙ first_done _ _ _ c.loop-workflow-test.false))))
+    (λ c. ap verdict_of (sym (c.loop-workflow.invariant.2 ∙ first_done _ _ _ c.loop-workflow-test.false))))

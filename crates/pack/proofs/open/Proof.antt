@@ -11,8 +11,8 @@ use Rattle.pack.proofs.Workflows.{pack_laid, pack_refused, pack_fine, is_below, 
 use Rattle.pack.proofs.open.Statement.{statement}
 use Rattle.pack.proofs.open.Tie as tie
 
-laid_here : (c : tie.In-Accepted) → Laid c.before.before.before.args.pack.now
-laid_here c = pack_laid _ (accepted _ _ c.before.check-v.ensures c.in-Accepted.is)
+laid_here : (c : tie.In-Accepted) → Laid c.args.pack.now
+laid_here c = pack_laid _ (accepted _ _ c.check-v.ensures c.in-Accepted.is)
 
 pub open_spec : {M : Type 1} → statement M
 unfolding ask
@@ -24,13 +24,13 @@ open_spec =
     (λ c κs. omega (arith, (laid_here c).whole))
     (λ c κs. search rules)
     (λ c. search rules)
-    (λ c. let e = c.before.before in
-    ap verdict_of (sym (pack_fine _ _ _ true e.before.check-v.ensures e.in-Accepted.is
-    (is_below e.before.before.before.args.pack.now _ _ c.before.count_of.ensures c.if-workflow-count_of.true))))
+    (λ c. let e = c in
+    ap verdict_of (sym (pack_fine _ _ _ true e.check-v.ensures e.in-Accepted.is
+    (is_below e.args.pack.now _ _ c.count_of.ensures c.if-workflow-count_of.true))))
     (λ c.
-    let e = c.before.before.before in
+    let e = c in
     c.refused.ensures ∙ ap verdict_of
-    (sym (pack_fine _ _ _ false e.before.check-v.ensures e.in-Accepted.is
-    (not_below e.before.before.before.args.pack.now _ _ c.before.before.count_of.ensures
-    c.before.if-workflow-count_of.false))))
-    (λ c. pack_refused _ _ _ _ _ _ c.before.check-v.ensures c.in-Refused.is))
+    (sym (pack_fine _ _ _ false e.check-v.ensures e.in-Accepted.is
+    (not_below e.args.pack.now _ _ c.count_of.ensures
+    c.if-workflow-count_of.false))))
+    (λ c. pack_refused _ _ _ _ _ _ c.check-v.ensures c.in-Refused.is))

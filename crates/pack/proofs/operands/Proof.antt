@@ -8,8 +8,8 @@ use Rattle.pack.proofs.Workflows.{open_laid, open_below, opened_part, opened_non
 use Rattle.pack.proofs.operands.Statement.{statement}
 use Rattle.pack.proofs.operands.Tie as tie
 
-opens : (c : tie.In-Accepted) → let a = c.before.before.before.args in open_refusal a.pack.now a.workflow ≡ none
-opens c = accepted _ _ c.before.open-v.ensures c.in-Accepted.is
+opens : (c : tie.In-Accepted) → let a = c.args in open_refusal a.pack.now a.workflow ≡ none
+opens c = accepted _ _ c.open-v.ensures c.in-Accepted.is
 
 pub operands_spec : {M : Type 1} → statement M
 operands_spec =
@@ -21,4 +21,4 @@ operands_spec =
     (λ c. search rules)
     (λ c. search rules)
     (λ c. c.operands_part.ensures ∙ sym (opened_part _ _ (opens c.before)))
-    (λ c. sym (opened_none _ _ _ _ _ _ c.before.before.open-v.ensures c.in-Refused.is)))
+    (λ c. sym (opened_none _ _ _ _ _ _ c.open-v.ensures c.in-Refused.is)))

@@ -10,13 +10,13 @@ operands_at_spec =
     tie.close
     (tie.spec
     (λ c κs. search rules)
-    (λ c κs. let s = c.before.before in (omega (arith, s.requires.0.few, s.requires.1), omega (arith, s.requires.0.whole, s.requires.1)))
+    (λ c κs. let s = c in (omega (arith, s.requires.0.few, s.requires.1), omega (arith, s.requires.0.whole, s.requires.1)))
     (λ c.
-    let s = c.before.before.before in
+    let s = c in
     let f = few_instructions s.args.pack.now s.requires.0 s.args.workflow s.requires.1 in
     omega (arith, f, c.first_of.ensures))
     (λ c.
-    let s = c.before.before.before in
+    let s = c in
     let f = few_instructions s.args.pack.now s.requires.0 s.args.workflow s.requires.1 in
-    omega (arith, f, s.requires.0.few, s.requires.0.short, c.before.operands_begin.ensures, c.first_of.ensures))
-    (λ c. omega (arith, c.before.operands_begin.ensures, c.first_of.ensures)))
+    omega (arith, f, s.requires.0.few, s.requires.0.short, c.operands_begin.ensures, c.first_of.ensures))
+    (λ c. omega (arith, c.operands_begin.ensures, c.first_of.ensures)))

@@ -9,12 +9,12 @@ operands_begin_spec =
     tie.close
     (tie.spec
     (λ c κs. search rules)
-    (λ c. omega (arith, c.before.before.requires.whole, c.operations_begin-operations.ensures))
+    (λ c. omega (arith, c.requires.whole, c.operations_begin-operations.ensures))
     (λ c. omega (
       arith,
-      c.before.before.requires.whole,
-      c.before.before.requires.short,
-      c.before.before.requires.few,
+      c.requires.whole,
+      c.requires.short,
+      c.requires.few,
       c.operations_begin-operations.ensures,
     ))
-    (λ c. omega (arith, c.before.before.requires.whole, c.operations_begin-operations.ensures)))
+    (λ c. omega (arith, c.requires.whole, c.operations_begin-operations.ensures)))

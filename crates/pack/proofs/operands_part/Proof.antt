@@ -13,13 +13,13 @@ operands_part_spec =
     (tie.spec
     (λ c κs. search rules)
     (λ c κs. search rules)
-    (λ c. let s = c.before.before.before in omega (arith, (s.requires.0.sizes s.args.workflow s.requires.1).1, c.size_at.ensures))
+    (λ c. let s = c in omega (arith, (s.requires.0.sizes s.args.workflow s.requires.1).1, c.size_at.ensures))
     (λ c κs.
-    let s = c.before.before.before in
+    let s = c in
     omega (
       arith,
       operands_within s.args.pack.now s.requires.0 s.args.workflow s.requires.1,
-      c.before.operands_at.ensures,
+      c.operands_at.ensures,
       c.size_at.ensures,
     ))
-    (λ c. rw (c.before.before.operands_at.ensures, c.before.size_at.ensures) at c.part.ensures))
+    (λ c. rw (c.operands_at.ensures, c.size_at.ensures) at c.part.ensures))

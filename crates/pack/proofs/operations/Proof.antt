@@ -8,8 +8,8 @@ use Rattle.pack.proofs.Workflows.{open_laid, open_below, opened_part, opened_non
 use Rattle.pack.proofs.operations.Statement.{statement}
 use Rattle.pack.proofs.operations.Tie as tie
 
-opens : (c : tie.In-Accepted) → let a = c.before.before.before.args in open_refusal a.pack.now a.workflow ≡ none
-opens c = accepted _ _ c.before.open-v.ensures c.in-Accepted.is
+opens : (c : tie.In-Accepted) → let a = c.args in open_refusal a.pack.now a.workflow ≡ none
+opens c = accepted _ _ c.open-v.ensures c.in-Accepted.is
 
 pub operations_spec : {M : Type 1} → statement M
 operations_spec =
@@ -21,4 +21,4 @@ operations_spec =
     (λ c. search rules)
     (λ c. search rules)
     (λ c. c.operations_part.ensures ∙ sym (opened_part _ _ (opens c.before)))
-    (λ c. sym (opened_none _ _ _ _ _ _ c.before.before.open-v.ensures c.in-Refused.is)))
+    (λ c. sym (opened_none _ _ _ _ _ _ c.open-v.ensures c.in-Refused.is)))

@@ -10,6 +10,6 @@ operations_begin_spec =
     (tie.spec
     (λ c. search rules)
     (λ c. search rules)
-    (λ c. omega (arith, c.before.requires.few))
-    (λ c. omega (arith, c.before.requires.few))
+    (λ c. omega (arith, c.requires.few))
+    (λ c. omega (arith, c.requires.few))
     (λ c. search rules))

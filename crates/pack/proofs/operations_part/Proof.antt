@@ -14,11 +14,11 @@ operations_part_spec =
     (λ c κs. search rules)
     (λ c κs. search rules)
     (λ c κs.
-    let s = c.before.before.before in
+    let s = c in
     omega (
       arith,
       operations_within s.args.pack.now s.requires.0 s.args.workflow s.requires.1,
-      c.before.operations_at.ensures,
+      c.operations_at.ensures,
       c.size_at.ensures,
     ))
-    (λ c. rw (c.before.before.operations_at.ensures, c.before.size_at.ensures) at c.part.ensures))
+    (λ c. rw (c.operations_at.ensures, c.size_at.ensures) at c.part.ensures))

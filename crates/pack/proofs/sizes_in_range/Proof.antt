@@ -29,19 +29,19 @@ sizes_in_range_spec =
     (λ c. search rules)
     (λ c κs. search rules)
     (λ c.
-    let l = c.before.before in
-    sym (l.before.loop-workflow.invariant.1 ∙ each_fails _ _ _ l.loop-workflow-test.true (size_low _ _ _ c.before.read16-size.ensures c.if-size-lt1.true)))
+    let l = c in
+    sym (l.loop-workflow.invariant.1 ∙ each_fails _ _ _ l.loop-workflow-test.true (size_low _ _ _ c.read16-size.ensures c.if-size-lt1.true)))
     (λ c.
-    let l = c.before.before.before in
-    sym (l.before.loop-workflow.invariant.1
-    ∙ each_fails _ _ _ l.loop-workflow-test.true (size_high _ _ _ c.before.before.read16-size.ensures c.if-size-gt256.true)))
+    let l = c in
+    sym (l.loop-workflow.invariant.1
+    ∙ each_fails _ _ _ l.loop-workflow-test.true (size_high _ _ _ c.read16-size.ensures c.if-size-gt256.true)))
     (λ c. search rules)
     (λ c. search rules)
     (λ c.
-    let l = c.before.before.before in (
+    let l = c in (
       omega arith,
-      l.before.loop-workflow.invariant.1
+      l.loop-workflow.invariant.1
           ∙ each_more _ _ _ l.loop-workflow-test.true
-          (size_in _ _ _ c.before.before.read16-size.ensures c.before.if-size-lt1.false c.if-size-gt256.false),
+          (size_in _ _ _ c.read16-size.ensures c.if-size-lt1.false c.if-size-gt256.false),
     ))
-    (λ c. sym (c.before.loop-workflow.invariant.1 ∙ each_none _ _ _ c.loop-workflow-test.false)))
+    (λ c. sym (c.loop-workflow.invariant.1 ∙ each_none _ _ _ c.loop-workflow-test.false)))

@@ -10,7 +10,7 @@ instruction_in_spec =
     (tie.spec
     (λ c. past_end _ _ _ c.if-bytes-index.true)
     (λ c. search rules)
-    (λ c. without_word _ _ _ c.before.before.if-bytes-index.false c.before.if-words-index.true)
+    (λ c. without_word _ _ _ c.if-bytes-index.false c.if-words-index.true)
     (λ c. search rules)
     (λ c κs. search rules)
-    (λ c. with_word _ _ _ c.before.before.before.if-bytes-index.false _ c.word_in.ensures))
+    (λ c. with_word _ _ _ c.if-bytes-index.false _ c.word_in.ensures))

@@ -9,8 +9,8 @@ use Rattle.reader.proofs.Laws.{found_none, found_there}
 use Rattle.reader.proofs.opening_of.Statement.{statement}
 use Rattle.reader.proofs.opening_of.Tie as tie
 
-opens : (c : tie.In-Accepted) → let a = c.before.before.before.args in open_refusal a.pack.now a.workflow ≡ none
-opens c = accepted _ _ c.before.open-v.ensures c.in-Accepted.is
+opens : (c : tie.In-Accepted) → let a = c.args in open_refusal a.pack.now a.workflow ≡ none
+opens c = accepted _ _ c.open-v.ensures c.in-Accepted.is
 
 pub opening_of_spec : {M : Type 1} → statement M
 opening_of_spec =
@@ -23,6 +23,6 @@ opening_of_spec =
     (λ c κs. (open_laid _ _ (opens c.before.before), open_below _ _ (opens c.before.before)))
     (λ c. search rules)
     (λ c. let e = c.before.before.before in
-    found_there _ _ _ _ _ _ e.before.open-v.ensures (opens e) c.before.before.operations_at-operations.ensures
-    c.before.operands_at-operands.ensures c.size_at-size.ensures)
-    (λ c. found_none _ _ _ _ _ _ c.before.open-v.ensures c.in-Refused.is))
+    found_there _ _ _ _ _ _ e.open-v.ensures (opens e) c.operations_at-operations.ensures
+    c.operands_at-operands.ensures c.size_at-size.ensures)
+    (λ c. found_none _ _ _ _ _ _ c.open-v.ensures c.in-Refused.is))

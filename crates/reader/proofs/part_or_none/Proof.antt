@@ -12,13 +12,13 @@ part_or_none_spec =
     tie.close
     (tie.spec
     (λ c. search rules)
-    (λ c. let a = c.before.before.args in sym (part_none a.pack.now a.start a.count (omega arith)))
+    (λ c. let a = c.args in sym (part_none a.pack.now a.start a.count (omega arith)))
     (λ c. search rules)
     (λ c. search rules)
-    (λ c. let a = c.before.before.before.args in sym (part_none a.pack.now a.start a.count (omega arith)))
+    (λ c. let a = c.args in sym (part_none a.pack.now a.start a.count (omega arith)))
     (λ c. search rules)
     (λ c. search rules)
     (λ c. search rules)
     (λ c. search rules)
-    (λ c. let a = c.before.before.before.args in
+    (λ c. let a = c.args in
     rw (part_whole a.pack.now a.start a.count (omega arith), add-sub_cancel_left)))

@@ -12,7 +12,7 @@ words_or_none_spec =
     tie.close
     (tie.spec
     (λ c. search rules)
-    (λ c. let a = c.before.before.before.args in sym (part_none a.pack.now a.start (4 * a.count) (omega arith)))
+    (λ c. let a = c.args in sym (part_none a.pack.now a.start (4 * a.count) (omega arith)))
     (λ c. search rules)
     (λ c κs. search rules)
     (λ c. search rules))

@@ -41,33 +41,33 @@ sound : (c : tie.After-key_place-key_begin invariant-loop decreases-loop) → So
 sound c = (store_ok _ (start c).requires.1).0
 
 -- the rows of the book are as many as are used
-as_many : (c : tie.After-key_place-key_begin invariant-loop decreases-loop) → c.before.used_count-rows.result ≡ length (book_rows (start c).args.store.now)
+as_many : (c : tie.After-key_place-key_begin invariant-loop decreases-loop) → c.used_count-rows.result ≡ length (book_rows (start c).args.store.now)
 as_many c =
-    c.before.used_count-rows.ensures
-    ∙ ap (λ (p : ℕ). length (rows_of (start c).args.store.now p)) c.before.before.partition_count-book.ensures
+    c.used_count-rows.ensures
+    ∙ ap (λ (p : ℕ). length (rows_of (start c).args.store.now p)) c.partition_count-book.ensures
 
 -- in the loop: the store's bytes, and the book's number
 abbrev bytes : tie.In-loop-row invariant-loop decreases-loop → List ℕ
 bytes c = (start c.before.before).args.store.now
 
 abbrev book : tie.In-loop-row invariant-loop decreases-loop → ℕ
-book c = c.before.before.before.before.partition_count-book.result
+book c = c.partition_count-book.result
 
-row_there : (c : tie.In-loop-row invariant-loop decreases-loop) → c.before.loop-row.row < length (rows_of (bytes c) (book c))
-row_there c = omega (arith, c.before.before.before.used_count-rows.ensures)
+row_there : (c : tie.In-loop-row invariant-loop decreases-loop) → c.loop-row.row < length (rows_of (bytes c) (book c))
+row_there c = omega (arith, c.used_count-rows.ensures)
 
 -- so its key lies within the store
-key_inside : (c : tie.In-loop-row invariant-loop decreases-loop) → c.before.loop-row.key_begin + 8 ≤ length (bytes c)
+key_inside : (c : tie.In-loop-row invariant-loop decreases-loop) → c.loop-row.key_begin + 8 ≤ length (bytes c)
 key_inside c =
-    let l = c.before in
-    let h = row_within (bytes c) (sound l.before).formed (book c) (omega arith) l.loop-row.row (row_there c) in
+    let l = c in
+    let h = row_within (bytes c) (sound l.before.before).formed (book c) (omega arith) l.loop-row.row (row_there c) in
     omega (arith, l.loop-row.invariant.1, h.0)
 
 -- what is read there is the row's key, which is in the book
 key_there : (c : tie.After-read64-key invariant-loop decreases-loop)
-    → c.read64-key.result ≡ (get_or (rows_of (bytes c.before) (book c.before)) c.before.before.loop-row.row (0, 0)).0
+    → c.read64-key.result ≡ (get_or (rows_of (bytes c.before) (book c.before)) c.loop-row.row (0, 0)).0
 key_there c =
-    let l = c.before.before.loop-row in
+    let l = c.loop-row in
     key_read (bytes c.before) (book c.before) l.row (row_there c.before) l.key_begin _ l.invariant.1 c.read64-key.ensures
 
 key_in_book : (c : tie.After-read64-key invariant-loop decreases-loop) → member c.read64-key.result (keys_in (book_rows (bytes c.before))) ≡ true
@@ -75,8 +75,8 @@ key_in_book c =
     let i = c.before in
     let k = i.before.before in
     let rows = book_rows (bytes i) in
-    ap (λ (key : ℕ). member key (keys_in rows)) (key_here (bytes i) _ _ _ k.before.before.partition_count-book.ensures (key_there c))
-    ∙ row_member rows (rows_rise (bytes i) (sound k) (parts_of (bytes i)) (omega arith)) i.before.loop-row.row (omega (arith, as_many k))
+    ap (λ (key : ℕ). member key (keys_in rows)) (key_here (bytes i) _ _ _ k.partition_count-book.ensures (key_there c))
+    ∙ row_member rows (rows_rise (bytes i) (sound k) (parts_of (bytes i)) (omega arith)) i.loop-row.row (omega (arith, as_many k))
 
 pub all_retirable_spec : {M : Type 1} → statement M
 all_retirable_spec =
@@ -85,35 +85,35 @@ all_retirable_spec =
     invariant-loop
     decreases-loop
     (λ c κs. search rules)
-    (λ c κs. let s = (store_ok _ c.before.before.before.requires.1).0 in search rules)
-    (λ c κs. let s = (store_ok _ c.before.before.before.before.requires.1).0 in search rules)
-    (λ c κs. let s = (store_ok _ c.before.before.before.before.before.requires.1).0 in search rules)
+    (λ c κs. let s = (store_ok _ c.requires.1).0 in search rules)
+    (λ c κs. let s = (store_ok _ c.requires.1).0 in search rules)
+    (λ c κs. let s = (store_ok _ c.requires.1).0 in search rules)
     (λ c. (omega arith, c.key_place-key_begin.ensures, can_start _ _ _ _ (as_many c)))
     (λ c κs. key_inside c)
-    (λ c. let i = c.before.before in
-    let l = i.before in
-    let k = l.before in
-    sym (can_past _ _ _ _ l.loop-row.row _ _ (omega arith) k.before.before.partition_count-book.ensures (key_there c.before) (sound k)
-    (as_many k) (omega (arith, k.before.before.before.book_key_lem.ensures.0)))
+    (λ c. let i = c in
+    let l = i in
+    let k = l.before.before.before.before in
+    sym (can_past _ _ _ _ l.loop-row.row _ _ (omega arith) k.partition_count-book.ensures (key_there c.before) (sound k)
+    (as_many k) (omega (arith, k.book_key.ensures.0)))
     ∙ l.loop-row.invariant.2)
     (λ c κs. ((start c.before.before.before.before).requires, key_in_book c.before))
-    (λ c. let e = c.before.before in
-    let l = e.before.before.before in
-    let k = l.before in
-    sym (can_no _ _ _ _ l.loop-row.row _ _ (omega arith) k.before.before.partition_count-book.ensures (key_there e.before)
-    (omega (arith, k.before.before.before.book_key_lem.ensures.0)) _ c.before.row_retirable.ensures (not-true _ c.if-not-row_retirable.true))
+    (λ c. let e = c in
+    let l = e in
+    let k = l in
+    sym (can_no _ _ _ _ l.loop-row.row _ _ (omega arith) k.partition_count-book.ensures (key_there e.before.before.before)
+    (omega (arith, k.book_key.ensures.0)) _ c.row_retirable.ensures c.if-not-row_retirable.true)
     ∙ l.loop-row.invariant.2)
     (λ c. omega (arith, key_inside c.before.before.before.before))
     (λ c. search rules)
     (λ c. search rules)
-    (λ c. let e = c.before.before in
-    let l = e.before.before.before in
-    let k = l.before in (
+    (λ c. let e = c in
+    let l = e in
+    let k = l in (
       omega arith,
       omega arith,
-      sym (can_on _ _ _ _ l.loop-row.row _ _ (omega arith) k.before.before.partition_count-book.ensures (key_there e.before)
-          (omega (arith, k.before.before.before.book_key_lem.ensures.0)) _ c.before.row_retirable.ensures
-          (not-false _ c.if-not-row_retirable.false))
+      sym (can_on _ _ _ _ l.loop-row.row _ _ (omega arith) k.partition_count-book.ensures (key_there e.before.before.before)
+          (omega (arith, k.book_key.ensures.0)) _ c.row_retirable.ensures
+          c.if-not-row_retirable.false)
           ∙ l.loop-row.invariant.2,
     ))
-    (λ c. sym (can_done_lem _ _ _ _ _ (omega arith)) ∙ c.before.loop-row.invariant.2))
+    (λ c. sym (can_done_lem _ _ _ _ _ (omega arith)) ∙ c.loop-row.invariant.2))

@@ -15,14 +15,14 @@ use Rattle.retirable.proofs.can_retire.Tie as tie
 
 -- what is known from book and log of an id that is in no slot and not listed
 known : (c : tie.After-reply_logged-known) (q : Request) →
-    let a = c.before.before.before.before.before.before.before.args in
+    let a = c.args in
     (contents_of (store_of a.store.now)).book a.id ≡ some q →
     is_through c.reply_logged-known.result
     ≡ can_retire (pack_of a.pack.now) (state_of (record { store = a.store.now; records = a.agents; list = a.list })) a.id (some q)
 known c q e =
-    let l = c.before in
-    let s = l.before.before in
-    by_its_log _ _ _ q e _ s.before.in_no_slot.ensures (not-false _ s.if-not-in_no_slot.false) _ l.before.is_listed.ensures l.if-is_listed.false _
+    let l = c in
+    let s = l in
+    by_its_log _ _ _ q e _ s.in_no_slot.ensures s.if-not-in_no_slot.false _ l.is_listed.ensures l.if-is_listed.false _
     c.reply_logged-known.ensures
 
 pub can_retire_spec : {M : Type 1} → statement M
@@ -30,11 +30,11 @@ can_retire_spec =
     tie.close
     (tie.spec
     (λ c κs. search rules)
-    (λ c q e. in_a_slot _ _ _ q e _ c.before.in_no_slot.ensures (not-true _ c.if-not-in_no_slot.true))
+    (λ c q e. in_a_slot _ _ _ q e _ c.in_no_slot.ensures c.if-not-in_no_slot.true)
     (λ c κs. search rules)
     (λ c q e.
-    let s = c.before.before in
-    on_the_list _ _ _ q e _ s.before.in_no_slot.ensures (not-false _ s.if-not-in_no_slot.false) _ c.before.is_listed.ensures
+    let s = c in
+    on_the_list _ _ _ q e _ s.in_no_slot.ensures s.if-not-in_no_slot.false _ c.is_listed.ensures
     c.if-is_listed.true)
     (λ c κs. search rules)
     (λ c. search rules)

@@ -11,11 +11,11 @@ row_retirable_spec =
     (tie.spec
     (λ c κs. search rules)
     (λ c κs. search rules)
-    (λ c. search (rules, (workflow_row _ (sym c.before.before.is_workflow.ensures ∙ c.before.if-is_workflow.true)).0))
+    (λ c. search (rules, (workflow_row _ (sym c.is_workflow.ensures ∙ c.if-is_workflow.true)).0))
     (λ c κs. search rules)
     (λ c.
-    let b = c.before in
-    let t = b.before in
-    row_asks _ _ _ (sym t.before.is_workflow.ensures ∙ t.if-is_workflow.true) t.before.before.before.before.requires.1 _
+    let b = c in
+    let t = b in
+    row_asks _ _ _ (sym t.is_workflow.ensures ∙ t.if-is_workflow.true) t.requires.1 _
     b.booked_id-id.ensures _ c.can_retire.ensures)
-    (λ c. sym (row_passed _ _ _ (sym c.before.is_workflow.ensures ∙ c.if-is_workflow.false))))
+    (λ c. sym (row_passed _ _ _ (sym c.is_workflow.ensures ∙ c.if-is_workflow.false))))

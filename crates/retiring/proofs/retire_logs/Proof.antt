@@ -21,7 +21,7 @@ abbrev counted : tie.At-loop-partition invariant-loop decreases-loop → tie.Aft
 counted lp = lp.before.before
 
 abbrev start : tie.At-loop-partition invariant-loop decreases-loop → tie.Start invariant-loop decreases-loop
-start lp = (counted lp).before.before.before
+start lp = (counted lp).before
 
 pub retire_logs_spec : {M : Type 1} → statement M
 retire_logs_spec =
@@ -29,27 +29,27 @@ retire_logs_spec =
     (tie.spec
     invariant-loop
     decreases-loop
-    (λ c κs. let st = c.before.before in let s = st.requires.formed.shape in omega (arith, s.size))
+    (λ c κs. let st = c in let s = st.requires.formed.shape in omega (arith, s.size))
     (λ c κs. search rules)
-    (λ c. let st = c.before.before.before.before in
+    (λ c. let st = c in
     (omega arith, refl, logs_none st.args.floor st.args.store.now st.requires))
     (λ c κs. let lp = c.before.before in
     let g = lp.loop-partition.invariant.2 in
-    (g.sound, omega (arith, c.before.loop-partition-test.true, (counted lp).partition_count-parts.ensures, g.parts)))
-    (λ c. let il = c.before.before.before.before in
-    let lp = il.before in
+    (g.sound, omega (arith, c.loop-partition-test.true, (counted lp).partition_count-parts.ensures, g.parts)))
+    (λ c. let il = c in
+    let lp = il.before.before.before.before.before in
     omega (arith, il.loop-partition-test.true, (counted lp).partition_count-parts.ensures, (start lp).requires.formed.shape.parts_high))
-    (λ c. omega (arith, c.before.before.before.before.loop-partition-test.true))
-    (λ c. let kf = c.before.before in
-    let il = kf.before.before in
-    let lp = il.before in
+    (λ c. omega (arith, c.loop-partition-test.true))
+    (λ c. let kf = c in
+    let il = kf in
+    let lp = il.before.before.before.before.before in
     let a = (start lp).args in (
       omega (arith, il.loop-partition-test.true),
       kf.keep_from.auto.0 ∙ lp.loop-partition.invariant.1,
-      logs_more a.floor a.store.now lp.loop-partition.store kf.keep_from.new.store lp.loop-partition.partition lp.before.log_key_lem.result
-          lp.loop-partition.invariant.2 lp.before.log_key_lem.ensures.0 kf.keep_from.ensures.0,
+      logs_more a.floor a.store.now lp.loop-partition.store kf.keep_from.new.store lp.loop-partition.partition lp.log_key.result
+          lp.loop-partition.invariant.2 lp.log_key.ensures.0 kf.keep_from.ensures.0,
     ))
-    (λ c. c.before.loop-partition.invariant.1)
+    (λ c. c.loop-partition.invariant.1)
     (λ c. let lp = c.before in
     let a = (start lp).args in
     subst (LogsFrom a.floor a.store.now lp.loop-partition.store)

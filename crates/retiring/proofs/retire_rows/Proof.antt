@@ -11,13 +11,13 @@ abbrev counted : tie.After-floor_key-key → tie.After-partition_count-parts
 counted c = c.before.before
 
 abbrev start : tie.After-floor_key-key → tie.Start
-start c = (counted c).before.before.before
+start c = (counted c).before
 
 pub retire_rows_spec : {M : Type 1} → statement M
 retire_rows_spec =
     tie.close
     (tie.spec
-    (λ c κs. let st = c.before.before in omega (arith, (store_ok st.args.store.now st.requires.0).0.formed.shape.size))
+    (λ c κs. let st = c in omega (arith, (store_ok st.args.store.now st.requires.0).0.formed.shape.size))
     (λ c κs. search rules)
     (λ c κs. search rules)
     (λ c κs. let fk = c.before in
@@ -25,19 +25,19 @@ retire_rows_spec =
     let st = start fk in
     let a = st.args in (
       ((store_ok a.store.now st.requires.0).0, omega (arith, pc.partition_count-parts.ensures)),
-      book_asked a.store.now a.floor fk.before.book_key_lem.ensures.1 st.requires.0 st.requires.1 pc.partition_count-parts.result
-          fk.before.book_key_lem.result fk.floor_key_lem.result pc.partition_count-parts.ensures fk.before.book_key_lem.ensures.0
-          fk.floor_key_lem.ensures,
+      book_asked a.store.now a.floor fk.book_key.ensures.1 st.requires.0 st.requires.1 pc.partition_count-parts.result
+          fk.book_key.result fk.floor_key.result pc.partition_count-parts.ensures fk.book_key.ensures.0
+          fk.floor_key.ensures,
     ))
-    (λ c κs. c.before.before.before.keep_and_put.ensures.sound)
+    (λ c κs. c.keep_and_put.ensures.sound)
     (λ c. search rules)
-    (λ c. let rl = c.before.before in
-    let kp = rl.before.before.before.before in
-    let fk = kp.before.before in
+    (λ c. let rl = c in
+    let kp = rl in
+    let fk = kp.before.before.before.before.before.before.before.before in
     let pc = counted fk in
     let st = start fk in
     let a = st.args in
-    made a.store.now a.floor fk.before.book_key_lem.ensures.1 st.requires.0 st.requires.1 kp.keep_and_put.new.store
-    rl.retire_logs.new.store pc.partition_count-parts.result fk.before.book_key_lem.result fk.floor_key_lem.result
-    pc.partition_count-parts.ensures fk.before.book_key_lem.ensures.0 fk.floor_key_lem.ensures kp.keep_and_put.ensures
+    made a.store.now a.floor fk.book_key.ensures.1 st.requires.0 st.requires.1 kp.keep_and_put.new.store
+    rl.retire_logs.new.store pc.partition_count-parts.result fk.book_key.result fk.floor_key.result
+    pc.partition_count-parts.ensures fk.book_key.ensures.0 fk.floor_key.ensures kp.keep_and_put.ensures
     rl.retire_logs.ensures))

@@ -26,11 +26,11 @@ start c = c.before.before.before.before
 begun : (c : tie.In-Accepted) →
     let a = (start c).args in
     list_refusal a.pack.now (record { store = a.store.now; records = a.agents; list = a.list }) ≡ none
-begun c = let k = c.before in accepted_none k.check_to_25-v.result _ k.check_to_25-v.ensures c.in-Accepted.is
+begun c = let k = c in accepted_none k.check_to_25-v.result _ k.check_to_25-v.ensures c.in-Accepted.is
 
 -- 26 says yes too
 room : (c : tie.Else-not-can_list) → let a = (start c.before.before).args in can_list a.id (worklist_of a.list) ≡ true
-room c = sym c.before.can_list.ensures ∙ not-false _ c.if-not-can_list.false
+room c = sym c.can_list.ensures ∙ c.if-not-can_list.false
 
 pub add_spec : {M : Type 1} → statement M
 unfolding Contents.contents_of
@@ -42,9 +42,9 @@ add_spec =
     (λ c κs. list_right _ _ (begun c))
     (λ c κs. search rules)
     (λ c.
-    let k = c.before.before in
+    let k = c in
     is_unlisted _ _ _ _ 26 0 0
-    (add_26 _ _ (begun k.before) _ (sym k.can_list.ensures ∙ not-true _ c.before.if-not-can_list.true)) c.unlisted.ensures)
+    (add_26 _ _ (begun k.before.before.before) _ (sym k.can_list.ensures ∙ c.if-not-can_list.true)) c.unlisted.ensures)
     (λ c κs. (store_ok _ (lent_store _ _ (list_lent _ _ (begun c.before.before)))).0)
     (λ c. search rules)
     (λ c κs.
@@ -55,9 +55,9 @@ add_spec =
     (λ c. search rules)
     (λ c κs. search rules)
     (λ c.
-    let y = c.before in
-    let k = y.before in
-    let e = k.before in
+    let y = c in
+    let k = y in
+    let e = k.before.before.before in
     let t = e.before.before in
     let s = (start t).args in
     adds _ _ (begun t) s.id (room e) _
@@ -65,9 +65,9 @@ add_spec =
     k.booked_workflow-g.ensures.0 _ y.in-Value.is)
     _ c.with_id.ensures)
     (λ c.
-    let y = c.before in
-    let k = y.before in
-    let e = k.before in
+    let y = c in
+    let k = y in
+    let e = k.before.before.before in
     let t = e.before.before in
     let s = (start t).args in
     is_unlisted _ _ _ _ 20 0 0
@@ -76,8 +76,8 @@ add_spec =
     k.booked_workflow-g.ensures.0 y.in-Absent.is))
     c.unlisted-in-Absent.ensures)
     (λ c.
-    let v = c.before in
-    let k = v.before in
+    let v = c in
+    let k = v in
     is_unlisted _ _ _ _ _ _ _
     (add_stops _ _ _ (refused_some k.check_to_25-v.result _ _ _ _ k.check_to_25-v.ensures v.in-Refused.is) _)
     c.unlisted-in-Refused.ensures))

@@ -39,7 +39,7 @@ start c = c
 begun : (c : tie.In-Accepted) (list : Worklist) →
     let a = (start c).args in
     first_sixteen a.pack.now (record { store = a.store.now; records = a.agents; list = list }) a.slot false ≡ none
-begun c list = let k = c.before in accepted_none k.check_to_16-v.result _ (k.check_to_16-v.ensures list) c.in-Accepted.is
+begun c list = let k = c in accepted_none k.check_to_16-v.result _ (k.check_to_16-v.ensures list) c.in-Accepted.is
 
 lent_yes : (c : tie.In-Accepted) (list : Worklist) →
     let a = (start c).args in
@@ -73,13 +73,13 @@ later : (c : tie.Else-count_of-q) (list : Worklist) →
     ≡ book_refusal (contents_of (store_of a.store.now)) a.id (asked a.q)
 unfolding book_refusal
 later c list =
-    let m = c.before.before in
-    let f = m.before.before in
+    let m = c in
+    let f = m.before.before.before.before in
     let t = yes_16 c in
     let s = (start t).args in
     arrival_left _ _ s.slot s.id s.q.workflow _ (begun t list)
-    ∙ booking_left s.id _ s.q.workflow (length (pack_of s.pack.now)) _ f.before.before.if-id-eq0.false
-    (omega (arith, m.before.if-id-floor.false, floor_is f))
+    ∙ booking_left s.id _ s.q.workflow (length (pack_of s.pack.now)) _ f.if-id-eq0.false
+    (omega (arith, m.if-id-floor.false, floor_is f))
     (omega (arith, c.if-count_of-q.false, m.count_of.ensures, length_pack s.pack.now))
 
 pub arrival_spec : {M : Type 1} → statement M
@@ -97,7 +97,7 @@ arrival_spec =
     λ list.
     is_refused _ _ _ _ 24 0 0
     (arrival_left _ _ s.slot s.id s.q.workflow _ (begun t list)
-    ∙ zero_no_lem s.id _ s.q.workflow (length (pack_of s.pack.now)) _ c.before.if-id-eq0.true) c.refused.ensures)
+    ∙ zero_no_lem s.id _ s.q.workflow (length (pack_of s.pack.now)) _ c.if-id-eq0.true) c.refused.ensures)
     (λ c κs. (store_ok _ (lent_store _ _ (lent_yes c.before no_worklist))).0)
     (λ c κs. search rules)
     (λ c. search rules)
@@ -108,32 +108,32 @@ arrival_spec =
     λ list.
     is_refused _ _ _ _ 30 0 0
     (arrival_left _ _ s.slot s.id s.q.workflow _ (begun t list)
-    ∙ floor_no s.id _ s.q.workflow (length (pack_of s.pack.now)) _ f.before.before.if-id-eq0.false
-    (omega (arith, c.before.if-id-floor.true, floor_is f))) c.refused-then-id-floor.ensures)
+    ∙ floor_no s.id _ s.q.workflow (length (pack_of s.pack.now)) _ f.if-id-eq0.false
+    (omega (arith, c.if-id-floor.true, floor_is f))) c.refused-then-id-floor.ensures)
     (λ c κs. omega (arith, (accepted_laid _ (lent_pack _ _ (lent_yes c.before.before.before no_worklist))).whole))
     (λ c κs. search rules)
     (λ c. search rules)
     (λ c.
-    let m = c.before.before.before in
-    let f = m.before.before in
+    let m = c in
+    let f = m.before.before.before.before.before in
     let t = f.before.before in
     let s = (start t).args in
     λ list.
     is_refused _ _ _ _ 17 0 0
     (arrival_left _ _ s.slot s.id s.q.workflow _ (begun t list)
-    ∙ workflow_no_lem s.id _ s.q.workflow (length (pack_of s.pack.now)) _ f.before.before.if-id-eq0.false
-    (omega (arith, m.before.if-id-floor.false, floor_is f))
-    (omega (arith, c.before.if-count_of-q.true, m.count_of.ensures, length_pack s.pack.now)))
+    ∙ workflow_no_lem s.id _ s.q.workflow (length (pack_of s.pack.now)) _ f.if-id-eq0.false
+    (omega (arith, m.if-id-floor.false, floor_is f))
+    (omega (arith, c.if-count_of-q.true, m.count_of.ensures, length_pack s.pack.now)))
     c.refused-then-count_of-q.ensures)
     (λ c κs.
-    let e = c.before in
-    let f = e.before.before.before.before in (
-      lent_store _ _ (lent_yes f.before.before no_worklist),
-      omega (arith, e.before.before.before.if-id-floor.false, f.floor.ensures),
+    let e = c in
+    let f = e in (
+      lent_store _ _ (lent_yes f.before.before.before.before.before.before.before no_worklist),
+      omega (arith, e.if-id-floor.false, f.floor.ensures),
     ))
     (λ c. search rules)
     (λ c κs. search rules)
-    (λ c κs. let k = c.before.before.before.before in omega (arith, below (yes_16 k.before.before)))
+    (λ c κs. let k = c in omega (arith, below (yes_16 k.before.before.before.before.before.before)))
     (λ c κs. search rules)
     (λ c. search rules)
     (λ c κs. search rules)
@@ -141,10 +141,10 @@ arrival_spec =
     (λ c κs. search rules)
     (λ c. search rules)
     (λ c.
-    let w = c.before in
-    let y = w.before.before in
-    let k = y.before.before.before in
-    let e = k.before.before in
+    let w = c in
+    let y = w in
+    let k = y in
+    let e = k.before.before.before.before.before.before.before.before in
     let t = yes_16 e in
     let s = (start t).args in
     let yes_both = accepted_none k.book_request-b.result _ k.book_request-b.ensures.answer y.in-Accepted-b.is in
@@ -155,20 +155,20 @@ arrival_spec =
     (as_booked_lem _ s.id (asked s.q) yes_both))
     (k.book_request-b.ensures.written yes_both) (ap (λ (o : Outcome). Answers.answer_of o.answer) c.done.ensures)
     (ap (λ (o : Outcome). o.agents) c.done.ensures ∙ w.with_agent.ensures
-    ∙ ap (set s.agents s.slot) w.before.started.ensures))
+    ∙ ap (set s.agents s.slot) w.started.ensures))
     (λ c. search rules)
     (λ c.
-    let b = c.before in
-    let k = b.before.before.before in
-    let e = k.before.before in
+    let b = c in
+    let k = b in
+    let e = k.before.before.before.before.before.before in
     let s = (start (yes_16 e)).args in
     λ list.
     is_unbooked _ _ _ _ _ s.id (asked s.q) k.book_request-b.result k.book_request-b.ensures (later e list)
     _ _ _ b.in-Refused-b.is c.refused-in-Refused-b.ensures)
     (λ c. search rules)
     (λ c.
-    let v = c.before in
-    let k = v.before in
+    let v = c in
+    let k = v in
     λ list.
     is_refused _ _ _ _ _ _ _
     (arrival_stops _ _ _ _ _ _ _ (refused_some k.check_to_16-v.result _ _ _ _ (k.check_to_16-v.ensures list) v.in-Refused.is))

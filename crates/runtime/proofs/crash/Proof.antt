@@ -30,7 +30,7 @@ start c = c.before.before.before.before
 begun : (c : tie.In-Accepted) (list : Worklist) →
     let a = (start c).args in
     first_sixteen a.pack.now (record { store = a.store.now; records = a.agents; list = list }) a.slot true ≡ none
-begun c list = let k = c.before in accepted_none k.check_to_16-v.result _ (k.check_to_16-v.ensures list) c.in-Accepted.is
+begun c list = let k = c in accepted_none k.check_to_16-v.result _ (k.check_to_16-v.ensures list) c.in-Accepted.is
 
 lent_yes : (c : tie.In-Accepted) (list : Worklist) →
     let a = (start c).args in
@@ -60,17 +60,17 @@ crash_spec =
     (λ c. search rules)
     (λ c κs. search rules)
     (λ c.
-    let w = c.before in
-    let t = w.before.before in
+    let w = c in
+    let t = w.before.before.before in
     let s = (start t).args in
     λ list.
     is_done _ _ _ _ _ _ s.slot none _ _ (tidied t) (below t) (crash_left _ _ s.slot (begun t list)) refl (wrote_nothing _)
     (ap (λ (o : Outcome). Answers.answer_of o.answer) c.done.ensures)
     (ap (λ (o : Outcome). o.agents) c.done.ensures ∙ w.with_agent.ensures
-    ∙ ap (set s.agents s.slot) w.before.no_agent_lem.ensures))
+    ∙ ap (set s.agents s.slot) w.no_agent.ensures))
     (λ c.
-    let v = c.before in
-    let k = v.before in
+    let v = c in
+    let k = v in
     λ list.
     is_refused _ _ _ _ _ _ _
     (crash_stops _ _ _ _ (refused_some k.check_to_16-v.result _ _ _ _ (k.check_to_16-v.ensures list) v.in-Refused.is))

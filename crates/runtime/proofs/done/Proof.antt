@@ -25,11 +25,11 @@ start c = c.before.before.before.before
 begun : (c : tie.In-Accepted) →
     let a = (start c).args in
     list_refusal a.pack.now (record { store = a.store.now; records = a.agents; list = a.list }) ≡ none
-begun c = let k = c.before in accepted_none k.check_to_25-v.result _ k.check_to_25-v.ensures c.in-Accepted.is
+begun c = let k = c in accepted_none k.check_to_25-v.result _ k.check_to_25-v.ensures c.in-Accepted.is
 
 -- the id is listed as taken
 taken : (c : tie.Else-not-is_taken) → let a = (start c.before.before).args in taken_on a.id (worklist_of a.list) ≡ true
-taken c = sym c.before.is_taken.ensures ∙ not-false _ c.if-not-is_taken.false
+taken c = sym c.is_taken.ensures ∙ c.if-not-is_taken.false
 
 pub done_spec : {M : Type 1} → statement M
 done_spec =
@@ -40,9 +40,9 @@ done_spec =
     (λ c κs. list_right _ _ (begun c))
     (λ c κs. search rules)
     (λ c.
-    let k = c.before.before in
+    let k = c in
     is_unlisted _ _ _ _ 27 0 0
-    (done_not_taken _ _ (begun k.before) _ (sym k.is_taken.ensures ∙ not-true _ c.before.if-not-is_taken.true)) c.unlisted.ensures)
+    (done_not_taken _ _ (begun k.before.before.before) _ (sym k.is_taken.ensures ∙ c.if-not-is_taken.true)) c.unlisted.ensures)
     (λ c κs. let l = list_lent _ _ (begun c.before.before) in (lent_pack _ _ l, lent_store _ _ l, lent_13 _ _ l))
     (λ c. search rules)
     (λ c κs. list_right _ _ (begun c.before.before.before.before))
@@ -53,34 +53,34 @@ done_spec =
     (λ c. search rules)
     (λ c κs. search rules)
     (λ c.
-    let y = c.before in
-    let k = y.before in
-    let e = k.before in
+    let y = c in
+    let k = y in
+    let e = k.before.before.before in
     let t = e.before.before in
     dones _ _ (begun t) (start t).args.id (taken e)
     (ap (λ (o : Option Result). is_some o) (through_is _ _ (start t).args.id _ k.reply_logged-l.ensures _
     y.in-Through.is).0) _ c.without_id.ensures)
     (λ c.
-    let y = c.before in
-    let k = y.before in
-    let e = k.before in
+    let y = c in
+    let k = y in
+    let e = k.before.before.before in
     let t = e.before.before in
     is_unlisted _ _ _ _ 27 0 0
     (done_not_through _ _ (begun t) (start t).args.id (taken e)
     (ap (λ (o : Option Result). is_some o) (not_yet_is _ _ (start t).args.id _ k.reply_logged-l.ensures
     y.in-NotYet.is).0)) c.unlisted-in-NotYet.ensures)
     (λ c.
-    let y = c.before in
-    let k = y.before in
-    let e = k.before in
+    let y = c in
+    let k = y in
+    let e = k.before.before.before in
     let t = e.before.before in
     is_unlisted _ _ _ _ 27 0 0
     (done_not_through _ _ (begun t) (start t).args.id (taken e)
     (unbooked_not_through _ _ _ (unbooked_is _ _ (start t).args.id _ k.reply_logged-l.ensures y.in-Unbooked.is)))
     c.unlisted-in-Unbooked.ensures)
     (λ c.
-    let v = c.before in
-    let k = v.before in
+    let v = c in
+    let k = v in
     is_unlisted _ _ _ _ _ _ _
     (done_stops _ _ _ (refused_some k.check_to_25-v.result _ _ _ _ k.check_to_25-v.ensures v.in-Refused.is) _)
     c.unlisted-in-Refused.ensures))

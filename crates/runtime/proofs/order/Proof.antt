@@ -16,8 +16,8 @@ order_spec =
     (λ c. search rules)
     (λ c. search rules)
     (λ c.
-    let k = c.before.before.before in
-    let a = k.before.before.before.args in (
+    let k = c in
+    let a = k.args in (
       λ pack records list.
           order_done pack (record { store = a.store.now; records = records; list = list }) k.order-v.new.store k.order-v.result
           k.order-v.ensures
@@ -26,8 +26,8 @@ order_spec =
     ))
     (λ c. search rules)
     (λ c.
-    let k = c.before.before.before in
-    let a = k.before.before.before.args in (
+    let k = c in
+    let a = k.args in (
       λ pack records list.
           order_refused pack (record { store = a.store.now; records = records; list = list }) k.order-v.new.store k.order-v.result
           k.order-v.ensures _ _ _ c.in-Refused.is,

@@ -15,7 +15,7 @@ start c = c.before.before.before.before
 
 -- 1 to 13 say yes
 to_13 : (c : tie.In-Accepted) → let a = (start c).args in first_thirteen a.pack.now a.store.now ≡ none
-to_13 c = let k = c.before in accepted_none k.check_to_13-v.result _ k.check_to_13-v.ensures c.in-Accepted.is
+to_13 c = let k = c in accepted_none k.check_to_13-v.result _ k.check_to_13-v.ensures c.in-Accepted.is
 
 pub reply_spec : {M : Type 1} → statement M
 reply_spec =
@@ -30,15 +30,15 @@ reply_spec =
     (λ c. search rules)
     (λ c.
     let y = c in
-    let k = y.before in
-    read_reply _ _ _ (to_13 k.before) _ (through_is _ _ _ _ k.reply_logged-l.ensures _ y.in-Through.is))
+    let k = y in
+    read_reply _ _ _ (to_13 k.before.before) _ (through_is _ _ _ _ k.reply_logged-l.ensures _ y.in-Through.is))
     (λ c.
-    let k = c.before in
-    read_not_yet _ _ _ (to_13 k.before) (not_yet_is _ _ _ _ k.reply_logged-l.ensures c.in-NotYet.is))
+    let k = c in
+    read_not_yet _ _ _ (to_13 k.before.before) (not_yet_is _ _ _ _ k.reply_logged-l.ensures c.in-NotYet.is))
     (λ c.
-    let k = c.before in
-    read_20 _ _ _ (to_13 k.before) (unbooked_is _ _ _ _ k.reply_logged-l.ensures c.in-Unbooked.is))
+    let k = c in
+    read_20 _ _ _ (to_13 k.before.before) (unbooked_is _ _ _ _ k.reply_logged-l.ensures c.in-Unbooked.is))
     (λ c.
     let v = c in
-    let k = v.before in
+    let k = v in
     read_refused _ _ _ _ _ _ (refused_some k.check_to_13-v.result _ _ _ _ k.check_to_13-v.ensures v.in-Refused.is)))

@@ -18,8 +18,8 @@ restart_spec =
     (λ c κs. search rules)
     (λ c pack store records.
     subst (λ (rs : List Agent). Carried pack
-    (record { store = store; records = records; list = c.before.before.args.list }) Calls.restart Done
+    (record { store = store; records = records; list = c.args.list }) Calls.restart Done
     (record { store = store; records = rs; list = c.restarted.result }))
-    (sym c.before.no_agents.ensures)
-    (is_restart pack (record { store = store; records = records; list = c.before.before.args.list }) c.restarted.result
+    (sym c.no_agents.ensures)
+    (is_restart pack (record { store = store; records = records; list = c.args.list }) c.restarted.result
     c.restarted.ensures)))

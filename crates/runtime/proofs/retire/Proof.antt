@@ -20,7 +20,7 @@ start c = c
 begun : (c : tie.In-Accepted) →
     let a = (start c).args in
     list_refusal a.pack.now (record { store = a.store.now; records = a.agents; list = a.list }) ≡ none
-begun c = let k = c.before in accepted_none k.check_to_25-v.result _ k.check_to_25-v.ensures c.in-Accepted.is
+begun c = let k = c in accepted_none k.check_to_25-v.result _ k.check_to_25-v.ensures c.in-Accepted.is
 
 -- that yes, from behind the test of 28 on
 abbrev yes_25 : tie.After-all_retirable → tie.In-Accepted
@@ -42,36 +42,36 @@ retire_spec =
     (λ c.
     let k = c.before.before in
     is_no _ _ _ _ 28 0 0
-    (retire_28 _ _ (begun (yes_25 k)) _ (sym k.all_retirable.ensures ∙ not-true _ c.before.if-not-all_retirable.true)) c.no_of.ensures)
-    (λ c κs. lent_store _ _ (list_lent _ _ (begun (yes_25 c.before.before))))
+    (retire_28 _ _ (begun (yes_25 k)) _ (sym k.all_retirable.ensures ∙ c.if-not-all_retirable.true)) c.no_of.ensures)
+    (λ c κs. lent_store _ _ (list_lent _ _ (begun (yes_25 c.before))))
     (λ c κs. search rules)
     (λ c. search rules)
     (λ c.
-    let b = c.before.before in
-    let e = b.before.before in
-    let k = e.before in
+    let b = c in
+    let e = b in
+    let k = e.before.before.before.before in
     is_no _ _ _ _ 29 0 0
-    (retire_29 _ _ (begun (yes_25 k)) _ (sym k.all_retirable.ensures ∙ not-false _ e.if-not-all_retirable.false)
-    (sym b.any_below.ensures ∙ not-true _ c.before.if-not-any_below.true)) c.no_of-then-not-any_below.ensures)
+    (retire_29 _ _ (begun (yes_25 k)) _ (sym k.all_retirable.ensures ∙ e.if-not-all_retirable.false)
+    (sym b.any_below.ensures ∙ c.if-not-any_below.true)) c.no_of-then-not-any_below.ensures)
     (λ c κs.
-    let b = c.before.before in (
-      lent_store _ _ (list_lent _ _ (begun (yes_25 b.before.before.before))),
-      ltb-true 0 _ (sym b.any_below.ensures ∙ not-false _ c.before.if-not-any_below.false),
+    let b = c in (
+      lent_store _ _ (list_lent _ _ (begun (yes_25 b.before.before.before.before))),
+      ltb-true 0 _ (sym b.any_below.ensures ∙ c.if-not-any_below.false),
     ))
     (λ c. search rules)
     (λ c κs. search rules)
     (λ c. search rules)
     (λ c.
-    let w = c.before.before in
-    let e = w.before.before in
-    let b = e.before in
-    let k = b.before.before.before in
-    retires _ _ (begun (yes_25 k)) _ (sym k.all_retirable.ensures ∙ not-false _ b.before.before.if-not-all_retirable.false)
-    (sym b.any_below.ensures ∙ not-false _ e.if-not-any_below.false) _ w.retire_rows.ensures)
+    let w = c in
+    let e = w in
+    let b = e in
+    let k = b.before.before.before.before.before.before.before in
+    retires _ _ (begun (yes_25 k)) _ (sym k.all_retirable.ensures ∙ b.if-not-all_retirable.false)
+    (sym b.any_below.ensures ∙ e.if-not-any_below.false) _ w.retire_rows.ensures)
     (λ c. search rules)
     (λ c.
-    let v = c.before in
-    let k = v.before in
+    let v = c in
+    let k = v in
     is_no _ _ _ _ _ _ _
     (retire_stops _ _ _ (refused_some k.check_to_25-v.result _ _ _ _ k.check_to_25-v.ensures v.in-Refused.is) _)
     c.no_of-in-Refused.ensures))

@@ -36,7 +36,7 @@ start c = c.before.before.before.before
 begun : (c : tie.In-Accepted) (list : Worklist) →
     let a = (start c).args in
     first_sixteen a.pack.now (record { store = a.store.now; records = a.agents; list = list }) a.slot false ≡ none
-begun c list = let k = c.before in accepted_none k.check_to_16-v.result _ (k.check_to_16-v.ensures list) c.in-Accepted.is
+begun c list = let k = c in accepted_none k.check_to_16-v.result _ (k.check_to_16-v.ensures list) c.in-Accepted.is
 
 lent_yes : (c : tie.In-Accepted) (list : Worklist) →
     let a = (start c).args in
@@ -67,18 +67,18 @@ retry_spec =
     (λ c. search rules)
     (λ c κs. sounds c.before.before)
     (λ c κs. search rules)
-    (λ c κs. let y = c.before.before in let k = y.before in omega (arith, below k.before))
+    (λ c κs. let y = c in let k = y in omega (arith, below k.before.before.before.before))
     (λ c κs. search rules)
     (λ c. search rules)
     (λ c κs. search rules)
     (λ c. search rules)
     (λ c κs. search rules)
     (λ c.
-    let w = c.before in
-    let r = w.before.before in
-    let y = r.before in
-    let k = y.before in
-    let t = k.before in
+    let w = c in
+    let r = w in
+    let y = r in
+    let k = y in
+    let t = k.before.before.before.before.before.before in
     let s = (start t).args in
     let q : Request = record { workflow = y.in-Value.w; arguments = arguments_of (value_in (book_rows s.store.now)) s.id } in
     let known = booked_some (book_rows s.store.now) s.id k.booked_workflow-g.ensures.1 k.booked_workflow-g.result
@@ -89,11 +89,11 @@ retry_spec =
     (again_known _ (state_of (record { store = s.store.now; records = s.agents; list = list })) s.slot s.id q known)
     (wrote_nothing _) (ap (λ (o : Outcome). Answers.answer_of o.answer) c.done.ensures)
     (ap (λ (o : Outcome). o.agents) c.done.ensures ∙ w.with_agent.ensures
-    ∙ ap (set s.agents s.slot) (w.before.started.ensures ∙ ap (started_with s.id) r.booked_request-known.ensures)))
+    ∙ ap (set s.agents s.slot) (w.started.ensures ∙ ap (started_with s.id) r.booked_request-known.ensures)))
     (λ c.
-    let y = c.before in
-    let k = y.before in
-    let t = k.before in
+    let y = c in
+    let k = y in
+    let t = k.before.before.before in
     let s = (start t).args in
     λ list.
     is_refused _ _ _ _ 20 0 0
@@ -101,8 +101,8 @@ retry_spec =
     ∙ known_no _ (booked_none (book_rows s.store.now) s.id k.booked_workflow-g.ensures.1 k.booked_workflow-g.result
     k.booked_workflow-g.ensures.0 y.in-Absent.is)) c.refused.ensures)
     (λ c.
-    let v = c.before in
-    let k = v.before in
+    let v = c in
+    let k = v in
     λ list.
     is_refused _ _ _ _ _ _ _
     (retry_stops _ _ _ _ _ (refused_some k.check_to_16-v.result _ _ _ _ (k.check_to_16-v.ensures list) v.in-Refused.is))

@@ -19,7 +19,7 @@ start c = c.before.before.before.before
 begun : (c : tie.In-Accepted) →
     let a = (start c).args in
     list_refusal a.pack.now (record { store = a.store.now; records = a.agents; list = a.list }) ≡ none
-begun c = let k = c.before in accepted_none k.check_to_25-v.result _ k.check_to_25-v.ensures c.in-Accepted.is
+begun c = let k = c in accepted_none k.check_to_25-v.result _ k.check_to_25-v.ensures c.in-Accepted.is
 
 pub take_spec : {M : Type 1} → statement M
 take_spec =
@@ -29,21 +29,21 @@ take_spec =
     (λ c. search rules)
     (λ c κs. list_right _ _ (begun c))
     (λ c.
-    let i = c.before in
-    let k = i.before in
-    takes_one _ _ (begun k.before) _ (k.take_first-t.ensures.0 ∙ found_some k.take_first-t.result i.if-t.true) _
+    let i = c in
+    let k = i in
+    takes_one _ _ (begun k.before.before.before) _ (k.take_first-t.ensures.0 ∙ found_some k.take_first-t.result i.if-t.true) _
     k.take_first-t.ensures.1)
     (λ c κs. search rules)
     (λ c. search rules)
     (λ c κs. search rules)
     (λ c.
-    let k = c.before.before in
-    is_unlisted _ _ _ _ 27 0 0 (take_27 _ _ (begun k.before) (k.take_first-t.ensures.0 ∙ found_none k.take_first-t.result
-    c.before.if-t.false))
+    let k = c in
+    is_unlisted _ _ _ _ 27 0 0 (take_27 _ _ (begun k.before.before.before) (k.take_first-t.ensures.0 ∙ found_none k.take_first-t.result
+    c.if-t.false))
     c.unlisted.ensures)
     (λ c.
-    let v = c.before in
-    let k = v.before in
+    let v = c in
+    let k = v in
     is_unlisted _ _ _ _ _ _ _
     (take_stops _ _ _ (refused_some k.check_to_25-v.result _ _ _ _ k.check_to_25-v.ensures v.in-Refused.is))
     c.unlisted-in-Refused.ensures))

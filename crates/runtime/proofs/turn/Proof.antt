@@ -28,7 +28,7 @@ start c = c
 begun : (c : tie.In-Accepted) (list : Worklist) →
     let a = (start c).args in
     first_sixteen a.pack.now (record { store = a.store.now; records = a.agents; list = list }) a.slot true ≡ none
-begun c list = let k = c.before in accepted_none k.check_to_16-v.result _ (k.check_to_16-v.ensures list) c.in-Accepted.is
+begun c list = let k = c in accepted_none k.check_to_16-v.result _ (k.check_to_16-v.ensures list) c.in-Accepted.is
 
 lent_yes : (c : tie.In-Accepted) (list : Worklist) →
     let a = (start c).args in
@@ -53,21 +53,21 @@ turn_spec =
     (λ c. omega (arith, below c))
     (λ c. below c)
     (λ c κs. let t = c.before.before in may_turn _ _ (start t).args.slot (begun t no_worklist))
-    (λ c κs. let g = c.before.before.before in omega (arith, below g.before.before.before))
+    (λ c κs. let g = c in omega (arith, below g.before.before.before.before.before.before))
     (λ c. search rules)
     (λ c κs. search rules)
     (λ c. search rules)
     (λ c.
-    let g = c.before.before.before.before in
-    let t = g.before.before.before in
+    let g = c in
+    let t = g.before.before.before.before.before.before.before in
     λ list.
     is_turned _ _ (start t).args.slot (begun t list) (tidied t) _ g.turn_agent-t.result _
     g.turn_agent-t.ensures
     (ap (outcome g.turn_agent-t.result.answer) c.with_agent-all.ensures))
     (λ c. search rules)
     (λ c.
-    let v = c.before in
-    let k = v.before in
+    let v = c in
+    let k = v in
     λ list.
     is_refused _ _ _ _ _ _ _ (turn_stops _ _ _ _ (refused_some k.check_to_16-v.result _ _ _ _ (k.check_to_16-v.ensures list)
     v.in-Refused.is))

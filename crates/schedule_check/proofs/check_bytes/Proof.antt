@@ -10,8 +10,8 @@ use Rattle.schedule_check.proofs.check_bytes.Statement.{statement}
 use Rattle.schedule_check.proofs.check_bytes.Tie as tie
 
 -- behind a yes to 22 there are three bytes
-long : (c : tie.After-events_right) → 3 ≤ length c.before.before.before.before.args.schedule.now
-long c = let l = laid _ (sym c.before.before.length_right.ensures ∙ not-false _ c.before.if-not-length_right.false) in omega arith
+long : (c : tie.After-events_right) → 3 ≤ length c.args.schedule.now
+long c = let l = laid _ (sym c.length_right.ensures ∙ c.if-not-length_right.false) in omega arith
 
 pub check_bytes_spec : {M : Type 1} → statement M
 check_bytes_spec =
@@ -19,28 +19,28 @@ check_bytes_spec =
     (tie.spec
     (λ c κs. search rules)
     (λ c κs. search rules)
-    (λ c. c.refused.ensures ∙ no_22 _ _ c.before.before.length_right.ensures c.before.if-not-length_right.true)
-    (λ c κs. laid _ (sym c.before.length_right.ensures ∙ not-false _ c.if-not-length_right.false))
+    (λ c. c.refused.ensures ∙ no_22 _ _ c.length_right.ensures c.if-not-length_right.true)
+    (λ c κs. laid _ (sym c.length_right.ensures ∙ c.if-not-length_right.false))
     (λ c κs. search rules)
-    (λ c. let b = c.before.before.before in
-    c.refused-then-not-events_right.ensures ∙ no_23 _ _ _ b.before.length_right.ensures b.if-not-length_right.false c.before.before.events_right.ensures
-    c.before.if-not-events_right.true)
+    (λ c. let b = c in
+    c.refused-then-not-events_right.ensures ∙ no_23 _ _ _ b.length_right.ensures b.if-not-length_right.false c.events_right.ensures
+    c.if-not-events_right.true)
     (λ c κs. long c.before)
     (λ c κs. long c.before.before)
     (λ c κs. search rules)
     (λ c κs. search rules)
-    (λ c. let b = c.before.before.before.before.before in
-    let a = b.before.before in
+    (λ c. let b = c in
+    let a = b in
     c.refused-then-not-numbers_right.ensures
-    ∙ no_9 _ _ _ _ _ _ a.before.length_right.ensures a.if-not-length_right.false b.before.events_right.ensures b.if-not-events_right.false
-    (long b.before)
-    c.before.before.before.before.partition_count.ensures c.before.before.before.capacity.ensures
-    c.before.before.numbers_right.ensures c.before.if-not-numbers_right.true)
+    ∙ no_9 _ _ _ _ _ _ a.length_right.ensures a.if-not-length_right.false b.events_right.ensures b.if-not-events_right.false
+    (long b.before.before.before.before.before.before)
+    c.partition_count.ensures c.capacity.ensures
+    c.numbers_right.ensures c.if-not-numbers_right.true)
     (λ c κs. search rules)
-    (λ c. let b = c.before.before.before.before.before in
-    let a = b.before.before in
+    (λ c. let b = c in
+    let a = b in
     c.accepted.ensures
-    ∙ no_no _ _ _ _ _ _ a.before.length_right.ensures a.if-not-length_right.false b.before.events_right.ensures b.if-not-events_right.false
-    (long b.before)
-    c.before.before.before.before.partition_count.ensures c.before.before.before.capacity.ensures
-    c.before.before.numbers_right.ensures c.before.if-not-numbers_right.false))
+    ∙ no_no _ _ _ _ _ _ a.length_right.ensures a.if-not-length_right.false b.events_right.ensures b.if-not-events_right.false
+    (long b.before.before.before.before.before.before)
+    c.partition_count.ensures c.capacity.ensures
+    c.numbers_right.ensures c.if-not-numbers_right.false))

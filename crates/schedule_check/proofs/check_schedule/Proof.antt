@@ -16,6 +16,6 @@ check_schedule_spec =
     (λ c κs. search rules)
     (λ c. search rules)
     (λ c κs. search rules)
-    (λ c. c.check_bytes.ensures ∙ then_accepted _ _ _ c.before.before.check-v.ensures c.before.in-Accepted.is)
+    (λ c. c.check_bytes.ensures ∙ then_accepted _ _ _ c.check-v.ensures c.in-Accepted.is)
     (λ c. c.refused.ensures
-    ∙ then_refused _ _ _ _ _ _ c.before.before.check-v.ensures c.before.in-Refused.is))
+    ∙ then_refused _ _ _ _ _ _ c.check-v.ensures c.in-Refused.is))

@@ -32,23 +32,23 @@ events_right_spec =
     (λ c. omega arith)
     (λ c. omega arith)
     (λ c. omega arith)
-    (λ c. let s = c.before.before.before.args.schedule.now in
+    (λ c. let s = c.args.schedule.now in
     (search rules, rw sub-zero (ap (λ n. each_from (right_at s) n 0) c.read16-events.ensures)))
     (λ c. omega arith)
     (λ c. omega arith)
     (λ c. omega arith)
     (λ c. omega arith)
     (λ c κs. search rules)
-    (λ c. let l = c.before.before.before.before.before in
-    let a = l.before.before.before.before.args in
-    let f = event_wrong a.schedule.now _ _ l.loop-event.event _ refl l.before.read16-events.ensures c.before.event_right_lem.ensures
+    (λ c. let l = c in
+    let a = l.args in
+    let f = event_wrong a.schedule.now _ _ l.loop-event.event _ refl l.read16-events.ensures c.event_right.ensures
     c.if-not-event_right.true in
     sym (each_fails _ _ _ (omega arith) f) ∙ l.loop-event.invariant.1)
     (λ c. search rules)
     (λ c. search rules)
-    (λ c. let l = c.before.before.before.before.before in
-    let a = l.before.before.before.before.args in
-    let f = event_right_lem a.schedule.now _ _ l.loop-event.event _ refl l.before.read16-events.ensures c.before.event_right_lem.ensures
+    (λ c. let l = c in
+    let a = l.args in
+    let f = event_right_lem a.schedule.now _ _ l.loop-event.event _ refl l.read16-events.ensures c.event_right.ensures
     c.if-not-event_right.false in
     (search rules, sym (each_more _ _ _ (omega arith) f) ∙ l.loop-event.invariant.1))
-    (λ c. sym (each_none _ _ _ (omega arith)) ∙ c.before.loop-event.invariant.1))
+    (λ c. sym (each_none _ _ _ (omega arith)) ∙ c.loop-event.invariant.1))

@@ -20,4 +20,4 @@ length_right_spec =
     (λ c. search rules)
     (λ c. search rules)
     (λ c. search rules)
-    (λ c. laid_as _ _ c.before.if-requests-gt64.false c.before.before.read16-events.ensures c.if-events-gt1024.false))
+    (λ c. laid_as _ _ c.if-requests-gt64.false c.read16-events.ensures c.if-events-gt1024.false))

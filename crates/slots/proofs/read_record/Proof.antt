@@ -19,21 +19,21 @@ read_record_spec =
     (λ c κs. search rules)
     (λ c κs. search rules)
     (λ c. c.no_record.ensures
-    ∙ sym (record_read _ _ _ _ _ c.before.before.before.before.read32-in_use.ensures c.before.before.before.read32-position.ensures
-    c.before.before.read32-step.ensures ∙ rw (le-ltb _ 2 c.before.if-in_use-ge2.true) refl))
+    ∙ sym (record_read _ _ _ _ _ c.read32-in_use.ensures c.read32-position.ensures
+    c.read32-step.ensures ∙ rw (le-ltb _ 2 c.if-in_use-ge2.true) refl))
     (λ c κs. search rules)
     (λ c. c.no_record-then-position-ge65536.ensures
-    ∙ sym (record_read _ _ _ _ _ c.before.before.before.before.before.read32-in_use.ensures
-    c.before.before.before.before.read32-position.ensures c.before.before.before.read32-step.ensures
-    ∙ rw (lt-ltb _ 2 c.before.before.if-in_use-ge2.false, le-ltb _ (2 ^ 16) c.before.if-position-ge65536.true) refl))
+    ∙ sym (record_read _ _ _ _ _ c.read32-in_use.ensures
+    c.read32-position.ensures c.read32-step.ensures
+    ∙ rw (lt-ltb _ 2 c.if-in_use-ge2.false, le-ltb _ (2 ^ 16) c.if-position-ge65536.true) refl))
     (λ c κs. search rules)
     (λ c. c.no_record-then-step-ge65536.ensures
-    ∙ sym (record_read _ _ _ _ _ c.before.before.before.before.before.before.read32-in_use.ensures
-    c.before.before.before.before.before.read32-position.ensures c.before.before.before.before.read32-step.ensures
+    ∙ sym (record_read _ _ _ _ _ c.read32-in_use.ensures
+    c.read32-position.ensures c.read32-step.ensures
     ∙ rw (
-      lt-ltb _ 2 c.before.before.before.if-in_use-ge2.false,
-      lt-ltb _ (2 ^ 16) c.before.before.if-position-ge65536.false,
-      le-ltb _ (2 ^ 16) c.before.if-step-ge65536.true,
+      lt-ltb _ 2 c.if-in_use-ge2.false,
+      lt-ltb _ (2 ^ 16) c.if-position-ge65536.false,
+      le-ltb _ (2 ^ 16) c.if-step-ge65536.true,
     ) refl))
     (λ c. search rules)
     (λ c κs. search rules)
@@ -41,13 +41,13 @@ read_record_spec =
     (λ c. search rules)
     (λ c. search rules)
     (λ c κs. search rules)
-    (λ c. sym (record_read _ _ _ _ _ c.before.before.before.before.before.before.before.read32-in_use.ensures
-    c.before.before.before.before.before.before.read32-position.ensures
-    c.before.before.before.before.before.read32-step.ensures
+    (λ c. sym (record_read _ _ _ _ _ c.read32-in_use.ensures
+    c.read32-position.ensures
+    c.read32-step.ensures
     ∙ rw (
-      lt-ltb _ 2 c.before.before.before.before.if-in_use-ge2.false,
-      lt-ltb _ (2 ^ 16) c.before.before.before.if-position-ge65536.false,
-      lt-ltb _ (2 ^ 16) c.before.before.if-step-ge65536.false,
-      c.before.read32.ensures,
+      lt-ltb _ 2 c.if-in_use-ge2.false,
+      lt-ltb _ (2 ^ 16) c.if-position-ge65536.false,
+      lt-ltb _ (2 ^ 16) c.if-step-ge65536.false,
+      c.read32.ensures,
       c.read_registers.ensures,
     ) refl)))

@@ -28,16 +28,16 @@ write_eight_spec =
     (λ c. search rules)
     (λ c. search rules)
     (λ c κs.
-    let l = c.before.before.loop-i in
-    let s = c.before.before.before.before.args in
+    let l = c.loop-i in
+    let s = c.args in
     omega (arith, ap length l.invariant.1 ∙ length_puts 4 s.bytes.now s.first s.eight l.i))
     (λ c. search rules)
     (λ c. search rules)
     (λ c.
-    let l = c.before.before.before.before.before.loop-i in
-    let s = c.before.before.before.before.before.before.before.args in
-    (search rules, cc (l.invariant.1, c.before.before.write32.ensures, puts_more 4 s.bytes.now s.first s.eight l.i)))
-    (λ c. let s = c.before.before.before.args in
-    ap length c.before.loop-i.invariant.1 ∙ length_puts 4 s.bytes.now s.first s.eight c.before.loop-i.i)
-    (λ c. let s = c.before.before.before.args in
-    c.before.loop-i.invariant.1 ∙ ap (puts 4 s.bytes.now s.first s.eight) (omega arith)))
+    let l = c.loop-i in
+    let s = c.args in
+    (search rules, cc (l.invariant.1, c.write32.ensures, puts_more 4 s.bytes.now s.first s.eight l.i)))
+    (λ c. let s = c.args in
+    ap length c.loop-i.invariant.1 ∙ length_puts 4 s.bytes.now s.first s.eight c.loop-i.i)
+    (λ c. let s = c.args in
+    c.loop-i.invariant.1 ∙ ap (puts 4 s.bytes.now s.first s.eight) (omega arith)))

@@ -24,9 +24,9 @@ write_record_spec =
     (λ c κs. search rules)
     (λ c. search rules)
     (λ c.
-    let fourth = c.before.before.before.before.before in
-    let third = fourth.before.before.before.before.before in
-    let second = third.before.before.before.before.before in
-    let first = second.before.before.before.before.before in
-    let s = first.before.before.before.before.before.args in
+    let fourth = c in
+    let third = fourth in
+    let second = third in
+    let first = second in
+    let s = first.args in
     cc (record_written s.bytes.now (48 * s.slot) s.agent)))

@@ -28,20 +28,20 @@ write_slots_spec =
     (λ c. search rules)
     (λ c. search rules)
     (λ c κs.
-    let l = c.before.before.before.loop-slot in
-    let s = c.before.before.before.before.before in
+    let l = c.loop-slot in
+    let s = c in
     omega (arith, s.requires, ap length l.invariant.1 ∙ length_records s.args.bytes.now s.args.slots l.slot))
     (λ c. search rules)
     (λ c. search rules)
     (λ c.
-    let l = c.before.before.before.before.before.before.loop-slot in
-    let s = c.before.before.before.before.before.before.before.before.args in
-    (search rules, cc (l.invariant.1, c.before.before.write_record.ensures, records_more s.bytes.now s.slots l.slot)))
-    (λ c. let s = c.before.before.before.args in
-    ap length c.before.loop-slot.invariant.1 ∙ length_records s.bytes.now s.slots c.before.loop-slot.slot)
+    let l = c.loop-slot in
+    let s = c.args in
+    (search rules, cc (l.invariant.1, c.write_record.ensures, records_more s.bytes.now s.slots l.slot)))
+    (λ c. let s = c.args in
+    ap length c.loop-slot.invariant.1 ∙ length_records s.bytes.now s.slots c.loop-slot.slot)
     (λ c.
-    let s = c.before.before.before in
-    let e = c.before.loop-slot.invariant.1 ∙ ap (with_records s.args.bytes.now s.args.slots) (omega arith) in (
+    let s = c in
+    let e = c.loop-slot.invariant.1 ∙ ap (with_records s.args.bytes.now s.args.slots) (omega arith) in (
       e,
       ap slots_in e ∙ slots_back s.args.bytes.now s.args.slots s.requires (eight_records s.args.slots _ s.well_formed.1.0)
           (all_fitting s.args.slots _ s.well_formed.1.0),

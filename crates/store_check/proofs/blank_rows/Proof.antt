@@ -30,36 +30,36 @@ blank_rows_spec =
     (λ c. omega arith)
     (λ c. (search rules, search rules, refl, refl, refl))
     (λ c κs. omega arith)
-    (λ c. let lp = c.before.before.before in
-    let a = lp.before.before.args in
-    sym (each_fails (blank_row a.store.now a.keys_at a.values_at) a.cap lp.loop-row.row c.before.before.loop-row-test.true
-    (blank_no_key _ _ _ _ _ _ c.before.read64.ensures lp.loop-row.invariant.2 c.if-read64-ne0.true))
+    (λ c. let lp = c in
+    let a = lp.args in
+    sym (each_fails (blank_row a.store.now a.keys_at a.values_at) a.cap lp.loop-row.row c.loop-row-test.true
+    (blank_no_key _ _ _ _ _ _ c.read64.ensures lp.loop-row.invariant.2 c.if-read64-ne0.true))
     ∙ lp.loop-row.invariant.4)
     (λ c κs. omega arith)
-    (λ c. let e = c.before.before in
-    let lp = e.before.before.before in
-    let a = lp.before.before.args in
-    sym (each_fails (blank_row a.store.now a.keys_at a.values_at) a.cap lp.loop-row.row e.before.before.loop-row-test.true
-    (blank_no_value _ _ _ _ _ _ e.before.read64.ensures lp.loop-row.invariant.2 e.if-read64-ne0.false _ _
-    c.before.read32.ensures lp.loop-row.invariant.3 c.if-read32-ne0.true))
+    (λ c. let e = c in
+    let lp = e in
+    let a = lp.args in
+    sym (each_fails (blank_row a.store.now a.keys_at a.values_at) a.cap lp.loop-row.row e.loop-row-test.true
+    (blank_no_value _ _ _ _ _ _ e.read64.ensures lp.loop-row.invariant.2 e.if-read64-ne0.false _ _
+    c.read32.ensures lp.loop-row.invariant.3 c.if-read32-ne0.true))
     ∙ lp.loop-row.invariant.4)
     (λ c. omega arith)
     (λ c. omega arith)
     (λ c. omega arith)
     (λ c. omega arith)
-    (λ c. let e = c.before.before in
-    let lp = e.before.before.before in
-    let a = lp.before.before.args in (
+    (λ c. let e = c in
+    let lp = e in
+    let a = lp.args in (
       omega arith,
       omega arith,
       omega arith,
       omega arith,
-      sym (each_more (blank_row a.store.now a.keys_at a.values_at) a.cap lp.loop-row.row e.before.before.loop-row-test.true
-          (blank_yes _ _ _ _ _ _ e.before.read64.ensures lp.loop-row.invariant.2 e.if-read64-ne0.false _ _
-          c.before.read32.ensures lp.loop-row.invariant.3 c.if-read32-ne0.false))
+      sym (each_more (blank_row a.store.now a.keys_at a.values_at) a.cap lp.loop-row.row e.loop-row-test.true
+          (blank_yes _ _ _ _ _ _ e.read64.ensures lp.loop-row.invariant.2 e.if-read64-ne0.false _ _
+          c.read32.ensures lp.loop-row.invariant.3 c.if-read32-ne0.false))
           ∙ lp.loop-row.invariant.4,
     ))
-    (λ c. let lp = c.before in
-    let a = lp.before.before.args in
+    (λ c. let lp = c in
+    let a = lp.args in
     sym (each_none (blank_row a.store.now a.keys_at a.values_at) a.cap lp.loop-row.row c.loop-row-test.false)
     ∙ lp.loop-row.invariant.4))

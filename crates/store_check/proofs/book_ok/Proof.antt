@@ -11,10 +11,10 @@ book_ok_spec =
     tie.close
     (tie.spec
     (λ c κs. search rules)
-    (λ c. sym (right_no _ _ _ _ (sym c.before.five_each.ensures ∙ not-true _ c.if-not-five_each.true)))
+    (λ c. sym (right_no _ _ _ _ (sym c.five_each.ensures ∙ c.if-not-five_each.true)))
     (λ c κs. search rules)
     (λ c κs. search rules)
-    (λ c. let f = c.before in
-    let five = f.before.before in
-    c.from_floor_lem.ensures
-    ∙ sym (right_is _ _ _ _ (sym five.five_each.ensures ∙ not-false _ f.before.if-not-five_each.false) _ f.floor_of-floor.ensures)))
+    (λ c. let f = c in
+    let five = f in
+    c.from_floor.ensures
+    ∙ sym (right_is _ _ _ _ (sym five.five_each.ensures ∙ f.if-not-five_each.false) _ f.floor_of-floor.ensures)))

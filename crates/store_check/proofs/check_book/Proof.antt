@@ -13,17 +13,17 @@ check_book_spec =
     (λ c κs. search rules)
     (λ c κs. search rules)
     (λ c κs. search rules)
-    (λ c κs. let k = c.before in
-    let u = k.before in
-    let p = u.before in
-    let st = p.before.before in
+    (λ c κs. let k = c in
+    let u = k in
+    let p = u in
+    let st = p in
     let within = book_within _ _ _ _ p.partition_count-book.ensures u.used_count-used.ensures k.key_place-keys_at.ensures st.requires.formed in (
       within.0,
       within.1 _ c.value_place-values_at.ensures,
       book_keys_lem _ _ _ _ p.partition_count-book.ensures u.used_count-used.ensures k.key_place-keys_at.ensures st.requires,
     ))
-    (λ c. let v = c.before in
-    let k = v.before in
-    let u = k.before in
+    (λ c. let v = c in
+    let k = v in
+    let u = k in
     c.book_ok.ensures
-    ∙ book_is _ _ _ _ u.before.partition_count-book.ensures u.used_count-used.ensures k.key_place-keys_at.ensures _ v.value_place-values_at.ensures))
+    ∙ book_is _ _ _ _ u.partition_count-book.ensures u.used_count-used.ensures k.key_place-keys_at.ensures _ v.value_place-values_at.ensures))

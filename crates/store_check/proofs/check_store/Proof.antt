@@ -17,11 +17,11 @@ start c = c.before.before.before
 
 -- 9 and 10 say yes
 shape : (c : tie.In-Accepted) → Dimensions (start c).args.store.now
-shape c = shape_accepted _ _ c.before.check_shape-v.ensures c.in-Accepted.is
+shape c = shape_accepted _ _ c.check_shape-v.ensures c.in-Accepted.is
 
 -- 11 says yes
 rows : (c : tie.Else-not-check_partitions) → question11 (start c.before.before).args.store.now ≡ true
-rows c = sym c.before.check_partitions.ensures ∙ not-false _ c.if-not-check_partitions.false
+rows c = sym c.check_partitions.ensures ∙ c.if-not-check_partitions.false
 
 pub check_store_spec : {M : Type 1} → statement M
 unfolding store_refusal
@@ -32,21 +32,21 @@ check_store_spec =
     (λ c. search rules)
     (λ c κs. shape c)
     (λ c κs. search rules)
-    (λ c. let t = c.before.before.before in
+    (λ c. let t = c in
     c.refused.ensures
-    ∙ ap verdict_of (sym (no_11 _ _ _ t.before.check_shape-v.ensures t.in-Accepted.is
-    (sym c.before.before.check_partitions.ensures ∙ not-true _ c.before.if-not-check_partitions.true))))
+    ∙ ap verdict_of (sym (no_11 _ _ _ t.check_shape-v.ensures t.in-Accepted.is
+    (sym c.check_partitions.ensures ∙ c.if-not-check_partitions.true))))
     (λ c κs. sound_of _ (shape c.before.before) (rows c))
     (λ c κs. search rules)
     (λ c. let e = c.before.before.before in
-    let t = e.before.before in
+    let t = e in
     c.refused-then-not-check_book.ensures
-    ∙ ap verdict_of (sym (no_12 _ _ _ t.before.check_shape-v.ensures t.in-Accepted.is (rows e)
-    (sym c.before.before.check_book.ensures ∙ not-true _ c.before.if-not-check_book.true))))
+    ∙ ap verdict_of (sym (no_12 _ _ _ t.check_shape-v.ensures t.in-Accepted.is (rows e)
+    (sym c.check_book.ensures ∙ c.if-not-check_book.true))))
     (λ c. search rules)
     (λ c. let e = c.before.before in
-    let t = e.before.before in
+    let t = e in
     t.in-Accepted.is
-    ∙ ap verdict_of (sym (all_yes _ _ _ t.before.check_shape-v.ensures t.in-Accepted.is (rows e)
-    (sym c.before.check_book.ensures ∙ not-false _ c.if-not-check_book.false))))
-    (λ c. no_shape _ _ _ c.before.check_shape-v.ensures _ _ _ c.in-Refused.is))
+    ∙ ap verdict_of (sym (all_yes _ _ _ t.check_shape-v.ensures t.in-Accepted.is (rows e)
+    (sym c.check_book.ensures ∙ c.if-not-check_book.false))))
+    (λ c. no_shape _ _ _ c.check_shape-v.ensures _ _ _ c.in-Refused.is))

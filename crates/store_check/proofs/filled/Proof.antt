@@ -11,4 +11,4 @@ filled_spec =
     (tie.spec
     (λ c. sym (filled_no _ _ _ _ _ c.if-cap-used.true))
     (λ c κs. search rules)
-    (λ c. c.blank_rows.ensures ∙ sym (filled_is _ _ _ _ _ c.before.if-cap-used.false)))
+    (λ c. c.blank_rows.ensures ∙ sym (filled_is _ _ _ _ _ c.if-cap-used.false)))

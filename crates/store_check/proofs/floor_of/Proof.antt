@@ -20,16 +20,16 @@ floor_of_spec =
     (λ c. search rules)
     (λ c. search rules)
     (λ c κs. search rules)
-    (λ c. let f = c.before.before in
-    let some_row = f.before.before in
-    let st = some_row.before.before in
+    (λ c. let f = c in
+    let some_row = f in
+    let st = some_row in
     let none = some_row.if-used-eq0.false in
     c.read32.ensures
-    ∙ floor_there _ _ _ _ st.requires.2 (st.args.used - 1) (omega arith) _ f.before.read64.ensures
-    (sym f.is_floor.ensures ∙ c.before.if-is_floor.true))
-    (λ c. let f = c.before in
-    let some_row = f.before.before in
-    let st = some_row.before.before in
+    ∙ floor_there _ _ _ _ st.requires.2 (st.args.used - 1) (omega arith) _ f.read64.ensures
+    (sym f.is_floor.ensures ∙ c.if-is_floor.true))
+    (λ c. let f = c in
+    let some_row = f in
+    let st = some_row in
     let none = some_row.if-used-eq0.false in
-    floor_absent _ _ _ _ st.requires.2 (st.args.used - 1) (omega arith) _ f.before.read64.ensures
+    floor_absent _ _ _ _ st.requires.2 (st.args.used - 1) (omega arith) _ f.read64.ensures
     (sym f.is_floor.ensures ∙ c.if-is_floor.false)))

@@ -15,8 +15,8 @@ from_floor_spec =
     (λ c. sym (from_none _ _ _ _ c.if-used-eq0.true))
     (λ c κs. search rules)
     (λ c κs. search rules)
-    (λ c. let r = c.before in
-    let st = r.before.before.before in
-    let none = r.before.if-used-eq0.false in
+    (λ c. let r = c in
+    let st = r in
+    let none = r.if-used-eq0.false in
     ap (leb st.args.floor) c.booked_id.ensures
     ∙ sym (from_first st.args.floor (omega arith) _ _ _ (st.args.used - 1) _ (omega arith) r.read64-first.ensures st.requires.1)))

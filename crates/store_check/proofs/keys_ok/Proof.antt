@@ -24,16 +24,16 @@ decreases-loop store keys_at used book low₀ key_at₀ row₀ low key_at row = 
 
 -- one more is left
 more : (c : tie.In-loop-row invariant-loop decreases-loop) →
-    let n = c.before.before.before.args.used in
-    let i = c.before.loop-row.row in
+    let n = c.args.used in
+    let i = c.loop-row.row in
     n - i ≡ suc (n - (i + 1))
 more c = let h = c.loop-row-test.true in omega arith
 
 -- the key that was read is of a form
 is_form_lem : (e : tie.Else-not-of_form invariant-loop decreases-loop) →
-    let r = e.before.before.before in
-    is_form r.before.before.before.before.args.book r.read64-key.result ≡ true
-is_form_lem e = sym e.before.of_form.ensures ∙ not-false _ e.if-not-of_form.false
+    let r = e in
+    is_form r.args.book r.read64-key.result ≡ true
+is_form_lem e = sym e.of_form.ensures ∙ e.if-not-of_form.false
 
 pub keys_ok_spec : {M : Type 1} → statement M
 keys_ok_spec =
@@ -41,30 +41,30 @@ keys_ok_spec =
     (tie.spec
     invariant-loop
     decreases-loop
-    (λ c. let a = c.before.args in
+    (λ c. let a = c.args in
     rw (sub-zero a.used) (omega arith, omega arith, rises_all a.book (fields 8 a.store.now a.keys_at a.used)))
     (λ c κs. omega arith)
-    (λ c. let r = c.before in
-    let lp = r.before.before in
-    sym (rises_low lp.before.before.args.book _ _ _ _ _ _ (more r.before) r.read64-key.ensures c.if-key-low.true)
+    (λ c. let r = c in
+    let lp = r in
+    sym (rises_low lp.args.book _ _ _ _ _ _ (more r.before.before) r.read64-key.ensures c.if-key-low.true)
     ∙ lp.loop-row.invariant.2)
     (λ c κs. search rules)
-    (λ c. let r = c.before.before.before in
-    let lp = r.before.before in
-    sym (rises_no_form _ lp.loop-row.low _ _ _ _ _ (more r.before) r.read64-key.ensures
-    (sym c.before.of_form.ensures ∙ not-true _ c.if-not-of_form.true))
+    (λ c. let r = c in
+    let lp = r in
+    sym (rises_no_form _ lp.loop-row.low _ _ _ _ _ (more r.before.before.before.before) r.read64-key.ensures
+    (sym c.of_form.ensures ∙ c.if-not-of_form.true))
     ∙ lp.loop-row.invariant.2)
     (λ c. omega (arith, form_bound _ _ (is_form_lem c)))
     (λ c. omega arith)
     (λ c. omega arith)
     (λ c. omega arith)
-    (λ c. let r = c.before.before.before in
-    let lp = r.before.before in (
+    (λ c. let r = c in
+    let lp = r in (
       omega arith,
       omega arith,
-      sym (rises_more _ _ _ _ _ _ _ (more r.before) r.read64-key.ensures c.before.before.if-key-low.false (is_form_lem c)) ∙ lp.loop-row.invariant.2,
+      sym (rises_more _ _ _ _ _ _ _ (more r.before.before.before.before) r.read64-key.ensures c.if-key-low.false (is_form_lem c)) ∙ lp.loop-row.invariant.2,
     ))
-    (λ c. let lp = c.before in
-    let a = lp.before.before.args in
+    (λ c. let lp = c in
+    let a = lp.args in
     sym (rises_done a.book lp.loop-row.low a.store.now lp.loop-row.key_at (a.used - lp.loop-row.row) (omega arith))
     ∙ lp.loop-row.invariant.2))

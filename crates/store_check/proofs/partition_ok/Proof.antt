@@ -12,18 +12,18 @@ use Rattle.store_check.proofs.partition_ok.Tie as tie
 
 -- the used rows fit, and the unused ones are zero
 fine : (e : tie.Else-not-filled) →
-    let a = e.before.before.before.args in
+    let a = e.args in
     filled a.store.now a.cap a.used a.keys_at a.values_at ≡ true
-fine e = sym e.before.filled.ensures ∙ not-false _ e.if-not-filled.false
+fine e = sym e.filled.ensures ∙ e.if-not-filled.false
 
-fits : (e : tie.Else-not-filled) → let a = e.before.before.before.args in a.used ≤ a.cap
-fits e = let a = e.before.before.before.args in filled_fits a.store.now a.cap a.used a.keys_at a.values_at (fine e)
+fits : (e : tie.Else-not-filled) → let a = e.args in a.used ≤ a.cap
+fits e = let a = e.args in filled_fits a.store.now a.cap a.used a.keys_at a.values_at (fine e)
 
 pub partition_ok_spec : {M : Type 1} → statement M
 partition_ok_spec =
     tie.close
     (tie.spec
     (λ c κs. search rules)
-    (λ c. sym (part_no _ _ _ _ _ keys_ok _ (sym c.before.filled.ensures ∙ not-true _ c.if-not-filled.true)))
+    (λ c. sym (part_no _ _ _ _ _ keys_ok _ (sym c.filled.ensures ∙ c.if-not-filled.true)))
     (λ c κs. omega (arith, fits c))
     (λ c. c.keys_ok.ensures ∙ sym (part_is _ _ _ _ _ keys_ok _ (fine c.before))))

@@ -5,7 +5,7 @@ use borrow.Author.Rules.{rules}
 use borrow.Fn.Kinds.{In}
 use borrow.Fn.PlainCycle.{Measures, is, falls, and}
 use Rattle.text.proofs.Laws.{size_one, size_more, number_one, number_more}
-use Rattle.text.proofs.append_digits.Reads as append-digits
+use Rattle.text.proofs.append_digits.Reads as append_digits
 use Rattle.text.proofs.append_digits.Kinds as append-digits-kinds
 use Rattle.text.proofs.+append_digits.Lts-append_digits as append-digits-lts
 use Rattle.text.proofs.append_byte.Reads as append-byte-reads

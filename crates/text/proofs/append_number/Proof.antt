@@ -9,7 +9,7 @@ pub append_number_spec : {M : Type 1} → statement M
 append_number_spec =
     tie.close
     (tie.spec
-    (λ c κs. number_fits _ _ _ c.before.before.requires (omega arith))
+    (λ c κs. number_fits _ _ _ c.requires (omega arith))
     (λ c. search rules)
-    (λ c. let b = c.before.before in
-    (b.append_digits.ensures, omega (arith, decimal_length 19 b.before.before.before.args.number (omega arith)))))
+    (λ c. let b = c in
+    (b.append_digits.ensures, omega (arith, decimal_length 19 b.args.number (omega arith)))))

@@ -20,19 +20,19 @@ leave_block_spec =
     (λ c κs. search rules)
     (λ c. search rules)
     (λ c κs.
-    let b = c.before in
-    let s = b.before.before.before in
-    let l = behind_short s.args.ops.now [] (place_of s.args.begin) b.before.in-Result.value s.requires.0 in
-    let e = ap (λ (x : Course). x.place.position) (b.behind_block_lem.ensures []) in
+    let b = c in
+    let s = b in
+    let l = behind_short s.args.ops.now [] (place_of s.args.begin) b.in-Result.value s.requires.0 in
+    let e = ap (λ (x : Course). x.place.position) (b.behind_block.ensures []) in
     omega (arith, l, e, s.requires.1))
     (λ c. search rules)
     (λ c ws.
-    let b = c.before.before in
-    let g = b.before in
-    let s = g.before.before in
+    let b = c in
+    let g = b in
+    let s = g in
     c.stand_at.ensures
-    ∙ (λ i. moved_to s.args.a (b.behind_block_lem.ensures ws i).place (add-one s.args.a.step i))
+    ∙ (λ i. moved_to s.args.a (b.behind_block.ensures ws i).place (add-one s.args.a.step i))
     ∙ ap (behind_block (code_of s.args.ops.now ws) s.args.a (place_of s.args.begin)) (sym g.in-Result.is))
     (λ c ws.
-    let s = c.before.before in
+    let s = c in
     ap (behind_block (code_of s.args.ops.now ws) s.args.a (place_of s.args.begin)) (sym c.in-NoRoom.is)))

@@ -11,4 +11,4 @@ reply_spec =
     tie.close
     (tie.spec
     (λ c κs. search rules)
-    (λ c. let s = c.before.args in ap (λ (x : Agent). record { answer = Reply s.a.id s.value; agent = x }) c.no_agent_lem.ensures))
+    (λ c. let s = c.args in ap (λ (x : Agent). record { answer = Reply s.a.id s.value; agent = x }) c.no_agent.ensures))

@@ -27,18 +27,18 @@ start o = o
 -- its operation bytes and its operand bytes
 ops_are : (c : tie.After-operands_part-operands) →
     let s = start c in
-    c.before.operations_part-ops.result.now ≡ ops s.args.pack.now s.args.store.now s.args.a
+    c.operations_part-ops.result.now ≡ ops s.args.pack.now s.args.store.now s.args.a
     (small c.before.before.before) s.requires
 ops_are c =
     let s = start c in
-    c.before.operations_part-ops.ensures ∙ ap (operations_of s.args.pack.now) c.before.before.workflow_of-workflow.ensures
+    c.operations_part-ops.ensures ∙ ap (operations_of s.args.pack.now) c.workflow_of-workflow.ensures
 
 words_are : (c : tie.After-operands_part-operands) →
     let s = start c in
     c.operands_part-operands.result.now ≡ ws s.args.pack.now s.args.store.now s.args.a (small c.before.before.before) s.requires
 words_are c =
     let s = start c in
-    c.operands_part-operands.ensures ∙ ap (operands_of s.args.pack.now) c.before.before.workflow_of-workflow.ensures
+    c.operands_part-operands.ensures ∙ ap (operands_of s.args.pack.now) c.workflow_of-workflow.ensures
 
 pub turn_agent_spec : {M : Type 1} → statement M
 turn_agent_spec =
@@ -54,24 +54,24 @@ turn_agent_spec =
     may_ask _ _ s.args.a (small o.before.before.before) s.requires _ _ (ops_are o) (words_are o))
     (λ c. search rules)
     (λ c κs.
-    let n = c.before.before in
-    let o = n.before.before.before in
+    let n = c in
+    let o = n.before.before.before.before.before in
     let s = start o in
     may_go _ _ s.args.a (small o.before.before.before) s.requires _ _ (ops_are o) (words_are o) n.next_of-upcoming.result
     n.next_of-upcoming.ensures c.in-Goes.is)
     (λ c. search rules)
     (λ c κs.
-    let x = c.before.before in
-    let n = x.before.before in
-    let o = n.before.before.before in
+    let x = c in
+    let n = x in
+    let o = n.before.before.before.before.before.before.before in
     let s = start o in
     may_run _ _ s.args.a (small o.before.before.before) s.requires _ _ (ops_are o) (words_are o) n.next_of-upcoming.result
     n.next_of-upcoming.ensures _ x.in-Does.is)
     (λ c κs.
-    let g = c.before.before in
-    let x = g.before.before.before in
-    let n = x.before.before in
-    let o = n.before.before.before in
+    let g = c in
+    let x = g in
+    let n = x in
+    let o = n.before.before.before.before.before.before.before.before.before.before in
     let s = start o in
     may_leave _ _ s.args.a (small o.before.before.before) s.requires _ _ (ops_are o) (words_are o) n.next_of-upcoming.result
     n.next_of-upcoming.ensures _ x.in-Does.is)
@@ -79,27 +79,27 @@ turn_agent_spec =
     (λ c κs. search rules)
     (λ c. search rules)
     (λ c.
-    let x = c.before in
-    let n = x.before.before in
-    let o = n.before.before.before in
+    let x = c in
+    let n = x in
+    let o = n.before.before.before.before.before.before in
     let s = start o in
     goes_on _ _ s.args.a (small o.before.before.before) s.requires _ _ (ops_are o) (words_are o) n.next_of-upcoming.result
     n.next_of-upcoming.ensures x.in-Goes.is _ c.stand_at.ensures)
     (λ c. search rules)
     (λ c.
-    let g = c.before.before.before in
-    let x = g.before.before.before in
-    let n = x.before.before in
-    let o = n.before.before.before in
+    let g = c in
+    let x = g in
+    let n = x in
+    let o = n.before.before.before.before.before.before.before.before.before.before.before in
     let s = start o in
     does_block _ _ s.args.a (small o.before.before.before) s.requires _ _ (ops_are o) (words_are o) n.next_of-upcoming.result
     n.next_of-upcoming.ensures _ x.in-Does.is
     _ _ _ g.through_block-outcome.ensures (c.leave_block.ensures _))
     (λ c. search rules)
     (λ c.
-    let x = c.before in
-    let n = x.before.before in
-    let o = n.before.before.before in
+    let x = c in
+    let n = x in
+    let o = n.before.before.before.before.before.before in
     let s = start o in
     replies _ _ s.args.a (small o.before.before.before) s.requires _ _ (ops_are o) (words_are o) n.next_of-upcoming.result
     n.next_of-upcoming.ensures _ x.in-Says.is _ c.reply.ensures))

@@ -12,6 +12,6 @@ workflow_of_spec =
     (λ c. search rules)
     (λ c. search rules)
     (λ c. search rules)
-    (λ c. let k = c.before in got_value _ k.booked_workflow-booked.result k.booked_workflow-booked.ensures.0 _
+    (λ c. let k = c in got_value _ k.booked_workflow-booked.result k.booked_workflow-booked.ensures.0 _
     c.in-Value.is)
-    (λ c. let k = c.before in got_zero _ k.booked_workflow-booked.result k.booked_workflow-booked.ensures.0 c.in-Absent.is))
+    (λ c. let k = c in got_zero _ k.booked_workflow-booked.result k.booked_workflow-booked.ensures.0 c.in-Absent.is))

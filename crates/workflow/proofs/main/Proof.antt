@@ -25,6 +25,6 @@ main_spec =
     (λ c. search rules)
     (λ c κs. search rules)
     (λ c. c.run-n.ensures.1)
-    (λ c. sym (length-take-le _ _ c.before.run-n.ensures.1))
+    (λ c. sym (length-take-le _ _ c.run-n.ensures.1))
     (λ c κs. search rules)
     (λ c. search rules))

@@ -28,6 +28,6 @@ all_waiting_spec =
     (λ c. search rules)
     (λ c. search rules)
     (λ c. search rules)
-    (λ c. let l = c.before.before.loop-i in let s = c.before.before.before.args in
+    (λ c. let l = c.loop-i in let s = c.args in
     (search rules, rw (l.invariant.1, waiting_more s.places l.i) refl))
-    (λ c. c.before.loop-i.invariant.1 ∙ ap (waiting_to c.before.before.args.places) (omega arith)))
+    (λ c. c.loop-i.invariant.1 ∙ ap (waiting_to c.args.places) (omega arith)))

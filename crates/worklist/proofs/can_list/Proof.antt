@@ -11,4 +11,4 @@ can_list_spec =
     (tie.spec
     (λ c. sym (can_list_more _ _ c.if-l-lt16.true))
     (λ c κs. search rules)
-    (λ c. c.is_listed.ensures ∙ sym (can_list_full _ _ c.before.if-l-lt16.false)))
+    (λ c. c.is_listed.ensures ∙ sym (can_list_full _ _ c.if-l-lt16.false)))

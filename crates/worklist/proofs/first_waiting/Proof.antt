@@ -25,11 +25,11 @@ first_waiting_spec =
     (λ c. (search rules, rw sub-zero))
     (λ c. search rules)
     (λ c. search rules)
-    (λ c. let l = c.before.before.before.before in
+    (λ c. let l = c in
     sym (first_hit _ _ _ l.loop-place.place (omega arith) (eq-eqb _ 0 c.if-e-eq0.true)) ∙ l.loop-place.invariant.1)
     (λ c. search rules)
     (λ c. search rules)
-    (λ c. let l = c.before.before.before.before in
+    (λ c. let l = c in
     (search rules, sym (first_miss _ _ _ l.loop-place.place (omega arith) (ne_eqb _ 0 c.if-e-eq0.false)) ∙ l.loop-place.invariant.1))
-    (λ c. let l = c.before in
+    (λ c. let l = c in
     sym (first_end _ _ _ l.loop-place.place (omega arith) (omega arith)) ∙ l.loop-place.invariant.1))

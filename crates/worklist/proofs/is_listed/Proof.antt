@@ -12,5 +12,5 @@ is_listed_spec =
     tie.close
     (tie.spec
     (λ c. search rules)
-    (λ c κs. (right_count _ _ c.before.before.requires, omega arith))
+    (λ c κs. (right_count _ _ c.requires, omega arith))
     (λ c. sym (listed_is _ _ _ c.place_from.ensures)))

@@ -25,18 +25,18 @@ is_right_spec =
     (λ c. (search rules, refl))
     (λ c. search rules)
     (λ c. search rules)
-    (λ c. let l = c.before.before.before.before in
+    (λ c. let l = c in
     sym (right_badly_marked _ _ l.loop-i.i (omega arith) (omega arith)) ∙ l.loop-i.invariant.1 ∙ right_all _ _ (omega arith))
     (λ c. search rules)
     (λ c κs. search rules)
-    (λ c. let l = c.before.before.before.before.before.before in
-    sym (right_twice _ _ l.loop-i.i (omega arith) (rw (← c.before.place_from.ensures) c.if-place_from-count.true)) ∙ l.loop-i.invariant.1
+    (λ c. let l = c in
+    sym (right_twice _ _ l.loop-i.i (omega arith) (rw (← c.place_from.ensures) c.if-place_from-count.true)) ∙ l.loop-i.invariant.1
     ∙ right_all _ _ (omega arith))
     (λ c. search rules)
     (λ c. search rules)
-    (λ c. let l = c.before.before.before.before.before.before in (
+    (λ c. let l = c in (
       search rules,
-      sym (right_on _ _ l.loop-i.i (omega arith) (omega arith) (rw (← c.before.place_from.ensures) c.if-place_from-count.false)) ∙ l.loop-i.invariant.1,
+      sym (right_on _ _ l.loop-i.i (omega arith) (omega arith) (rw (← c.place_from.ensures) c.if-place_from-count.false)) ∙ l.loop-i.invariant.1,
     ))
-    (λ c. let l = c.before in
+    (λ c. let l = c in
     sym (right_end _ _ l.loop-i.i (omega arith)) ∙ l.loop-i.invariant.1 ∙ right_all _ _ (omega arith)))

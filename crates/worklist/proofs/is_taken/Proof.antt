@@ -12,8 +12,8 @@ is_taken_spec =
     tie.close
     (tie.spec
     (λ c. search rules)
-    (λ c κs. (right_count _ _ c.before.before.requires, omega arith))
-    (λ c. sym (taken_nowhere _ _ _ c.before.place_from-place.ensures c.if-place-count.true))
+    (λ c κs. (right_count _ _ c.requires, omega arith))
+    (λ c. sym (taken_nowhere _ _ _ c.place_from-place.ensures c.if-place-count.true))
     (λ c. search rules)
-    (λ c. omega (arith, right_count _ _ c.before.before.before.before.requires))
-    (λ c. let p = c.before.before.before in sym (taken_here _ _ _ p.place_from-place.ensures (omega arith))))
+    (λ c. omega (arith, right_count _ _ c.requires))
+    (λ c. let p = c in sym (taken_here _ _ _ p.place_from-place.ensures (omega arith))))

@@ -31,6 +31,6 @@ moved_up_spec =
     (λ c. search rules)
     (λ c. search rules)
     (λ c. search rules)
-    (λ c. let l = c.before.before.loop-i in let s = c.before.before.before.args in
+    (λ c. let l = c.loop-i in let s = c.args in
     (search rules, rw (l.invariant.1, moved_more s.places s.from l.i) refl))
-    (λ c. let s = c.before.before.args in c.before.loop-i.invariant.1 ∙ ap (moved_up s.places s.from) (omega arith)))
+    (λ c. let s = c.args in c.loop-i.invariant.1 ∙ ap (moved_up s.places s.from) (omega arith)))

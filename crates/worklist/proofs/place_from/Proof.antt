@@ -25,11 +25,11 @@ place_from_spec =
     (λ c. (search rules, refl))
     (λ c. search rules)
     (λ c. search rules)
-    (λ c. let l = c.before.before.before.before in
+    (λ c. let l = c in
     sym (first_hit _ _ _ l.loop-i.i (omega arith) (eq-eqb _ _ (sym c.if-e-id.true))) ∙ l.loop-i.invariant.1)
     (λ c. search rules)
     (λ c. search rules)
-    (λ c. let l = c.before.before.before.before in
+    (λ c. let l = c in
     (search rules, sym (first_miss _ _ _ l.loop-i.i (omega arith) (ne_eqb _ _ (λ e. c.if-e-id.false (sym e)))) ∙ l.loop-i.invariant.1))
-    (λ c. let l = c.before in
+    (λ c. let l = c in
     sym (first_end _ _ _ l.loop-i.i (omega arith) (omega arith)) ∙ l.loop-i.invariant.1))

@@ -27,6 +27,6 @@ read_places_spec =
     (λ c. search rules)
     (λ c. search rules)
     (λ c. search rules)
-    (λ c. let l = c.before.before.loop-place in
+    (λ c. let l = c.loop-place in
     (search rules, read_more _ l.places l.place _ (omega arith) c.read_entry-read.ensures l.invariant.1))
-    (λ c. let l = c.before.loop-place in read_all _ l.places l.place (omega arith) l.invariant.1))
+    (λ c. let l = c.loop-place in read_all _ l.places l.place (omega arith) l.invariant.1))

@@ -13,12 +13,12 @@ restarted_spec =
     (tie.spec
     (λ c κs. search rules)
     (λ c. search rules)
-    (λ c κs. right_count _ _ (sym c.before.before.before.is_right.ensures ∙ c.before.before.if-is_right.true))
+    (λ c κs. right_count _ _ (sym c.is_right.ensures ∙ c.if-is_right.true))
     (λ c.
-    let s = c.before.before.before.before.before in
+    let s = c in
     rw c.all_waiting-next.ensures
     (restarted_right _ (sixteen_places s.args.l _ s.well_formed.0)
-    (sym c.before.before.before.before.is_right.ensures ∙ c.before.before.before.if-is_right.true)))
+    (sym c.is_right.ensures ∙ c.if-is_right.true)))
     (λ c.
-    let s = c.before.before in
-    restarted_wrong _ (sixteen_places s.args.l _ s.well_formed.0) (sym c.before.is_right.ensures ∙ c.if-is_right.false)))
+    let s = c in
+    restarted_wrong _ (sixteen_places s.args.l _ s.well_formed.0) (sym c.is_right.ensures ∙ c.if-is_right.false)))

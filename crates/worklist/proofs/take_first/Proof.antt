@@ -12,17 +12,17 @@ take_first_spec =
     tie.close
     (tie.spec
     (λ c. search rules)
-    (λ c κs. right_count _ _ c.before.before.requires)
+    (λ c κs. right_count _ _ c.requires)
     (λ c.
-    let s = c.before.before.before.before in
-    let e = c.before.first_waiting-place.ensures in
+    let s = c in
+    let e = c.first_waiting-place.ensures in
     (none_waits _ _ e c.if-place-count.true, took_none _ _ e (sixteen_places s.args.l _ s.well_formed.0) c.if-place-count.true))
     (λ c. search rules)
-    (λ c. omega (arith, right_count _ _ c.before.before.before.before.requires))
+    (λ c. omega (arith, right_count _ _ c.requires))
     (λ c. search rules)
-    (λ c. omega (arith, right_count _ _ c.before.before.before.before.before.requires))
+    (λ c. omega (arith, right_count _ _ c.requires))
     (λ c.
-    let s = c.before.before.before.before.before in
-    let e = c.before.before.first_waiting-place.ensures in
-    let h = c.before.if-place-count.false in
+    let s = c in
+    let e = c.first_waiting-place.ensures in
+    let h = c.if-place-count.false in
     (one_waits _ _ e h, took_one _ _ e (sixteen_places s.args.l _ s.well_formed.0) h (right_count _ _ s.requires))))

@@ -12,17 +12,17 @@ with_id_spec =
     tie.close
     (tie.spec
     (λ c. search rules)
-    (λ c κs. (right_count _ _ c.before.before.requires.0, omega arith))
+    (λ c κs. (right_count _ _ c.requires.0, omega arith))
     (λ c.
-    let s = c.before.before.before.before in
-    added_listed _ _ _ c.before.place_from.ensures (sixteen_places s.args.l _ s.well_formed.0) c.if-place_from-count.true)
+    let s = c in
+    added_listed _ _ _ c.place_from.ensures (sixteen_places s.args.l _ s.well_formed.0) c.if-place_from-count.true)
     (λ c. search rules)
-    (λ c. room_for_new _ _ _ c.before.place_from.ensures c.if-place_from-count.false c.before.before.before.before.requires.1)
+    (λ c. room_for_new _ _ _ c.place_from.ensures c.if-place_from-count.false c.requires.1)
     (λ c.
-    let s = c.before.before.before.before.before in
-    omega (arith, room_for_new _ _ _ c.before.before.place_from.ensures c.before.if-place_from-count.false s.requires.1))
+    let s = c in
+    omega (arith, room_for_new _ _ _ c.place_from.ensures c.if-place_from-count.false s.requires.1))
     (λ c.
-    let s = c.before.before.before.before.before in
-    let e = c.before.before.place_from.ensures in
-    let h = c.before.if-place_from-count.false in
+    let s = c in
+    let e = c.place_from.ensures in
+    let h = c.if-place_from-count.false in
     added_new _ _ _ e (sixteen_places s.args.l _ s.well_formed.0) h (room_for_new _ _ _ e h s.requires.1)))

@@ -12,16 +12,16 @@ without_id_spec =
     tie.close
     (tie.spec
     (λ c. search rules)
-    (λ c κs. (right_count _ _ c.before.before.requires, omega arith))
+    (λ c κs. (right_count _ _ c.requires, omega arith))
     (λ c.
-    let s = c.before.before.before.before in
-    without_nowhere _ _ _ c.before.place_from-place.ensures (sixteen_places s.args.l _ s.well_formed.0) c.if-place-count.true)
+    let s = c in
+    without_nowhere _ _ _ c.place_from-place.ensures (sixteen_places s.args.l _ s.well_formed.0) c.if-place-count.true)
     (λ c. search rules)
     (λ c. search rules)
-    (λ c κs. omega (arith, right_count _ _ c.before.before.before.before.requires))
+    (λ c κs. omega (arith, right_count _ _ c.requires))
     (λ c. search rules)
     (λ c.
-    let s = c.before.before.before.before.before.before in
-    rw c.before.moved_up-next.ensures
-    (without_here _ _ _ c.before.before.before.place_from-place.ensures (sixteen_places s.args.l _ s.well_formed.0) (omega arith)
+    let s = c in
+    rw c.moved_up-next.ensures
+    (without_here _ _ _ c.place_from-place.ensures (sixteen_places s.args.l _ s.well_formed.0) (omega arith)
     (right_count _ _ s.requires))))

@@ -29,9 +29,9 @@ write_list_spec =
     (λ c. search rules)
     (λ c. search rules)
     (λ c κs.
-    let l = c.before.before.before.loop-place in
-    let w = c.before.before.before.before.before.before.before.write32 in
-    let s = c.before.before.before.before.before.before.before.before.before.before in
+    let l = c.loop-place in
+    let w = c.write32 in
+    let s = c in
     omega (
       arith,
       s.requires,
@@ -41,21 +41,21 @@ write_list_spec =
     (λ c. search rules)
     (λ c. search rules)
     (λ c.
-    let l = c.before.before.before.before.before.before.loop-place in
-    let w = c.before.before.before.before.before.before.before.before.before.before in
-    let s = w.before.before.before.args in
-    (search rules, cc (l.invariant.1, c.before.before.write_entry.ensures, with_more w.write32.new.s s.l.places l.place)))
+    let l = c.loop-place in
+    let w = c in
+    let s = w.args in
+    (search rules, cc (l.invariant.1, c.write_entry.ensures, with_more w.write32.new.s s.l.places l.place)))
     (λ c.
-    let l = c.before.loop-place in
-    let w = c.before.before.before.before.before in
-    let s = w.before.before.before.args in
+    let l = c.loop-place in
+    let w = c in
+    let s = w.args in
     ap length l.invariant.1 ∙ length_with w.write32.new.s s.l.places l.place
     ∙ ap length w.write32.ensures ∙ length_put 4 s.bytes.now 0 s.l.count)
     (λ c.
-    let w = c.before.before.before.before.before in
-    let s = w.before.before.before in
+    let w = c in
+    let s = w in
     let e =
-    c.before.loop-place.invariant.1 ∙ ap (with_entries w.write32.new.s s.args.l.places) (omega arith)
+    c.loop-place.invariant.1 ∙ ap (with_entries w.write32.new.s s.args.l.places) (omega arith)
     ∙ ap (λ xs. with_entries xs s.args.l.places 16) w.write32.ensures in (
       e,
       ap list_in e

@@ -14,7 +14,7 @@ run_spec =
     (λ c κs. search rules)
     (λ c. search rules)
     (λ c κs.
-    let st = c.before.before.before.before in
+    let st = c in
     let a = st.args in (
       st.requires.right,
       st.requires.sound,
@@ -23,8 +23,8 @@ run_spec =
           c.no_pending-pending.result c.no_pending-pending.ensures st.requires.begins,
     ))
     (λ c.
-    let np = c.before in
-    let a = np.before.before.before.before.args in (
+    let np = c in
+    let a = np.args in (
       c.run_on.ensures.0,
       c.run_on.ensures.1
           ∙ starts a.ops.now a.operands.now (rows_of a.store.now a.partition) a.begin a.registers

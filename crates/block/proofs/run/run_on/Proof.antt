@@ -41,7 +41,7 @@ stepped : (c : tie.After-step-x invariant-loop decreases-loop) →
     let at = lp.loop-x.x.place.position in
     Stepped (act (instruction_of (get_or a.ops.now at 0) (word_at a.operands.now at)) (place_of lp.loop-x.x.place))
     (rows_of a.store.now a.partition) lp.loop-x.x c.step-x.result (puts_of (operation_at a.ops.now at))
-stepped c = rw c.before.word_in-word.ensures at c.step-x.ensures
+stepped c = rw c.word_in-word.ensures at c.step-x.ensures
 
 pub run_on_spec : {M : Type 1} → statement M
 run_on_spec =
@@ -49,7 +49,7 @@ run_on_spec =
     (tie.spec
     invariant-loop
     decreases-loop
-    (λ c. (c.before.before.before.requires.3, refl))
+    (λ c. (c.requires.3, refl))
     (λ c. search rules)
     (λ c κs. search rules)
     (λ c κs. search rules)
@@ -57,15 +57,15 @@ run_on_spec =
     (λ c. search rules)
     (λ c. search rules)
     (λ c.
-    let ro = c.before.before in
-    let oo = ro.before.before in
+    let ro = c in
+    let oo = ro.before.before.before.before in
     let il = within_code oo in
     let lp = standing il in
     let st = start lp in
     let a = st.args in (
       lp.loop-x.invariant.0.kept,
       run_ends a.ops.now a.operands.now st.requires.0 (rows_of a.store.now a.partition) lp.loop-x.x _ refl il.loop-x-test.true
-          (sym oo.operation_of.ensures ∙ ro.before.if-operation_of-eq-END.true) _ ro.register_of-d.ensures refl
+          (sym oo.operation_of.ensures ∙ ro.if-operation_of-eq-END.true) _ ro.register_of-d.ensures refl
           ∙ lp.loop-x.invariant.1,
     ))
     (λ c κs.
@@ -80,11 +80,11 @@ run_on_spec =
     let i = lp.loop-x.invariant.0 in (
       (st.requires.1, st.requires.2, i.kept, search rules),
       fits_here a.ops.now a.operands.now st.requires.0 lp.loop-x.x _ il.loop-x-test.true i
-          (λ q. c.before.if-operation_of-eq-END.false (oo.operation_of.ensures ∙ q)) c.word_in-word.ensures,
+          (λ q. c.if-operation_of-eq-END.false (oo.operation_of.ensures ∙ q)) c.word_in-word.ensures,
     ))
     (λ c.
-    let el = c.before.before in
-    let oo = el.before in
+    let el = c in
+    let oo = el.before.before.before in
     let il = within_code oo in
     let lp = standing il in
     let st = start lp in
@@ -93,8 +93,8 @@ run_on_spec =
     c.step-x.result il.loop-x-test.true lp.loop-x.invariant.0 (λ q. el.if-operation_of-eq-END.false (oo.operation_of.ensures ∙ q)) (stepped c) in
     omega (arith, f.further, il.loop-x-test.true))
     (λ c.
-    let el = c.before.before in
-    let oo = el.before in
+    let el = c in
+    let oo = el.before.before.before in
     let il = within_code oo in
     let lp = standing il in
     let st = start lp in
@@ -107,8 +107,8 @@ run_on_spec =
           ∙ lp.loop-x.invariant.1,
     ))
     (λ c.
-    let al = c.before in
-    let lp = al.before.before in
+    let al = c in
+    let lp = al.before.before.before in
     let st = start lp in
     let a = st.args in (
       lp.loop-x.invariant.0.kept,

@@ -18,9 +18,9 @@ inserted pa = pa.before.before.before.before.before.before
 
 -- the rows that are written: the log row, and behind it the PUTs
 rows_with_log : (w : tie.After-insert_row-rows) →
-    let a = w.before.before.before.before.args in
+    let a = w.args in
     rows_in w.insert_row-rows.result ≡ insert_at (rows_in a.ran.pending) 0 (log_key a.id a.step, a.ran.result)
-rows_with_log w = rw w.before.before.log_key_lem.ensures.0 at w.insert_row-rows.ensures.1
+rows_with_log w = rw w.log_key.ensures.0 at w.insert_row-rows.ensures.1
 
 pub commit_spec : {M : Type 1} → statement M
 commit_spec =
@@ -29,15 +29,15 @@ commit_spec =
     (λ c κs. search rules)
     (λ c κs. search rules)
     (λ c. search rules)
-    (λ c. let w = c.before.before.before.before in sym (keys_count w.insert_row-rows.result w.insert_row-rows.ensures.0))
+    (λ c. let w = c in sym (keys_count w.insert_row-rows.result w.insert_row-rows.ensures.0))
     (λ c. search rules)
-    (λ c. let w = c.before.before.before.before.before in sym (values_count w.insert_row-rows.result w.insert_row-rows.ensures.0))
+    (λ c. let w = c in sym (values_count w.insert_row-rows.result w.insert_row-rows.ensures.0))
     (λ c κs.
     let w = c.before.before.before.before.before in
-    let lk = w.before.before in
-    let st = lk.before.before in
+    let lk = w in
+    let st = lk in
     let a = st.args in
-    let k = lk.log_key_lem.ensures in
+    let k = lk.log_key.ensures in
     let q = w.insert_row-rows.result in
     let z = w.insert_row-rows.ensures.0 in
     let e = rows_with_log w in
@@ -59,25 +59,25 @@ commit_spec =
     (λ c.
     let pa = c.before.before.before in
     let w = inserted pa in
-    let lk = w.before.before in
-    let st = lk.before.before in
+    let lk = w in
+    let st = lk in
     let a = st.args in
-    let k = lk.log_key_lem.ensures in
+    let k = lk.log_key.ensures in
     let q = w.insert_row-rows.ensures in
     written a.store.now _ a.partition a.ran st.requires.2 a.id a.step k.1 k.2 w.insert_row-rows.result q.0
     (rows_with_log w)
     (keys_good a.store.now a.partition st.requires.0 st.requires.1) (log_none _ a.id a.step _ k.1 k.2 st.requires.3)
-    (rw c.if-put_all.true at pa.put_all_lem.ensures))
+    (rw c.if-put_all.true at pa.put_all.ensures))
     (λ c. search rules)
     (λ c.
     let pa = c.before.before.before in
     let w = inserted pa in
-    let lk = w.before.before in
-    let st = lk.before.before in
+    let lk = w in
+    let st = lk in
     let a = st.args in
-    let k = lk.log_key_lem.ensures in
+    let k = lk.log_key.ensures in
     let q = w.insert_row-rows.ensures in
     no_room a.store.now _ a.partition a.ran st.requires.2 a.id a.step k.1 k.2 w.insert_row-rows.result q.0
     (rows_with_log w)
     (keys_good a.store.now a.partition st.requires.0 st.requires.1) (log_none _ a.id a.step _ k.1 k.2 st.requires.3)
-    (rw c.if-put_all.false at pa.put_all_lem.ensures)))
+    (rw c.if-put_all.false at pa.put_all.ensures)))

@@ -10,11 +10,11 @@ run_and_write_spec =
     (tie.spec
     (λ c κs. search rules)
     (λ c κs.
-    let rn = c.before in
-    let st = rn.before.before.before.before.before in
+    let rn = c in
+    let st = rn in
     (st.requires.0.sound, st.requires.0.below, rn.run-ran.ensures.0, st.requires.1))
     (λ c. search rules)
     (λ c.
-    let cm = c.before.before in
-    let rn = cm.before.before in
+    let cm = c in
+    let rn = cm in
     same_block _ _ _ _ _ _ _ cm.commit.result rn.run-ran.ensures.1 cm.commit.ensures))

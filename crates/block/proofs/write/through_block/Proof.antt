@@ -18,7 +18,7 @@ through_block_spec =
     (λ c. search rules)
     (λ c κs.
     let f = c in
-    let lr = f.before.before in
+    let lr = f in
     let st = lr in
     let a = st.args in (
       st.requires.sound,
@@ -27,14 +27,14 @@ through_block_spec =
     ))
     (λ c. search rules)
     (λ c κs.
-    let f = c.before in
-    let lr = f.before in
+    let f = c in
+    let lr = f in
     let st = lr in
     (st.requires, sym lr.log_row-found.ensures ∙ f.in-Belongs.is))
     (λ c. search rules)
     (λ c.
-    let f = c.before in
-    let lr = f.before.before in
+    let f = c in
+    let lr = f in
     let st = lr in
     let a = st.args in
     through_logged _ _ _ _ _ _ _ _
@@ -43,9 +43,9 @@ through_block_spec =
     ∙ ap some (sym c.value_at-value.ensures)) refl)
     (λ c. search rules)
     (λ c.
-    let w = c.before.before in
-    let f = w.before.before in
-    let lr = f.before in
+    let w = c in
+    let f = w in
+    let lr = f in
     let st = lr in
     let a = st.args in
     rw (log_none (rows_of a.store.now a.partition) a.id a.step _ (omega (arith, st.ranges.id.fits))

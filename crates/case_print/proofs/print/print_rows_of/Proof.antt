@@ -15,12 +15,12 @@ print_rows_of_spec =
     (λ c κs. search rules)
     (λ c κs. search rules)
     (λ c κs. search rules)
-    (λ c κs. let e = c.before.before.before.before in
-    let k = c.before.before.row_count-used in (
+    (λ c κs. let e = c in
+    let k = c.row_count-used in (
       omega (
         arith,
         keys_within e.args.store.now e.requires.0 e.args.partition e.requires.1 k.result k.ensures.0,
-        c.before.key_place-keys.ensures,
+        c.key_place-keys.ensures,
       ),
       omega (
         arith,

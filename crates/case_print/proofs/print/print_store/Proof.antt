@@ -8,8 +8,8 @@ print_store_spec =
     tie.close
     (tie.spec
     (λ c κs. search rules)
-    (λ c κs. c.before.is_laid.ensures c.if-is_laid.true)
-    (λ c κs. c.before.before.is_laid.ensures c.before.if-is_laid.true)
+    (λ c κs. c.is_laid.ensures c.if-is_laid.true)
+    (λ c κs. c.is_laid.ensures c.if-is_laid.true)
     (λ c. search rules)
     (λ c κs. search rules)
     (λ c κs. search rules)

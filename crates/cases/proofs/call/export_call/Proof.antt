@@ -37,31 +37,31 @@ export_call_spec =
     (λ c. search rules)
     (λ c. search rules)
     (λ c.
-    let x = c.before.before.before.before.before.before in
-    promised _ _ _ _ _ _ _ _ _ _ (by_3 _ _ x.before.before.before.before.if-call-eq3.true) x.sarthule_arrival.ensures)
+    let x = c in
+    promised _ _ _ _ _ _ _ _ _ _ (by_3 _ _ x.if-call-eq3.true) x.sarthule_arrival.ensures)
     (λ c. search rules)
     (λ c κs. search rules)
     (λ c. search rules)
     (λ c. search rules)
     (λ c. search rules)
     (λ c.
-    let x = c.before.before.before.before in
-    promised _ _ _ _ _ _ _ _ _ _ (by_4 _ _ x.before.before.before.before.if-call-eq4.true) x.sarthule_retry.ensures)
+    let x = c in
+    promised _ _ _ _ _ _ _ _ _ _ (by_4 _ _ x.if-call-eq4.true) x.sarthule_retry.ensures)
     (λ c κs. search rules)
     (λ c. search rules)
     (λ c. search rules)
     (λ c. search rules)
     (λ c.
-    let x = c.before.before.before.before.before.before in
-    promised _ _ _ _ _ _ _ _ _ _ (by_5 _ _ x.before.before.before.before.if-call-eq5.true) x.sarthule_turn.ensures)
+    let x = c in
+    promised _ _ _ _ _ _ _ _ _ _ (by_5 _ _ x.if-call-eq5.true) x.sarthule_turn.ensures)
     (λ c κs. search rules)
     (λ c. search rules)
     (λ c. search rules)
     (λ c. search rules)
     (λ c.
-    let x = c.before.before.before.before in
-    let d = x.before.before.before.before in
-    let a = d.before.before in
-    let p = a.before.before.before.before.before.requires in
-    promised _ _ _ _ _ _ _ _ _ _ (by_6 _ _ (six _ p.0 p.1 a.if-call-eq3.false d.before.if-call-eq4.false d.if-call-eq5.false))
+    let x = c in
+    let d = x in
+    let a = d in
+    let p = a.requires in
+    promised _ _ _ _ _ _ _ _ _ _ (by_6 _ _ (six _ p.0 p.1 a.if-call-eq3.false d.if-call-eq4.false d.if-call-eq5.false))
     x.sarthule_crash.ensures))

@@ -28,21 +28,21 @@ list_call_spec =
     (λ c. search rules)
     (λ c. search rules)
     (λ c.
-    let x = c.before.before.before.before in
-    promised _ _ _ _ _ _ _ _ _ _ (by_10 _ _ x.before.before.before.if-call-eq10.true) x.sarthule_add.ensures)
+    let x = c in
+    promised _ _ _ _ _ _ _ _ _ _ (by_10 _ _ x.if-call-eq10.true) x.sarthule_add.ensures)
     (λ c κs. search rules)
     (λ c. search rules)
     (λ c. search rules)
     (λ c.
-    let x = c.before.before.before.before in
-    promised _ _ _ _ _ _ _ _ _ _ (by_11 _ _ x.before.before.before.if-call-eq11.true) x.sarthule_take.ensures)
+    let x = c in
+    promised _ _ _ _ _ _ _ _ _ _ (by_11 _ _ x.if-call-eq11.true) x.sarthule_take.ensures)
     (λ c. search rules)
     (λ c κs. search rules)
     (λ c. search rules)
     (λ c. search rules)
     (λ c.
-    let x = c.before.before.before.before in
-    let d = x.before.before.before in
-    let a = d.before in
-    let p = a.before.before.before.before.before.before.requires in
+    let x = c in
+    let d = x in
+    let a = d in
+    let p = a.requires in
     promised _ _ _ _ _ _ _ _ _ _ (by_12 _ _ (twelve _ p.0 p.1 a.if-call-eq10.false d.if-call-eq11.false)) x.sarthule_done.ensures))

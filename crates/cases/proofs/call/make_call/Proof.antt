@@ -19,16 +19,16 @@ make_call_spec =
     (λ c. search rules)
     (λ c κs. search rules)
     (λ c.
-    let x = c.before.before.before in
-    made_check _ _ _ _ _ _ _ _ refl _ _ c.read_answer.ensures x.before.before.if-call-eq0.true x.sarthule_check-number.ensures)
+    let x = c in
+    made_check _ _ _ _ _ _ _ _ refl _ _ c.read_answer.ensures x.if-call-eq0.true x.sarthule_check-number.ensures)
     (λ c. search rules)
     (λ c. search rules)
     (λ c κs. search rules)
     (λ c. search rules)
     (λ c κs. search rules)
     (λ c.
-    let x = c.before.before.before in
-    made_open _ _ _ _ _ _ _ _ refl _ _ c.read_answer-then-call-eq1.ensures x.before.before.if-call-eq1.true x.sarthule_open-number.ensures)
+    let x = c in
+    made_open _ _ _ _ _ _ _ _ refl _ _ c.read_answer-then-call-eq1.ensures x.if-call-eq1.true x.sarthule_open-number.ensures)
     (λ c. search rules)
     (λ c. search rules)
     (λ c. search rules)
@@ -39,22 +39,22 @@ make_call_spec =
     (λ c κs. search rules)
     (λ c. search rules)
     (λ c.
-    let x = c.before.before.before.before.before in
-    made_create _ _ _ _ _ _ _ _ refl _ _ c.read_answer-then-call-eq2.ensures _ x.before.before.before.if-call-eq2.true x.sarthule_create-number.ensures)
+    let x = c in
+    made_create _ _ _ _ _ _ _ _ refl _ _ c.read_answer-then-call-eq2.ensures _ x.if-call-eq2.true x.sarthule_create-number.ensures)
     (λ c. search rules)
     (λ c κs.
-    let d = c.before.before.before.before in
-    let a = d.before.before in
-    let p = a.before.before.before.before.before.requires in
-    (three _ a.if-call-eq0.false d.before.if-call-eq1.false d.if-call-eq2.false, search rules, p.0, p.1))
+    let d = c in
+    let a = d in
+    let p = a.requires in
+    (three _ a.if-call-eq0.false d.if-call-eq1.false d.if-call-eq2.false, search rules, p.0, p.1))
     (λ c. search rules)
     (λ c κs. search rules)
     (λ c. search rules)
     (λ c. search rules)
     (λ c. search rules)
     (λ c.
-    let x = c.before.before.before.before.before.before.before.before.before in
-    let d = x.before.before.before.before.before in
-    let a = d.before.before in
-    made_call _ _ _ _ _ _ _ _ _ c.read_answer-2.ensures _ _ _ a.if-call-eq0.false d.before.if-call-eq1.false d.if-call-eq2.false
+    let x = c in
+    let d = x in
+    let a = d in
+    made_call _ _ _ _ _ _ _ _ _ c.read_answer-2.ensures _ _ _ a.if-call-eq0.false d.if-call-eq1.false d.if-call-eq2.false
     x.store_call-number.ensures))

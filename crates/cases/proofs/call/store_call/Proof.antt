@@ -15,28 +15,28 @@ store_call_spec =
     (λ c. search rules)
     (λ c. search rules)
     (λ c.
-    let x = c.before.before.before.before.before.before in
-    let i = x.before.before.before.before in
-    let p = i.before.before.before.before.before.before.requires in
+    let x = c in
+    let i = x in
+    let p = i.requires in
     on_exported _ _ _ _ _ _ _ p.1 p.2 p.3 _ _ _ _ i.if-call-le6.true x.export_call.ensures)
     (λ c κs. search rules)
     (λ c. search rules)
     (λ c. search rules)
     (λ c.
-    let x = c.before.before.before.before in
-    let i = x.before.before.before in
-    let p = i.before.before.before.before.before.before.before.requires in
+    let x = c in
+    let i = x in
+    let p = i.requires in
     on_order _ _ _ _ _ _ _ p.1 p.2 p.3 _ _ _ i.if-call-eq9.true x.sarthule_order.ensures)
     (λ c κs. search rules)
     (λ c. search rules)
     (λ c. search rules)
     (λ c. search rules)
     (λ c.
-    let x = c.before.before.before.before.before.before in
-    let i = x.before.before.before.before in
-    let e = i.before in
-    let p = e.before.before.before.before.before.before.before.requires in
-    on_restart _ _ _ _ _ _ _ p.1 p.2 p.3 _ _ _ _ e.before.if-call-le6.false e.if-call-eq9.false (inl i.if-call-lt10.true)
+    let x = c in
+    let i = x in
+    let e = i in
+    let p = e.requires in
+    on_restart _ _ _ _ _ _ _ p.1 p.2 p.3 _ _ _ _ e.if-call-le6.false e.if-call-eq9.false (inl i.if-call-lt10.true)
     x.sarthule_restart.ensures)
     (λ c. search rules)
     (λ c κs. search rules)
@@ -45,20 +45,20 @@ store_call_spec =
     (λ c. search rules)
     (λ c. search rules)
     (λ c.
-    let x = c.before.before.before.before in
-    let i = x.before.before.before.before.before in
-    let p = i.before.before.before.before.before.before.before.before.before.requires in
+    let x = c in
+    let i = x in
+    let p = i.requires in
     on_retire _ _ _ _ _ _ _ p.1 p.2 p.3 _ _ _ i.if-call-eq13.true x.sarthule_retire.ensures)
     (λ c κs. search rules)
     (λ c. search rules)
     (λ c. search rules)
     (λ c. search rules)
     (λ c.
-    let x = c.before.before.before.before.before.before in
-    let i = x.before.before.before.before in
-    let e = i.before.before.before in
-    let p = e.before.before.before.before.before.before.before.requires in
-    on_restart _ _ _ _ _ _ _ p.1 p.2 p.3 _ _ _ _ e.before.if-call-le6.false e.if-call-eq9.false (inr i.if-call-gt13.true)
+    let x = c in
+    let i = x in
+    let e = i in
+    let p = e.requires in
+    on_restart _ _ _ _ _ _ _ p.1 p.2 p.3 _ _ _ _ e.if-call-le6.false e.if-call-eq9.false (inr i.if-call-gt13.true)
     x.sarthule_restart-then-call-gt13.ensures)
     (λ c κs. search rules)
     (λ c. search rules)
@@ -66,9 +66,9 @@ store_call_spec =
     (λ c. search rules)
     (λ c. search rules)
     (λ c.
-    let x = c.before.before.before.before in
-    let i = x.before.before.before.before.before in
-    let p = i.before.before.before.before.before.before.before.before.before.before.requires in
-    on_listed _ _ _ _ _ _ _ p.1 p.2 p.3 _ _ _ (omega (arith, i.before.before.if-call-lt10.false))
-    (omega (arith, i.before.if-call-eq13.false, i.if-call-gt13.false))
+    let x = c in
+    let i = x in
+    let p = i.requires in
+    on_listed _ _ _ _ _ _ _ p.1 p.2 p.3 _ _ _ (omega (arith, i.if-call-lt10.false))
+    (omega (arith, i.if-call-eq13.false, i.if-call-gt13.false))
     x.list_call.ensures))

@@ -8,7 +8,7 @@ print_call_case_spec =
     tie.close
     (tie.spec
     (λ c κs. search rules)
-    (λ c κs. c.before.has_call.ensures c.if-has_call.true)
+    (λ c κs. c.has_call.ensures c.if-has_call.true)
     (λ c κs. search rules)
     (λ c κs. search rules)
     (λ c. search rules)

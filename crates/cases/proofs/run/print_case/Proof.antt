@@ -7,7 +7,7 @@ pub print_case_spec : {M : Type 1} → statement M
 print_case_spec =
     tie.close (tie.spec
     (λ c κs. search rules)
-    (λ c κs. let d = c.before in (d.before.has_parts.ensures d.if-has_parts.true, search rules))
+    (λ c κs. let d = c in (d.has_parts.ensures d.if-has_parts.true, search rules))
     (λ c. search rules)
     (λ c. search rules)
     (λ c. search rules))

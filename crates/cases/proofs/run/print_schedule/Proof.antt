@@ -13,6 +13,6 @@ print_schedule_spec =
     (λ c κs. search rules)
     (λ c κs. search rules)
     (λ c. search rules)
-    (λ c. sym (length-take-le _ _ c.before.run-written.ensures.1))
+    (λ c. sym (length-take-le _ _ c.run-written.ensures.1))
     (λ c κs. search rules)
     (λ c. search rules))

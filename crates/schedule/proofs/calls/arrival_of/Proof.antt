@@ -24,8 +24,8 @@ arrival_of_spec =
     (λ c κs. search rules)
     (λ c κs. search rules)
     (λ c. search rules)
-    (λ c. let d = c.before.before in
-    let e = d.before.before in
-    same_call _ _ (arrives _ _ _ _ _ _ _ _ _ e.before.before.before.before.before.read32-id.ensures
-    e.before.before.before.before.read32.ensures e.before.before.before.read32-2.ensures
-    e.before.before.read32-3.ensures e.before.read32-4.ensures e.read32-5.ensures) (d.arrival.ensures no_worklist)))
+    (λ c. let d = c in
+    let e = d in
+    same_call _ _ (arrives _ _ _ _ _ _ _ _ _ e.read32-id.ensures
+    e.read32.ensures e.read32-2.ensures
+    e.read32-3.ensures e.read32-4.ensures e.read32-5.ensures) (d.arrival.ensures no_worklist)))

@@ -30,5 +30,5 @@ call_event_spec =
     (λ c κs. let n = counted c in
     let q = (start n).requires in (q.0.laid, right_there _ _ _ n.read16-events.ensures q.0.events q.1))
     (λ c. search rules)
-    (λ c. let d = c.before.before in
-    same_call _ _ (call_there _ _ _ (counted d.before).read16-events.ensures) d.call_of.ensures))
+    (λ c. let d = c in
+    same_call _ _ (call_there _ _ _ (counted d.before.before.before).read16-events.ensures) d.call_of.ensures))

@@ -13,4 +13,4 @@ retry_of_spec =
     (λ c. search rules)
     (λ c κs. search rules)
     (λ c κs. search rules)
-    (λ c. same_call _ _ (retries _ _ _ _ c.before.read32-id.ensures) (c.retry.ensures no_worklist)))
+    (λ c. same_call _ _ (retries _ _ _ _ c.read32-id.ensures) (c.retry.ensures no_worklist)))

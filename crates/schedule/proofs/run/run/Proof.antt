@@ -13,7 +13,7 @@ run_spec =
     (λ c. search rules)
     (λ c κs. (
       allowed _ _
-          (none_said _ _ _ c.before.before.before.check_schedule-v.ensures c.before.before.in-Accepted.is),
+          (none_said _ _ _ c.check_schedule-v.ensures c.in-Accepted.is),
       search
           rules,
       search rules,
@@ -21,14 +21,14 @@ run_spec =
     (λ c. search rules)
     (λ c κs. omega arith)
     (λ c. (
-      printed_run _ _ _ c.before.before.before.before.check_schedule-v.ensures _ _ _
-          c.before.before.before.in-Accepted.is c.run_in.ensures.0,
+      printed_run _ _ _ c.check_schedule-v.ensures _ _ _
+          c.in-Accepted.is c.run_in.ensures.0,
       c.run_in.ensures.1,
       c.run_in.ensures.2,
     ))
     (λ c. let a = c.refused_line.ensures.0 in (
-      printed_refused _ _ _ c.before.before.before.check_schedule-v.ensures _ _ _ _ _ _ _
-          c.before.before.in-Refused.is a,
+      printed_refused _ _ _ c.check_schedule-v.ensures _ _ _ _ _ _ _
+          c.in-Refused.is a,
       a.room,
       a.stays,
     )))

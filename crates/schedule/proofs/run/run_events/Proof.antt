@@ -41,9 +41,9 @@ run_events_spec =
     (λ c κs. let st = start (called c).before.before.before.before in omega (arith, st.requires.0.laid.few_events))
     (λ c. search rules)
     (λ c. search rules)
-    (λ c. let w = c.before.before in
-    let d = called w.before in
-    let l = d.before.before.before in (
+    (λ c. let w = c in
+    let d = called w.before.before.before in
+    let l = d in (
       omega arith,
       search rules,
       search rules,
@@ -52,5 +52,5 @@ run_events_spec =
     ))
     (λ c. search rules)
     (λ c. search rules)
-    (λ c. let l = c.before in
-    (gone (omega arith) l.loop-event.invariant.4, omega (arith, (start l.before).requires.0.laid.few_events))))
+    (λ c. let l = c in
+    (gone (omega arith) l.loop-event.invariant.4, omega (arith, (start l.before.before).requires.0.laid.few_events))))

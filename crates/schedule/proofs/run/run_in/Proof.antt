@@ -15,7 +15,7 @@ start c = c.before.before.before.before.before.before
 
 -- the length of the store, and that it fits
 sized : (c : tie.After-store_size-size) → c.store_size-size.result ≡ store_size (start c.before).args.schedule.now
-sized c = size_as _ _ _ _ _ c.store_size-size.ensures c.before.before.partition_count.ensures c.before.capacity.ensures
+sized c = size_as _ _ _ _ _ c.store_size-size.ensures c.partition_count.ensures c.capacity.ensures
 
 fits : (c : tie.After-store_size-size) → c.store_size-size.result ≤ length (start c.before).args.store.now
 fits c = let q = (start c.before).requires in omega (arith, sized c, (size_fits _ _ q.0.numbers).2)
@@ -33,8 +33,8 @@ run_in_spec =
     (λ c κs. let d = c.before.before in let q = (start d.before).requires in (q.0, length-take-le _ _ (fits d) ∙ sized d, q.2))
     (λ c. search rules)
     (λ c. search rules)
-    (λ c. let r = c.before.before.before.before in
-    let d = r.before.before.before in (
+    (λ c. let r = c in
+    let d = r.before.before.before.before.before.before.before in (
       on_first _ _ _ _ _ _ (sized d) (r.run_on.auto.1.1.0 ∙ length-take-le _ _ (fits d) ∙ sized d) r.run_on.ensures.0,
       r.run_on.ensures.1,
       r.run_on.ensures.2,

@@ -35,7 +35,7 @@ run_on_spec =
     let k = begun m in
     let q = (start k).requires in (
       q.0,
-      fresh_chain _ _ _ _ _ _ _ k.before.partition_count-partitions.ensures k.capacity-cap.ensures q.0 q.1 m.create.ensures,
+      fresh_chain _ _ _ _ _ _ _ k.partition_count-partitions.ensures k.capacity-cap.ensures q.0 q.1 m.create.ensures,
       omega arith,
     ))
     (λ c κs. let d = went c in
@@ -52,10 +52,10 @@ run_on_spec =
     ))
     (λ c. search rules)
     (λ c. search rules)
-    (λ c. let p = c.before.before in
+    (λ c. let p = c in
     let d = went p.before in
     let t = total d in
     let x = t.events_line-written.ensures.0 in
     let w = d.run_events-written.ensures.0 in
     let z = p.print_store.ensures in
-    (prints _ x w z (begun (created t)).before.before.read16-events.ensures, z.room, (all_said _ x w z).stays)))
+    (prints _ x w z (begun (created t)).read16-events.ensures, z.room, (all_said _ x w z).stays)))

@@ -19,5 +19,5 @@ key_place_spec =
     (λ c. search rules)
     (λ c. search rules)
     (λ c. search rules)
-    (λ c. let a = c.before.before.before.before.args in
-    omega (arith, ap (λ (n : ℕ). a.partition * n) c.before.capacity-cap.ensures)))
+    (λ c. let a = c.args in
+    omega (arith, ap (λ (n : ℕ). a.partition * n) c.capacity-cap.ensures)))

@@ -13,5 +13,5 @@ used_count_spec =
     (λ c. search rules)
     (λ c κs. search rules)
     (λ c. search rules)
-    (λ c. let st = c.before.before in let a = st.args in
+    (λ c. let st = c in let a = st.args in
     c.read16.ensures ∙ sym (count_is a.store.now a.partition ∙ used_here a.store.now a.partition st.requires.1)))

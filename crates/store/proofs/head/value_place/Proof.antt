@@ -23,9 +23,9 @@ value_place_spec =
     (λ c. search rules)
     (λ c. search rules)
     (λ c. search rules)
-    (λ c. let a = c.before.before.before.before.before.args in
+    (λ c. let a = c.args in
     omega (
       arith,
-      ap (λ (n : ℕ). a.partition * n) c.before.before.capacity-cap.ensures,
-      ap₂ (λ (m n : ℕ). (m + 1) * n) c.before.before.before.partition_count-parts.ensures c.before.before.capacity-cap.ensures,
+      ap (λ (n : ℕ). a.partition * n) c.capacity-cap.ensures,
+      ap₂ (λ (m n : ℕ). (m + 1) * n) c.partition_count-parts.ensures c.capacity-cap.ensures,
     )))

@@ -27,7 +27,7 @@ find_spec =
     tie.close
     (tie.spec
     (λ c κs. search rules)
-    (λ c κs. let st = c.before.before in
+    (λ c κs. let st = c in
     let h = st.requires.0 in (
       h.shape,
       st.requires.1,
@@ -40,15 +40,15 @@ find_spec =
       ),
     ))
     (λ c. search rules)
-    (λ c κs. let used = c.before.used_count-used in
-    let st = c.before.before.before in
+    (λ c κs. let used = c.used_count-used in
+    let st = c in
     let xs = st.args.store.now in
     let h = st.requires.0.shape in
     let fit = used_le xs st.requires.0 st.args.partition st.requires.1 in
     let below = before (cap_of xs) {p = st.args.partition} {q = parts_of xs + 1} (omega (arith, st.requires.1)) in
     omega (arith, used.ensures, st.requires.2, fit, below, h.size, h.cap_low))
-    (λ c. let used = c.before.before.used_count-used in
-    let st = c.before.before.before.before in
+    (λ c. let used = c.used_count-used in
+    let st = c in
     let a = st.args in
     searched_from a.store.now a.partition a.row (used.result - a.row) _ a.key c.search.result
     c.search.ensures (omega (arith, used.ensures, st.requires.2)) (omega arith)))

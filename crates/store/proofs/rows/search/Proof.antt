@@ -24,30 +24,30 @@ search_spec =
     (tie.spec
     invariant-loop
     decreases-loop
-    (λ c. let a = c.before.args in
+    (λ c. let a = c.args in
     (omega arith, omega arith, sym (shift_none (sought a.key (fields 8 a.store.now a.keys_at a.count)))))
     (λ c κs. omega arith)
-    (λ c. let rd = c.before.before in
-    let lp = rd.before.before in
-    let a = lp.before.before.args in
+    (λ c. let rd = c in
+    let lp = rd in
+    let a = lp.args in
     let q = next_equal a.key 8 a.store.now lp.loop-left.key_at lp.loop-left.left (lp.loop-left.left - 1) (omega arith)
     (sym rd.read64-next.ensures ∙ sym c.if-key-next-2.true) in
     searched a.key (fields 8 a.store.now a.keys_at a.count) (At lp.loop-left.passed)
     (sym (lp.loop-left.invariant.2 ∙ ap (shift lp.loop-left.passed) q ∙ shift_at lp.loop-left.passed)))
-    (λ c. let rd = c.before.before in
-    let lp = rd.before.before in
-    let a = lp.before.before.args in
+    (λ c. let rd = c in
+    let lp = rd in
+    let a = lp.args in
     let q = next_greater a.key 8 a.store.now lp.loop-left.key_at lp.loop-left.left (lp.loop-left.left - 1) (omega arith)
-    (omega (arith, rd.read64-next.ensures, c.if-key-next-2.false, c.before.if-key-next.true)) in
+    (omega (arith, rd.read64-next.ensures, c.if-key-next-2.false, c.if-key-next.true)) in
     searched a.key (fields 8 a.store.now a.keys_at a.count) (Belongs lp.loop-left.passed)
     (sym (lp.loop-left.invariant.2 ∙ ap (shift lp.loop-left.passed) q ∙ shift_belongs lp.loop-left.passed)))
     (λ c. omega arith)
     (λ c. omega arith)
     (λ c. omega arith)
     (λ c. omega arith)
-    (λ c. let rd = c.before in
-    let lp = rd.before.before in
-    let a = lp.before.before.args in
+    (λ c. let rd = c in
+    let lp = rd in
+    let a = lp.args in
     let q = next_smaller a.key 8 a.store.now lp.loop-left.key_at lp.loop-left.left (lp.loop-left.left - 1) (omega arith)
     (omega (arith, rd.read64-next.ensures, c.if-key-next.false)) in (
       omega arith,
@@ -55,8 +55,8 @@ search_spec =
       lp.loop-left.invariant.2 ∙ ap (shift lp.loop-left.passed) q
           ∙ shift_more lp.loop-left.passed (sought a.key (fields 8 a.store.now (lp.loop-left.key_at + 8) (lp.loop-left.left - 1))),
     ))
-    (λ c. let lp = c.before in
-    let a = lp.before.before.args in
+    (λ c. let lp = c in
+    let a = lp.args in
     searched a.key (fields 8 a.store.now a.keys_at a.count) (Belongs lp.loop-left.passed)
     (sym (lp.loop-left.invariant.2 ∙ ap (shift lp.loop-left.passed)
     (none_left a.key 8 a.store.now lp.loop-left.key_at lp.loop-left.left (omega arith))

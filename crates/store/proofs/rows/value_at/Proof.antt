@@ -10,17 +10,17 @@ pub value_at_spec : {M : Type 1} → statement M
 value_at_spec =
     tie.close
     (tie.spec
-    (λ c κs. let st = c.before in (
+    (λ c κs. let st = c in (
       st.requires.0.formed.shape,
       st.requires.1,
       omega (arith, row_below st.args.store.now st.requires.0.formed st.args.partition st.requires.1 st.args.row st.requires.2),
     ))
-    (λ c κs. let st = c.before.before in
+    (λ c κs. let st = c in
     omega (
       arith,
       value_within st.args.store.now st.requires.0.formed.shape st.args.partition st.requires.1 st.args.row
           (row_below st.args.store.now st.requires.0.formed st.args.partition st.requires.1 st.args.row st.requires.2),
     ))
-    (λ c. let st = c.before.before.before in
-    c.read32.ensures ∙ ap (le 4 st.args.store.now) c.before.value_place-place.ensures
+    (λ c. let st = c in
+    c.read32.ensures ∙ ap (le 4 st.args.store.now) c.value_place-place.ensures
     ∙ sym (value_is st.args.store.now st.args.partition st.args.row st.requires.2)))

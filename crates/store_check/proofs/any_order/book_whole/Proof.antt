@@ -29,12 +29,12 @@ decreases-loop store keys_at used key_at₀ row₀ key_at row = used - row
 
 -- the answer for the key that was read
 answer : (f : tie.After-key_whole invariant-loop decreases-loop) →
-    let lp = f.before.before.before in
-    let a = lp.before.before.args in
+    let lp = f in
+    let a = lp.args in
     whole a.store.now a.keys_at a.used (le 8 a.store.now lp.loop-row.key_at) ≡ f.key_whole.result
 answer f =
-    let a = f.before.before.before.before.before.args in
-    ap (whole a.store.now a.keys_at a.used) (sym f.before.read64-key.ensures) ∙ sym f.key_whole.ensures
+    let a = f.args in
+    ap (whole a.store.now a.keys_at a.used) (sym f.read64-key.ensures) ∙ sym f.key_whole.ensures
 
 pub book_whole_spec : {M : Type 1} → statement M
 unfolding book_ok
@@ -43,14 +43,14 @@ book_whole_spec =
     (tie.spec
     invariant-loop
     decreases-loop
-    (λ c. let a = c.before.args in
+    (λ c. let a = c.args in
     let e : a.used - 0 ≡ a.used = sub-zero a.used in
     rw e (search rules, omega arith, refl))
     (λ c κs. omega arith)
     (λ c κs. omega arith)
     (λ c. let f = c.before in
-    let lp = f.before.before.before in
-    let a = lp.before.before.args in
+    let lp = f in
+    let a = lp.args in
     sym (lp.loop-row.invariant.2
     ∙ all_step (whole a.store.now a.keys_at a.used) a.store.now lp.loop-row.key_at (a.used - lp.loop-row.row)
     (a.used - (lp.loop-row.row + 1)) (omega arith)
@@ -59,8 +59,8 @@ book_whole_spec =
     (λ c. omega arith)
     (λ c. omega arith)
     (λ c. let f = c.before in
-    let lp = f.before.before.before in
-    let a = lp.before.before.args in (
+    let lp = f in
+    let a = lp.args in (
       omega arith,
       omega arith,
       lp.loop-row.invariant.2
@@ -69,7 +69,7 @@ book_whole_spec =
           (omega arith)
           ∙ rw (answer f, not-false f.key_whole.result c.if-not-key_whole.false) refl,
     ))
-    (λ c. let lp = c.before in
-    let a = lp.before.before.args in
+    (λ c. let lp = c in
+    let a = lp.args in
     sym (lp.loop-row.invariant.2 ∙ all_done (whole a.store.now a.keys_at a.used) a.store.now lp.loop-row.key_at
     (a.used - lp.loop-row.row) (omega arith))))

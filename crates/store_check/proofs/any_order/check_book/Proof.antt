@@ -15,33 +15,33 @@ check_book_spec =
     (λ c κs. search rules)
     (λ c κs. search rules)
     (λ c κs. search rules)
-    (λ c κs. let u = c.before in
-    let p = u.before in
-    (book_within _ _ _ _ p.partition_count-book.ensures u.used_count-used.ensures c.key_place-keys_at.ensures p.before.before.requires).0)
-    (λ c. let b = c.before in
-    let k = b.before in
-    let u = k.before in
-    let p = u.before in
-    let xs = p.before.before.args.store.now in
+    (λ c κs. let u = c in
+    let p = u in
+    (book_within _ _ _ _ p.partition_count-book.ensures u.used_count-used.ensures c.key_place-keys_at.ensures p.requires).0)
+    (λ c. let b = c in
+    let k = b in
+    let u = k in
+    let p = u in
+    let xs = p.args.store.now in
     let to = value_at xs p.partition_count-book.result 0 in
     sym (sym (book_is _ _ _ _ p.partition_count-book.ensures u.used_count-used.ensures k.key_place-keys_at.ensures to refl)
-    ∙ right_no _ _ _ _ (sym b.book_whole.ensures ∙ not-true _ c.if-not-book_whole.true)))
+    ∙ right_no _ _ _ _ (sym b.book_whole.ensures ∙ c.if-not-book_whole.true)))
     (λ c κs. search rules)
-    (λ c κs. let k = c.before.before.before in
-    let u = k.before in
-    let p = u.before in
-    let st = p.before.before in
+    (λ c κs. let k = c in
+    let u = k in
+    let p = u in
+    let st = p in
     let within = book_within _ _ _ _ p.partition_count-book.ensures u.used_count-used.ensures k.key_place-keys_at.ensures st.requires in
     (within.0, within.1 _ c.value_place.ensures))
-    (λ c κs. let k = c.before.before.before.before in
-    let u = k.before in
-    let p = u.before in
-    (book_within _ _ _ _ p.partition_count-book.ensures u.used_count-used.ensures k.key_place-keys_at.ensures p.before.before.requires).0)
-    (λ c. let f = c.before in
-    let v = f.before in
-    let b = v.before.before in
-    let k = b.before in
-    let u = k.before in
+    (λ c κs. let k = c in
+    let u = k in
+    let p = u in
+    (book_within _ _ _ _ p.partition_count-book.ensures u.used_count-used.ensures k.key_place-keys_at.ensures p.requires).0)
+    (λ c. let f = c in
+    let v = f in
+    let b = v in
+    let k = b in
+    let u = k in
     c.none_below.ensures
-    ∙ sym (right_is _ _ _ _ (sym b.book_whole.ensures ∙ not-false _ v.before.if-not-book_whole.false) _ f.floor_of-floor.ensures)
-    ∙ book_is _ _ _ _ u.before.partition_count-book.ensures u.used_count-used.ensures k.key_place-keys_at.ensures _ v.value_place.ensures))
+    ∙ sym (right_is _ _ _ _ (sym b.book_whole.ensures ∙ v.if-not-book_whole.false) _ f.floor_of-floor.ensures)
+    ∙ book_is _ _ _ _ u.partition_count-book.ensures u.used_count-used.ensures k.key_place-keys_at.ensures _ v.value_place.ensures))

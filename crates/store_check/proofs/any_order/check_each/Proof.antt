@@ -33,30 +33,30 @@ turn k = k.before.before.before.before.before.before
 low : (c : tie.In-loop-partition invariant-loop decreases-loop) →
     let lp = c.before in
     lp.loop-partition.partition ≤ parts_of (start lp).args.store.now
-low c = let h = c.loop-partition-test.true in omega (arith, c.before.before.before.partition_count-parts.ensures)
+low c = let h = c.loop-partition-test.true in omega (arith, c.partition_count-parts.ensures)
 
 -- the answer for the partition, by its places
 answer : (k : tie.After-partition_apart invariant-loop decreases-loop) →
     let lp = turn k in
     part_ok_by keys_apart (start lp).args.store.now lp.loop-partition.partition ≡ k.partition_apart.result
 answer k =
-    let v = k.before.before in
-    let ca = v.before.before.before.before.before in
+    let v = k in
+    let ca = v in
     sym
     (k.partition_apart.ensures
-    ∙ places_part _ _ _ _ _ _ ca.capacity-cap.ensures v.before.before.used_count-used.ensures v.before.key_place-keys_at.ensures
-    v.value_place-values_at.ensures keys_apart _ ca.before.partition_count-parts.ensures)
+    ∙ places_part _ _ _ _ _ _ ca.capacity-cap.ensures v.used_count-used.ensures v.key_place-keys_at.ensures
+    v.value_place-values_at.ensures keys_apart _ ca.partition_count-parts.ensures)
 
 -- the rest answers for all of them, of which there are P + 1
 whole : (lp : tie.At-loop-partition invariant-loop decreases-loop) →
     let a = (start lp).args in
-    each_from (part_ok_by keys_apart a.store.now) (lp.before.before.partition_count-parts.result + 1 - lp.loop-partition.partition)
+    each_from (part_ok_by keys_apart a.store.now) (lp.partition_count-parts.result + 1 - lp.loop-partition.partition)
     lp.loop-partition.partition
     ≡ question11_in_any_order a.store.now
 unfolding question11_in_any_order
 whole lp =
     let a = (start lp).args in
-    lp.loop-partition.invariant.2 ∙ ap (λ (n : ℕ). each (n + 1) (part_ok_by keys_apart a.store.now)) lp.before.before.partition_count-parts.ensures
+    lp.loop-partition.invariant.2 ∙ ap (λ (n : ℕ). each (n + 1) (part_ok_by keys_apart a.store.now)) lp.partition_count-parts.ensures
 
 pub check_each_spec : {M : Type 1} → statement M
 unfolding question11_in_any_order
@@ -67,8 +67,8 @@ check_each_spec =
     decreases-loop
     (λ c κs. search rules)
     (λ c κs. search rules)
-    (λ c. let pc = c.before in
-    let a = pc.before.before.before.args in
+    (λ c. let pc = c in
+    let a = pc.args in
     (search rules, refl, ap (λ (n : ℕ). each_from (part_ok_by keys_apart a.store.now) n 0) (sub-zero (pc.partition_count-parts.result + 1))))
     (λ c κs. ((start c.before).requires.0, low c))
     (λ c κs. let l = c.before in ((start l.before).requires.0, low l, omega arith))
@@ -77,21 +77,21 @@ check_each_spec =
     (λ c. let l = c.before.before.before.before in
     let st = start l.before in
     omega (arith, low l, st.requires.0.parts_high))
-    (λ c κs. let v = c.before in
-    let u = v.before.before in
-    let l = u.before in
-    let ca = l.before.before in
-    let st = ca.before.before.before.before in
+    (λ c κs. let v = c in
+    let u = v in
+    let l = u.before.before.before.before in
+    let ca = l in
+    let st = ca in
     let w =
-    places_within _ _ _ _ _ _ ca.capacity-cap.ensures u.used_count-used.ensures v.before.key_place-keys_at.ensures v.value_place-values_at.ensures
+    places_within _ _ _ _ _ _ ca.capacity-cap.ensures u.used_count-used.ensures v.key_place-keys_at.ensures v.value_place-values_at.ensures
     st.requires.0 (low l) in
     (w.0, w.1, omega arith))
     (λ c. search rules)
     (λ c. let k = c.before.before.before in
     let lp = turn k in
     let a = (start lp).args in
-    sym (each_fails (part_ok_by keys_apart a.store.now) (lp.before.before.partition_count-parts.result + 1) lp.loop-partition.partition
-    (omega arith) (answer k ∙ not-true _ c.if-not-partition_apart.true))
+    sym (each_fails (part_ok_by keys_apart a.store.now) (lp.partition_count-parts.result + 1) lp.loop-partition.partition
+    (omega arith) (answer k ∙ c.if-not-partition_apart.true))
     ∙ whole lp)
     (λ c. omega arith)
     (λ c. omega arith)
@@ -100,13 +100,13 @@ check_each_spec =
     let a = (start lp).args in (
       omega arith,
       k.partition_apart.auto.1.1.1.1.1.1.0 ∙ lp.loop-partition.invariant.1,
-      sym (each_more (part_ok_by keys_apart a.store.now) (lp.before.before.partition_count-parts.result + 1) lp.loop-partition.partition
-          (omega arith) (answer k ∙ not-false _ c.if-not-partition_apart.false))
+      sym (each_more (part_ok_by keys_apart a.store.now) (lp.partition_count-parts.result + 1) lp.loop-partition.partition
+          (omega arith) (answer k ∙ c.if-not-partition_apart.false))
           ∙ lp.loop-partition.invariant.2,
     ))
     (λ c. search rules)
     (λ c. let lp = c.before in
     let a = (start lp).args in
-    sym (each_none (part_ok_by keys_apart a.store.now) (lp.before.before.partition_count-parts.result + 1) lp.loop-partition.partition
+    sym (each_none (part_ok_by keys_apart a.store.now) (lp.partition_count-parts.result + 1) lp.loop-partition.partition
     (omega arith))
     ∙ whole lp))

@@ -27,12 +27,12 @@ decreases-loop store keys_at used first key row₀ row = 5 - row
 
 -- the answer for the key that was asked for
 answer : (h : tie.After-has invariant-loop decreases-loop) →
-    let lp = h.before.before.before in
-    let a = lp.before.before.args in
+    let lp = h in
+    let a = lp.args in
     booked a.store.now a.keys_at a.used a.key lp.loop-row.row ≡ h.has.result
 answer h =
-    let a = h.before.before.before.before.before.args in
-    ap (λ (k : ℕ). member k (fields 8 a.store.now a.keys_at a.used)) (sym h.before.beside.ensures) ∙ sym h.has.ensures
+    let a = h.args in
+    ap (λ (k : ℕ). member k (fields 8 a.store.now a.keys_at a.used)) (sym h.beside.ensures) ∙ sym h.has.ensures
 
 pub five_rows_spec : {M : Type 1} → statement M
 unfolding five
@@ -46,21 +46,21 @@ five_rows_spec =
     (λ c κs. omega arith)
     (λ c κs. omega arith)
     (λ c. let h = c.before in
-    let lp = h.before.before.before in
-    let a = lp.before.before.args in
+    let lp = h in
+    let a = lp.args in
     sym (each_fails (booked a.store.now a.keys_at a.used a.key) 5 lp.loop-row.row (omega arith)
-    (answer h ∙ not-true _ c.if-not-has.true))
+    (answer h ∙ c.if-not-has.true))
     ∙ lp.loop-row.invariant.1)
     (λ c. omega arith)
     (λ c. omega arith)
     (λ c. let h = c.before in
-    let lp = h.before.before.before in
-    let a = lp.before.before.args in (
+    let lp = h in
+    let a = lp.args in (
       omega arith,
       sym (each_more (booked a.store.now a.keys_at a.used a.key) 5 lp.loop-row.row (omega arith)
-          (answer h ∙ not-false _ c.if-not-has.false))
+          (answer h ∙ c.if-not-has.false))
           ∙ lp.loop-row.invariant.1,
     ))
-    (λ c. let lp = c.before in
-    let a = lp.before.before.args in
+    (λ c. let lp = c in
+    let a = lp.args in
     sym (each_none (booked a.store.now a.keys_at a.used a.key) 5 lp.loop-row.row (omega arith)) ∙ lp.loop-row.invariant.1))

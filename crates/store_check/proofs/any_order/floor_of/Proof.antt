@@ -17,14 +17,14 @@ floor_of_spec =
     (λ c. search rules)
     (λ c. search rules)
     (λ c κs. search rules)
-    (λ c. let i = c.before.before in
-    let a = i.before.before.before.args in
+    (λ c. let i = c in
+    let a = i.args in
     c.read32.ensures
     ∙ floor_found _ _ _ _ _
-    (i.index_of-row.ensures ∙ ap (λ (k : ℕ). index_of k (fields 8 a.store.now a.keys_at a.used)) i.before.floor_key_lem.ensures)
-    c.before.if-row-used.true)
-    (λ c. let i = c.before in
-    let a = i.before.before.before.args in
+    (i.index_of-row.ensures ∙ ap (λ (k : ℕ). index_of k (fields 8 a.store.now a.keys_at a.used)) i.floor_key.ensures)
+    c.if-row-used.true)
+    (λ c. let i = c in
+    let a = i.args in
     floor_missed a.store.now a.keys_at a.values_at a.used _
-    (i.index_of-row.ensures ∙ ap (λ (k : ℕ). index_of k (fields 8 a.store.now a.keys_at a.used)) i.before.floor_key_lem.ensures)
+    (i.index_of-row.ensures ∙ ap (λ (k : ℕ). index_of k (fields 8 a.store.now a.keys_at a.used)) i.floor_key.ensures)
     c.if-row-used.false))

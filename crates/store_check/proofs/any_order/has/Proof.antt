@@ -16,11 +16,11 @@ has_spec =
     (λ c. search rules)
     (λ c. search rules)
     (λ c κs. search rules)
-    (λ c. let t = c.before.before in
-    let a = t.before.before.args in
+    (λ c. let t = c in
+    let a = t.args in
     sym (member_at a.key a.store.now a.keys_at a.used a.near _ t.if-near-used.true refl
-    (sym c.before.read64.ensures ∙ c.if-read64-key.true)))
+    (sym c.read64.ensures ∙ c.if-read64-key.true)))
     (λ c κs. search rules)
-    (λ c. let a = c.before.before.before.args in
+    (λ c. let a = c.args in
     rw (member_place a.key (fields 8 a.store.now a.keys_at a.used), length_fields 8 a.store.now a.keys_at a.used)
     (ap (λ (i : ℕ). ltb i a.used) c.index_of.ensures)))

@@ -25,7 +25,7 @@ index_of_spec =
     (tie.spec
     invariant-loop
     decreases-loop
-    (λ c. let a = c.before.args in (
+    (λ c. let a = c.args in (
       search rules,
       omega arith,
       omega (
@@ -35,27 +35,27 @@ index_of_spec =
       ),
     ))
     (λ c κs. omega arith)
-    (λ c. let lp = c.before.before.before in
-    let a = lp.before.before.args in
+    (λ c. let lp = c in
+    let a = lp.args in
     omega (
       arith,
       index_hit a.key 8 a.store.now lp.loop-place.key_at (a.count - lp.loop-place.place) (a.count - (lp.loop-place.place + 1)) (omega arith)
-          (sym c.before.read64.ensures ∙ c.if-read64-key.true),
+          (sym c.read64.ensures ∙ c.if-read64-key.true),
     ))
     (λ c. omega arith)
     (λ c. omega arith)
     (λ c. omega arith)
-    (λ c. let lp = c.before.before.before in
-    let a = lp.before.before.args in (
+    (λ c. let lp = c in
+    let a = lp.args in (
       omega arith,
       omega arith,
       omega (
         arith,
         index_miss a.key 8 a.store.now lp.loop-place.key_at (a.count - lp.loop-place.place) (a.count - (lp.loop-place.place + 1))
             (omega arith)
-            (λ e. c.if-read64-key.false (c.before.read64.ensures ∙ e)),
+            (λ e. c.if-read64-key.false (c.read64.ensures ∙ e)),
       ),
     ))
-    (λ c. let lp = c.before in
-    let a = lp.before.before.args in
+    (λ c. let lp = c in
+    let a = lp.args in
     omega (arith, index_none a.key 8 a.store.now lp.loop-place.key_at (a.count - lp.loop-place.place) (omega arith))))

@@ -9,8 +9,8 @@ key_whole_spec =
     tie.close
     (tie.spec
     (λ c κs. search rules)
-    (λ c. rw (sym c.before.is_floor.ensures ∙ c.if-is_floor.true) refl)
+    (λ c. rw (sym c.is_floor.ensures ∙ c.if-is_floor.true) refl)
     (λ c κs. search rules)
     (λ c κs. search rules)
     (λ c κs. search rules)
-    (λ c. let t = c.before.before.before in rw (sym t.before.is_floor.ensures ∙ t.if-is_floor.false) c.five_rows.ensures))
+    (λ c. let t = c in rw (sym t.is_floor.ensures ∙ t.if-is_floor.false) c.five_rows.ensures))

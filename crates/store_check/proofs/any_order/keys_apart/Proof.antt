@@ -25,10 +25,10 @@ decreases-loop store keys_at used book marks₀ mark key_at₀ row₀ marks key_
 
 -- the key that was read is of a form
 is_form_lem : (e : tie.Else-not-of_form invariant-loop decreases-loop) →
-    let r = e.before.before in
-    let a = r.before.before.before.before.before.args in
+    let r = e in
+    let a = r.args in
     is_form a.book r.read64-key.result ≡ true
-is_form_lem e = sym e.before.of_form.ensures ∙ not-false _ e.if-not-of_form.false
+is_form_lem e = sym e.of_form.ensures ∙ e.if-not-of_form.false
 
 pub keys_apart_spec : {M : Type 1} → statement M
 keys_apart_spec =
@@ -38,46 +38,46 @@ keys_apart_spec =
     decreases-loop
     (λ c. omega arith)
     (λ c. omega arith)
-    (λ c. let a = c.before.before.args in
+    (λ c. let a = c.args in
     let z : a.used - a.used ≡ 0 = omega arith in
     (omega arith, refl, refl, keys_done a.book a.store.now _ _ z, all_done (marked a.marks.now a.mark) a.store.now _ _ z))
     (λ c. omega arith)
     (λ c κs. omega arith)
     (λ c κs. search rules)
     (λ c. search rules)
-    (λ c. let r = c.before.before in
-    let lp = r.before.before in
-    let a = lp.before.before.before.args in
+    (λ c. let r = c in
+    let lp = r in
+    let a = lp.args in
     sym (no_form a.store.now a.keys_at a.used lp.loop-row.row lp.loop-row.key_at r.read64-key.result lp.loop-row.invariant.0
-    r.before.loop-row-test.true lp.loop-row.invariant.1 r.read64-key.ensures a.book
-    (sym c.before.of_form.ensures ∙ not-true _ c.if-not-of_form.true)))
+    r.loop-row-test.true lp.loop-row.invariant.1 r.read64-key.ensures a.book
+    (sym c.of_form.ensures ∙ c.if-not-of_form.true)))
     (λ c. omega arith)
-    (λ c κs. ((omega arith, omega arith), c.before.before.before.before.before.loop-row.invariant.4))
+    (λ c κs. ((omega arith, omega arith), c.loop-row.invariant.4))
     (λ c. search rules)
-    (λ c. let r = c.before.before.before.before.before in
-    let lp = r.before.before in
-    let a = lp.before.before.before.args in
+    (λ c. let r = c in
+    let lp = r in
+    let a = lp.args in
     sym (key_twice a.store.now a.keys_at a.used lp.loop-row.row lp.loop-row.key_at r.read64-key.result lp.loop-row.invariant.0
-    r.before.loop-row-test.true lp.loop-row.invariant.1 r.read64-key.ensures a.book (sym c.before.seen.ensures ∙ c.if-seen.true)))
+    r.loop-row-test.true lp.loop-row.invariant.1 r.read64-key.ensures a.book (sym c.seen.ensures ∙ c.if-seen.true)))
     (λ c. omega arith)
     (λ c. omega arith)
     (λ c. omega arith)
     (λ c. omega arith)
-    (λ c. let r = c.before.before.before.before.before in
-    let lp = r.before.before in
-    let a = lp.before.before.before.args in (
+    (λ c. let r = c in
+    let lp = r in
+    let a = lp.args in (
       omega arith,
       omega arith,
       simp length-set lp.loop-row.invariant.2,
       key_more a.store.now a.keys_at a.used lp.loop-row.row lp.loop-row.key_at r.read64-key.result lp.loop-row.invariant.0
-          r.before.loop-row-test.true lp.loop-row.invariant.1 r.read64-key.ensures a.book (is_form_lem c.before.before.before)
-          (sym c.before.seen.ensures ∙ c.if-seen.false) lp.loop-row.invariant.3,
+          r.loop-row-test.true lp.loop-row.invariant.1 r.read64-key.ensures a.book (is_form_lem c.before.before)
+          (sym c.seen.ensures ∙ c.if-seen.false) lp.loop-row.invariant.3,
       mark_more a.store.now a.keys_at a.used lp.loop-row.row lp.loop-row.key_at r.read64-key.result lp.loop-row.invariant.0
-          r.before.loop-row-test.true lp.loop-row.invariant.1 r.read64-key.ensures lp.loop-row.marks a.mark (omega arith)
+          r.loop-row-test.true lp.loop-row.invariant.1 r.read64-key.ensures lp.loop-row.marks a.mark (omega arith)
           lp.loop-row.invariant.4,
     ))
     (λ c. search rules)
-    (λ c. let lp = c.before in
-    let a = lp.before.before.before.args in
+    (λ c. let lp = c in
+    let a = lp.args in
     sym (keys_all a.book true a.store.now a.keys_at a.used lp.loop-row.row lp.loop-row.key_at (omega arith) lp.loop-row.invariant.1
     lp.loop-row.invariant.3)))

@@ -29,13 +29,13 @@ decreases-loop store keys_at used floor key_at₀ row₀ key_at row = used - row
 
 -- the answer for the key that was read
 answer : (b : tie.After-booked_id invariant-loop decreases-loop) →
-    let lp = b.before.before.before in
-    let a = lp.before.before.args in
+    let lp = b in
+    let a = lp.args in
     above a.floor (le 8 a.store.now lp.loop-row.key_at) ≡ leb a.floor b.booked_id.result
 answer b =
-    let a = b.before.before.before.before.before.args in
+    let a = b.args in
     floor_passes a.floor (omega arith) _
-    ∙ ap (leb a.floor) (ap booked_id (sym b.before.read64.ensures) ∙ sym b.booked_id.ensures)
+    ∙ ap (leb a.floor) (ap booked_id (sym b.read64.ensures) ∙ sym b.booked_id.ensures)
 
 pub none_below_spec : {M : Type 1} → statement M
 unfolding from_floor
@@ -44,14 +44,14 @@ none_below_spec =
     (tie.spec
     invariant-loop
     decreases-loop
-    (λ c. let a = c.before.args in
+    (λ c. let a = c.args in
     let e : a.used - 0 ≡ a.used = sub-zero a.used in
     rw e (omega arith, omega arith, refl))
     (λ c κs. omega arith)
     (λ c κs. search rules)
     (λ c. let b = c.before in
-    let lp = b.before.before.before in
-    let a = lp.before.before.args in
+    let lp = b in
+    let a = lp.args in
     sym (lp.loop-row.invariant.2
     ∙ all_step (above a.floor) a.store.now lp.loop-row.key_at (a.used - lp.loop-row.row) (a.used - (lp.loop-row.row + 1)) (omega arith)
     ∙ rw (answer b, lt-leb a.floor b.booked_id.result c.if-booked_id-floor.true) refl))
@@ -59,8 +59,8 @@ none_below_spec =
     (λ c. omega arith)
     (λ c. omega arith)
     (λ c. let b = c.before in
-    let lp = b.before.before.before in
-    let a = lp.before.before.args in (
+    let lp = b in
+    let a = lp.args in (
       omega arith,
       omega arith,
       lp.loop-row.invariant.2
@@ -68,6 +68,6 @@ none_below_spec =
           (omega arith)
           ∙ rw (answer b, le-leb a.floor b.booked_id.result c.if-booked_id-floor.false) refl,
     ))
-    (λ c. let lp = c.before in
-    let a = lp.before.before.args in
+    (λ c. let lp = c in
+    let a = lp.args in
     sym (lp.loop-row.invariant.2 ∙ all_done (above a.floor) a.store.now lp.loop-row.key_at (a.used - lp.loop-row.row) (omega arith))))

@@ -12,13 +12,13 @@ use Rattle.store_check.proofs.any_order.partition_apart.Tie as tie
 
 -- the used rows fit, and the unused ones are zero
 fine : (e : tie.Else-not-filled) →
-    let a = e.before.before.before.before.args in
+    let a = e.args in
     filled a.store.now a.cap a.used a.keys_at a.values_at ≡ true
-fine e = sym e.before.filled.ensures ∙ not-false _ e.if-not-filled.false
+fine e = sym e.filled.ensures ∙ e.if-not-filled.false
 
-fits : (e : tie.Else-not-filled) → let a = e.before.before.before.before.args in a.used ≤ a.cap
+fits : (e : tie.Else-not-filled) → let a = e.args in a.used ≤ a.cap
 fits e =
-    let a = e.before.before.before.before.args in
+    let a = e.args in
     filled_fits a.store.now a.cap a.used a.keys_at a.values_at (fine e)
 
 pub partition_apart_spec : {M : Type 1} → statement M
@@ -26,7 +26,7 @@ partition_apart_spec =
     tie.close
     (tie.spec
     (λ c κs. search rules)
-    (λ c. sym (part_no _ _ _ _ _ keys_apart _ (sym c.before.filled.ensures ∙ not-true _ c.if-not-filled.true)))
+    (λ c. sym (part_no _ _ _ _ _ keys_apart _ (sym c.filled.ensures ∙ c.if-not-filled.true)))
     (λ c κs. omega (arith, fits c.before))
     (λ c. search rules)
-    (λ c. let k = c.before.before in k.keys_apart_lem.ensures ∙ sym (part_is _ _ _ _ _ keys_apart _ (fine k.before.before))))
+    (λ c. let k = c in k.keys_apart.ensures ∙ sym (part_is _ _ _ _ _ keys_apart _ (fine k.before.before.before.before))))

@@ -15,10 +15,10 @@ seen_spec =
     tie.close
     (tie.spec
     (λ c. search rules)
-    (λ c. let st = c.before.before.before.before in
+    (λ c. let st = c in
     let a = st.args in
     sym (unmarked a.marks.now a.mark a.key (fields 8 a.store.now a.keys_at a.left) st.requires.1 c.if-marks-place.true))
     (λ c κs. search rules)
-    (λ c. let a = c.before.before.before.before.before.args in
+    (λ c. let a = c.args in
     rw (member_place a.key (fields 8 a.store.now a.keys_at a.left), length_fields 8 a.store.now a.keys_at a.left)
     (ap (λ (i : ℕ). ltb i a.left) c.index_of.ensures)))

@@ -27,12 +27,12 @@ clear_spec =
     (λ c. omega arith)
     (λ c. omega arith)
     (λ c. simp length-set (omega arith))
-    (λ c. let lp = c.before in (
+    (λ c. let lp = c in (
       simp length-set (omega arith),
       simp length-set lp.loop-cleared.invariant.1,
-      rw lp.loop-cleared.invariant.2 (fill_more lp.loop-cleared.cleared 0 lp.before.args.bytes.now (omega arith)),
+      rw lp.loop-cleared.invariant.2 (fill_more lp.loop-cleared.cleared 0 lp.args.bytes.now (omega arith)),
     ))
-    (λ c. c.before.loop-cleared.invariant.1)
-    (λ c. let lp = c.before in
-    let e : lp.loop-cleared.cleared ≡ length lp.before.args.bytes.now = omega arith in
-    lp.loop-cleared.invariant.2 ∙ rw (e, drop-length) (append-nil (replicate (length lp.before.args.bytes.now) 0))))
+    (λ c. c.loop-cleared.invariant.1)
+    (λ c. let lp = c in
+    let e : lp.loop-cleared.cleared ≡ length lp.args.bytes.now = omega arith in
+    lp.loop-cleared.invariant.2 ∙ rw (e, drop-length) (append-nil (replicate (length lp.args.bytes.now) 0))))

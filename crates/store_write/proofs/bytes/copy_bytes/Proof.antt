@@ -30,14 +30,14 @@ copy_bytes_spec =
     (λ c. omega arith)
     (λ c. omega arith)
     (λ c. omega arith)
-    (λ c. let lp = c.before.before in
-    let a = lp.before.args in (
+    (λ c. let lp = c in
+    let a = lp.args in (
       omega arith,
       simp length-set lp.loop-copied.invariant.1,
       rw lp.loop-copied.invariant.2 (copy_more a.to.now a.from.now a.to_at a.from_at lp.loop-copied.copied (omega arith)),
     ))
-    (λ c. c.before.loop-copied.invariant.1)
-    (λ c. let lp = c.before in
-    let a = lp.before.args in
+    (λ c. c.loop-copied.invariant.1)
+    (λ c. let lp = c in
+    let a = lp.args in
     let e : lp.loop-copied.copied ≡ a.count = omega arith in
     lp.loop-copied.invariant.2 ∙ ap (λ (k : ℕ). sets a.to.now a.to_at (piece k a.from_at a.from.now)) e))

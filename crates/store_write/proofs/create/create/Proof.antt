@@ -12,12 +12,12 @@ use Rattle.store_write.proofs.create.create.Tie as tie
 
 -- question 9 was answered yes
 right : (c : tie.Else-not-numbers_right) →
-    let a = c.before.before.before.args in
+    let a = c.args in
     (1 ≤ a.parts) × (a.parts ≤ 8) × (5 ≤ a.cap) × (a.cap ≤ 256)
 right c =
-    let n = c.before in
-    let a = n.before.before.args in
-    numbers_mean a.parts a.cap (sym n.numbers_right.ensures ∙ not-false _ c.if-not-numbers_right.false)
+    let n = c in
+    let a = n.args in
+    numbers_mean a.parts a.cap (sym n.numbers_right.ensures ∙ c.if-not-numbers_right.false)
 
 -- where it was, from where the bytes are cleared
 abbrev asked : tie.After-clear → tie.Else-not-numbers_right
@@ -29,35 +29,35 @@ create_spec =
     (tie.spec
     (λ c κs. search rules)
     (λ c κs. search rules)
-    (λ c. let n = c.before.before in
-    let a = n.before.before.args in
+    (λ c. let n = c in
+    let a = n.args in
     created_9 a.store.now a.parts a.cap c.refused.result
-    (sym n.numbers_right.ensures ∙ not-true _ c.before.if-not-numbers_right.true) c.refused.ensures)
+    (sym n.numbers_right.ensures ∙ c.if-not-numbers_right.true) c.refused.ensures)
     (λ c κs. (omega (arith, right c), omega (arith, right c)))
     (λ c κs. search rules)
-    (λ c. let z = c.before.before in
-    let n = z.before.before in
-    let a = n.before.before.args in
+    (λ c. let z = c in
+    let n = z in
+    let a = n.args in
     created_10 a.store.now a.parts a.cap c.refused-then-store-store_size.result
-    (sym n.numbers_right.ensures ∙ not-false _ z.before.if-not-numbers_right.false)
-    (λ e. c.before.if-store-store_size.true (e ∙ sym z.store_size.ensures)) c.refused-then-store-store_size.ensures)
+    (sym n.numbers_right.ensures ∙ z.if-not-numbers_right.false)
+    (λ e. c.if-store-store_size.true (e ∙ sym z.store_size.ensures)) c.refused-then-store-store_size.ensures)
     (λ c κs. search rules)
     (λ c. omega (arith, right (asked c.before.before)))
     (λ c. search rules)
     (λ c. omega (arith, right (asked c.before.before.before)))
-    (λ c κs. simp length-set (omega (arith, c.before.before.before.clear.auto)))
+    (λ c κs. simp length-set (omega (arith, c.clear.auto)))
     (λ c κs. search rules)
-    (λ c. let w = c.before.before.before in
-    let cl = w.before.before.before.before in
+    (λ c. let w = c in
+    let cl = w in
     w.write16.auto.0 ∙ length-set cl.clear.new.bytes 0 _ ∙ cl.clear.auto.0)
-    (λ c. let w = c.before.before.before in
-    let cl = w.before.before.before.before in
-    let z = cl.before.before in
-    let e = z.before.before in
-    let n = e.before in
-    let a = n.before.before.args in
-    let long = z.if-store-store_size.false ∙ z.before.store_size.ensures in
+    (λ c. let w = c in
+    let cl = w in
+    let z = cl in
+    let e = z.before.before.before.before.before.before.before.before.before.before.before in
+    let n = e in
+    let a = n.args in
+    let long = z.if-store-store_size.false ∙ z.store_size.ensures in
     created_fresh a.store.now a.parts a.cap c.accepted.result w.write16.new.s
-    (sym n.numbers_right.ensures ∙ not-false _ e.if-not-numbers_right.false) long
+    (sym n.numbers_right.ensures ∙ e.if-not-numbers_right.false) long
     (w.write16.ensures ∙ rw cl.clear.ensures (fresh_written a.parts a.cap (length a.store.now) long (right e).3))
     c.accepted.ensures))

@@ -15,7 +15,7 @@ use Rattle.store_write.proofs.keep.keep_and_put.Tie as tie
 
 -- the beginning, from where the search has ended; and where that is, from where the capacity is read
 abbrev start : tie.After-ended_at-first → tie.Start
-start c = c.before.before.before.before
+start c = c.before.before.before
 
 abbrev ended : tie.After-capacity → tie.After-ended_at-first
 ended c = c.before.before
@@ -28,7 +28,7 @@ left c =
     let st = start c in
     let a = st.args in
     from_first a.low (rows_of a.store.now a.partition) (rows_rise a.store.now st.requires.0.0 a.partition st.requires.0.1)
-    c.before.find-found.result c.before.find-found.ensures c.ended_at-first.result c.ended_at-first.ensures
+    c.find-found.result c.find-found.ensures c.ended_at-first.result c.ended_at-first.ensures
 
 pub keep_and_put_spec : {M : Type 1} → statement M
 keep_and_put_spec =
@@ -52,14 +52,14 @@ keep_and_put_spec =
         st.requires.0.1,
         first_within a.low (rows_of a.store.now a.partition)
             (rows_rise a.store.now st.requires.0.0 a.partition st.requires.0.1)
-            en.before.find-found.result en.before.find-found.ensures en.ended_at-first.result en.ended_at-first.ensures,
+            en.find-found.result en.find-found.ensures en.ended_at-first.result en.ended_at-first.ensures,
         sym (take_count (2 + 12 * cp.capacity.result - 0) 3074 _ refl (omega (arith, n, st.requires.0.0.formed.shape.cap_high))) ∙ n,
       ),
       (omega (arith, ap length (left en), st.requires.1.0), st.requires.1.1, st.requires.1.2),
     ))
     (λ c. search rules)
-    (λ c. let kb = c.before.before.before in
-    let en = ended kb.before.before.before in
+    (λ c. let kb = c in
+    let en = ended kb.before.before.before.before.before.before in
     let a = (start en).args in
     stored_as a.store.now kb.keep_and_put_by.new.store a.partition
     (λ (rs : List Row). put_row a.key a.value (drop en.ended_at-first.result rs))

@@ -19,16 +19,16 @@ use Rattle.store_write.proofs.keep.keep_and_put_by.Tie as tie
 
 -- where the capacity is read and the beginning, from where the search has ended; and the places between, from the later ones
 abbrev sized : tie.After-ended_at-ahead → tie.After-capacity-cap
-sized c = c.before.before.before
+sized c = c.before.before
 
 abbrev start : tie.After-ended_at-ahead → tie.Start
-start c = (sized c).before.before.before.before
+start c = (sized c).before
 
 abbrev ended : tie.After-clear → tie.After-ended_at-ahead
 ended c = c.before.before
 
 abbrev clear_then : tie.After-copy_rows → tie.After-clear
-clear_then c = c.before.before.before.before.before
+clear_then c = c.before.before.before.before
 
 abbrev copied : tie.After-add_row → tie.After-copy_rows
 copied c = c.before.before.before.before
@@ -39,7 +39,7 @@ within : (c : tie.After-ended_at-ahead) →
     c.ended_at-ahead.result ≤ length (drop a.first (rows_of a.store.now a.partition))
 within c =
     let a = (start c).args in
-    place_within a.key (rows_of a.store.now a.partition) a.first c.before.find-found.result c.before.find-found.ensures
+    place_within a.key (rows_of a.store.now a.partition) a.first c.find-found.result c.find-found.ensures
     c.ended_at-ahead.result c.ended_at-ahead.ensures
 
 -- so there is room for one more
@@ -61,7 +61,7 @@ held c =
     let rows = rows_of a.store.now a.partition in
     let count = en.ended_at-ahead.result in
     subst (Holds (cap_of a.store.now) c.add_row.new.part (count + 1))
-    (put_there a.key rows a.first en.before.find-found.result en.before.find-found.ensures count en.ended_at-ahead.ensures a.value
+    (put_there a.key rows a.first en.find-found.result en.find-found.ensures count en.ended_at-ahead.ensures a.value
     (rows_rise a.store.now st.requires.0.0 a.partition st.requires.0.1) st.requires.1.2)
     (subst (Adds cr.copy_rows.new.part c.add_row.new.part count a.key a.value) (sized en).capacity-cap.ensures
     c.add_row.ensures (take count (drop a.first rows))
@@ -78,7 +78,7 @@ keep_and_put_by_spec =
     (λ c κs. search rules)
     (λ c κs. search rules)
     (λ c κs. search rules)
-    (λ c κs. let cl = c.before.before.before.before in
+    (λ c κs. let cl = c.before.before.before in
     let en = ended cl in
     let st = start en in
     let a = st.args in (
@@ -101,8 +101,8 @@ keep_and_put_by_spec =
     (λ c. let en = ended (clear_then (copied c.before.before.before)) in
     omega (arith, room en, (start en).requires.0.0.formed.shape.cap_high))
     (λ c κs. search rules)
-    (λ c κs. let w = c.before.before.before.before in
-    let ar = w.before.before.before.before in
+    (λ c κs. let w = c in
+    let ar = w.before.before.before.before.before.before.before in
     let cl = clear_then (copied ar) in
     let st = start (ended cl) in (
       st.requires.0.0.formed.shape,
@@ -111,9 +111,9 @@ keep_and_put_by_spec =
     ))
     (λ c. search rules)
     (λ c. search rules)
-    (λ c. let cb = c.before.before in
-    let w = cb.before.before.before.before.before in
-    let ar = w.before.before.before.before in
+    (λ c. let cb = c in
+    let w = cb in
+    let ar = w.before.before.before.before.before.before.before.before.before.before in
     let en = ended (clear_then (copied ar)) in
     let st = start en in
     let a = st.args in

@@ -18,13 +18,13 @@ use Rattle.store_write.proofs.keep.keep_by.Tie as tie
 
 -- the beginning, from where the used count is read; and where that is, from where the buffer is clear and from where the rows are copied
 abbrev start : tie.After-used_count → tie.Start
-start c = c.before.before.before.before
+start c = c.before.before.before
 
 abbrev counted : tie.After-clear → tie.After-used_count
 counted c = c.before.before
 
 abbrev clear_then : tie.After-copy_rows → tie.After-clear
-clear_then c = c.before.before.before.before.before
+clear_then c = c.before.before.before.before
 
 pub keep_by_spec : {M : Type 1} → statement M
 unfolding KeysGood
@@ -34,7 +34,7 @@ keep_by_spec =
     (λ c κs. search rules)
     (λ c. search rules)
     (λ c κs. search rules)
-    (λ c κs. let cl = c.before.before.before.before in
+    (λ c κs. let cl = c.before.before.before in
     let u = counted cl in
     let st = start u in
     let a = st.args in
@@ -58,9 +58,9 @@ keep_by_spec =
     (λ c κs. search rules)
     (λ c. search rules)
     (λ c. search rules)
-    (λ c. let cb = c.before.before in
-    let w = cb.before.before.before.before.before in
-    let cr = w.before.before.before.before in
+    (λ c. let cb = c in
+    let w = cb in
+    let cr = w.before.before.before.before.before.before.before.before.before.before in
     let cl = clear_then cr in
     let u = counted cl in
     let st = start u in

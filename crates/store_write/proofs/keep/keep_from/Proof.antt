@@ -14,7 +14,7 @@ use Rattle.store_write.proofs.keep.keep_from.Tie as tie
 
 -- the beginning, from where the search has ended; and where that is, from where the capacity is read
 abbrev start : tie.After-ended_at-first → tie.Start
-start c = c.before.before.before.before
+start c = c.before.before.before
 
 abbrev ended : tie.After-capacity → tie.After-ended_at-first
 ended c = c.before.before.before
@@ -27,7 +27,7 @@ left c =
     let st = start c in
     let a = st.args in
     from_first a.low (rows_of a.store.now a.partition) (rows_rise a.store.now st.requires.0 a.partition st.requires.1)
-    c.before.find-found.result c.before.find-found.ensures c.ended_at-first.result c.ended_at-first.ensures
+    c.find-found.result c.find-found.ensures c.ended_at-first.result c.ended_at-first.ensures
 
 pub keep_from_spec : {M : Type 1} → statement M
 keep_from_spec =
@@ -59,12 +59,12 @@ keep_from_spec =
       st.requires.1,
       first_within a.low (rows_of a.store.now a.partition)
           (rows_rise a.store.now st.requires.0 a.partition st.requires.1)
-          en.before.find-found.result en.before.find-found.ensures en.ended_at-first.result en.ended_at-first.ensures,
+          en.find-found.result en.find-found.ensures en.ended_at-first.result en.ended_at-first.ensures,
       sym (take_count (2 + 12 * cp.capacity.result - 0) 3074 _ refl (omega (arith, n, st.requires.0.formed.shape.cap_high))) ∙ n,
     ))
     (λ c. search rules)
-    (λ c. let kb = c.before.before.before in
-    let cp = kb.before.before.before in
+    (λ c. let kb = c in
+    let cp = kb.before.before.before.before.before.before in
     let en = ended cp in
     let st = start en in
     let a = st.args in (
@@ -72,6 +72,6 @@ keep_from_spec =
           kb.keep_by.ensures (left en),
       (λ same. absurd
           (fewer a.low (rows_of a.store.now a.partition) (rows_rise a.store.now st.requires.0 a.partition st.requires.1)
-          en.before.find-found.result en.before.find-found.ensures en.ended_at-first.result en.ended_at-first.ensures
-          (omega (arith, cp.before.before.if-first-eq0.false)) same)),
+          en.find-found.result en.find-found.ensures en.ended_at-first.result en.ended_at-first.ensures
+          (omega (arith, cp.if-first-eq0.false)) same)),
     )))

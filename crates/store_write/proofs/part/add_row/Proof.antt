@@ -23,9 +23,9 @@ add_row_spec =
     (λ c. search rules)
     (λ c κs. search rules)
     (λ c. search rules)
-    (λ c rs h. let w2 = c.before.before in
-    let w1 = w2.before.before.before.before in
-    let st = w1.before.before.before in
+    (λ c rs h. let w2 = c in
+    let w1 = w2 in
+    let st = w1 in
     let a = st.args in
     subst (λ (bs : List ℕ). Holds a.cap bs (a.held + 1) (rs ++ (a.key, a.value) ∷ []))
     (sym (w2.write32.ensures ∙ ap (λ (bs : List ℕ). put 4 bs (2 + 8 * a.cap + 4 * a.held) a.value) w1.write64.ensures))

@@ -20,10 +20,10 @@ copy_back_spec =
     (λ c. search rules)
     (λ c κs. search rules)
     (λ c. search rules)
-    (λ c κs. let w = c.before.before.before in
-    let k = w.before.before.before.before in
-    let cp = k.before.before in
-    let st = cp.before.before.before.before in
+    (λ c κs. let w = c in
+    let k = w in
+    let cp = k in
+    let st = cp in
     let a = st.args in (
       omega (
         arith,
@@ -38,11 +38,11 @@ copy_back_spec =
     (λ c. search rules)
     (λ c. search rules)
     (λ c. search rules)
-    (λ c κs. let w2 = c.before.before.before in
-    let w1 = w2.before.before.before.before in
-    let v = w1.before.before in
-    let cp = v.before.before.before.before in
-    let st = cp.before.before.before.before in
+    (λ c κs. let w2 = c in
+    let w1 = w2 in
+    let v = w1 in
+    let cp = v in
+    let st = cp in
     let a = st.args in (
       omega (
         arith,
@@ -56,13 +56,13 @@ copy_back_spec =
       omega (arith, cp.capacity-cap.ensures, st.requires.2),
     ))
     (λ c. search rules)
-    (λ c. let w3 = c.before.before in
-    let w2 = w3.before.before.before.before in
-    let w1 = w2.before.before.before.before in
-    let v = w1.before.before in
-    let k = v.before.before in
-    let cp = k.before.before in
-    let st = cp.before.before.before.before in
+    (λ c. let w3 = c in
+    let w2 = w3 in
+    let w1 = w2 in
+    let v = w1 in
+    let k = v in
+    let cp = k in
+    let st = cp in
     let a = st.args in
     rw (w3.copy_bytes-3.ensures, w2.copy_bytes-2.ensures, w1.copy_bytes.ensures)
     (part_copied (parts_of a.store.now) (cap_of a.store.now) a.partition a.part.now a.store.now cp.capacity-cap.result

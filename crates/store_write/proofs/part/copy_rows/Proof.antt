@@ -18,7 +18,7 @@ copy_rows_spec =
     tie.close
     (tie.spec
     (λ c κs. search rules)
-    (λ c κs. let st = c.before.before.before in (
+    (λ c κs. let st = c in (
       st.requires.0.shape,
       st.requires.1,
       omega (
@@ -28,7 +28,7 @@ copy_rows_spec =
             st.requires.1,
       ),
     ))
-    (λ c κs. let st = c.before.before.before.before in (
+    (λ c κs. let st = c in (
       st.requires.0.shape,
       st.requires.1,
       omega (
@@ -41,9 +41,9 @@ copy_rows_spec =
     (λ c. search rules)
     (λ c. search rules)
     (λ c. search rules)
-    (λ c κs. let v = c.before in
-    let k = v.before in
-    let st = k.before.before.before.before in
+    (λ c κs. let v = c in
+    let k = v in
+    let st = k in
     let a = st.args in (
       omega (arith, st.requires.3, st.requires.4),
       omega (
@@ -58,10 +58,10 @@ copy_rows_spec =
     (λ c. search rules)
     (λ c. search rules)
     (λ c. search rules)
-    (λ c κs. let w = c.before.before.before in
-    let v = w.before.before in
-    let cp = v.before.before in
-    let st = cp.before.before.before in
+    (λ c κs. let w = c in
+    let v = w in
+    let cp = v in
+    let st = cp in
     let a = st.args in (
       omega (arith, w.copy_bytes.auto.0, cp.capacity-cap.ensures, st.requires.3, st.requires.4),
       omega (
@@ -72,12 +72,12 @@ copy_rows_spec =
       ),
     ))
     (λ c. search rules)
-    (λ c rs h. let w2 = c.before.before in
-    let w1 = w2.before.before.before.before in
-    let v = w1.before.before in
-    let k = v.before in
-    let cp = k.before in
-    let st = cp.before.before.before in
+    (λ c rs h. let w2 = c in
+    let w1 = w2 in
+    let v = w1 in
+    let k = v in
+    let cp = k in
+    let st = cp in
     let a = st.args in
     let fits = rows_within a.store.now st.requires.0 a.partition st.requires.1 a.row a.rows st.requires.2 in
     subst (λ (bs : List ℕ). Holds (cap_of a.store.now) bs (a.held + a.rows)
