@@ -154,7 +154,8 @@ def body_of(text, env, helpers, places):
 def blocks_of(text):
     blocks, now = [], []
     for l in text.split("\n"):
-        if l and not l[0].isspace() and not l.startswith((")", "--")) and now:
+        # A line of comment is a block of its own.
+        if l and not l[0].isspace() and not l.startswith(")") and now:
             blocks.append("\n".join(now))
             now = []
         now.append(l)

@@ -27,7 +27,7 @@ pub record Fitting (a : Agent) : Type 0 where
   pub step : a.step < 2 ^ 16
 
 registers_small : (l : List ℕ) (us : List Val) →
-    shadow (each u32-field.row.Denot u32-field.row.own_val (map {A = ℕ} {B = ℕ} (λ v. v) l) us)
+    shadow (each ℕ u32.own_val l us)
     → (j : ℕ) → get_or l j 0 < 256 ^ 4
 registers_small [] us s j = omega arith
 registers_small (x ∷ l) [] s j = absurd s

@@ -19,7 +19,7 @@ got c =
     let p = k in
     let s = p.args in
     c.get-found.ensures
-    ∙ ap₂ (λ (j q : ℕ). got_of (lookup j (rows_of s.store.now q))) k.book_key.ensures.0 p.partition_count-book.ensures
+    ∙ ap₂ (λ (j q : ℕ). got_of (lookup j (rows_of s.store.now q))) k.book_key-key.ensures.0 p.partition_count-book.ensures
 
 pub argument_spec : {M : Type 1} → statement M
 argument_spec =

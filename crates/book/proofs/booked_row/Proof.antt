@@ -22,6 +22,6 @@ booked_row_spec =
     let st = p in
     let s = st.args in (
       c.find.ensures.all (rows_rise s.store.now st.requires p.partition_count-book.result (omega (arith, p.partition_count-book.ensures)))
-          ∙ ap₂ (λ (j q : ℕ). found_in j (keys_in (rows_of s.store.now q))) k.book_key.ensures.0 p.partition_count-book.ensures,
-      k.book_key.ensures.1,
+          ∙ ap₂ (λ (j q : ℕ). found_in j (keys_in (rows_of s.store.now q))) k.book_key-key.ensures.0 p.partition_count-book.ensures,
+      k.book_key-key.ensures.1,
     )))

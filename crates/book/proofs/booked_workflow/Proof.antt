@@ -18,7 +18,7 @@ booked_workflow_spec =
     let k = c in
     let p = k in
     let s = p.args in (
-      c.get.ensures ∙ ap₂ (λ (j q : ℕ). got_of (lookup j (rows_of s.store.now q))) k.book_key.ensures.0
+      c.get.ensures ∙ ap₂ (λ (j q : ℕ). got_of (lookup j (rows_of s.store.now q))) k.book_key-key.ensures.0
           p.partition_count-book.ensures,
-      k.book_key.ensures.1,
+      k.book_key-key.ensures.1,
     )))

@@ -34,7 +34,7 @@ abbrev counted : tie.After-used_count → tie.After-partition_count-book-in-Belo
 counted u = u.before.before
 
 abbrev start : tie.After-booked_row-found → tie.Start
-start br = br
+start br = br.before.before
 
 -- what the book has of a known id
 known : (c : tie.After-value_at-workflow) →

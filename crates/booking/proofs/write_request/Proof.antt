@@ -20,10 +20,10 @@ write_request_spec =
     let p = k.partition_count-book in
     let s = k in
     let a = s.args in
-    rw k.book_keys.ensures.0 (
+    rw k.book_keys-keys.ensures.0 (
       (s.requires.0, omega (arith, p.ensures), omega arith, refl, keys_rise a.id),
       (
-        keys_right a.store.now p.result a.id (asked a.q) p.ensures k.book_keys.ensures.1,
+        keys_right a.store.now p.result a.id (asked a.q) p.ensures k.book_keys-keys.ensures.1,
         first_belongs a.store.now p.result a.id (asked a.q) p.ensures a.place s.requires.1,
       ),
     ))
@@ -34,5 +34,5 @@ write_request_spec =
     let p = k.partition_count-book in
     let s = k in
     let a = s.args in
-    five_stored a.store.now p.result a.id (asked a.q) p.ensures k.book_keys.result _ w.put_all.result
-    k.book_keys.ensures.0 s.requires.2 w.put_all.ensures))
+    five_stored a.store.now p.result a.id (asked a.q) p.ensures k.book_keys-keys.result _ w.put_all.result
+    k.book_keys-keys.ensures.0 s.requires.2 w.put_all.ensures))

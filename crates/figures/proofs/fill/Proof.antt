@@ -52,8 +52,8 @@ module _ (t : tie.In-loop-index invariant-loop decreases-loop) where
   filled_ahead =
       subst (λ n. Filled s.args.by s.args.ops.now s.args.operands.now n l.loop-index.most) (is_next ∙ sym (add-one k))
       l.loop-index.invariant.4
-      its side is known
 
+-- its side is known
 abbrev test_before : tie.After-inside_before-inside invariant-loop decreases-loop → tie.In-loop-index invariant-loop decreases-loop
 test_before i = i.before.before.before
 

@@ -30,10 +30,10 @@ start o = o.before.before.before.before.before.before
 
 -- what it counts, by its operation
 own_count : (o : tie.After-own_of-own) → let a = (start o).args in
-    o.own_of.result
+    o.own_of-own.result
     ≡ if◌then◌else◌ a.inside (if◌then◌else◌ (eqb (operation_at a.ops.now a.index) op_put) 1 0) (counting_of a.by).one
 own_count o =
-    o.own_of.ensures
+    o.own_of-own.ensures
     ∙ ap (λ n. if◌then◌else◌ (start o).args.inside (if◌then◌else◌ (eqb n op_put) 1 0) (counting_of (start o).args.by).one)
     o.operation_of.ensures
 
@@ -60,25 +60,25 @@ module _ (t : tie.After-target_of-target) where
       omega (arith, target)
 
   by_both : MostAt s.args.by s.args.ops.now s.args.operands.now s.args.index
-      ((own_before t).own_of.result
+      ((own_before t).own_of-own.result
       + larger (get_or s.args.most.now (s.args.index + 1) 0) (get_or s.args.most.now t.target_of-target.result 0))
   by_both =
       let p = s.requires in
       subst
       (λ n. MostAt s.args.by s.args.ops.now s.args.operands.now s.args.index
-      ((own_before t).own_of.result + larger (get_or s.args.most.now (s.args.index + 1) 0) (get_or s.args.most.now n 0)))
+      ((own_before t).own_of-own.result + larger (get_or s.args.most.now (s.args.index + 1) 0) (get_or s.args.most.now n 0)))
       (sym target)
       (jump_most _ _ _ _ _ p.0.1 s.args.by _ p.1.0 p.1.1.0 p.1.1.1 p.1.1.2 jump _ (own_count (own_before t)))
-      with the larger of the two worked out
 
+-- with the larger of the two worked out
 by_larger : (c : tie.After-larger) →
     let t = c.before.before in
     MostAt (s t).args.by (s t).args.ops.now (s t).args.operands.now (s t).args.index
-    ((own_before t).own_of.result + c.larger.result)
+    ((own_before t).own_of-own.result + c.larger.result)
 by_larger c =
     let t = c.before.before in
     subst
-    (λ n. MostAt (s t).args.by (s t).args.ops.now (s t).args.operands.now (s t).args.index ((own_before t).own_of.result + n))
+    (λ n. MostAt (s t).args.by (s t).args.ops.now (s t).args.operands.now (s t).args.index ((own_before t).own_of-own.result + n))
     (sym c.larger.ensures) (by_both t)
 
 -- ── no jump ──
@@ -88,7 +88,7 @@ module _ (c : tie.Else-is_jump) where
   o = c.before.before.before
 
   by_next : MostAt (start o).args.by (start o).args.ops.now (start o).args.operands.now (start o).args.index
-      (o.own_of.result + get_or (start o).args.most.now ((start o).args.index + 1) 0)
+      (o.own_of-own.result + get_or (start o).args.most.now ((start o).args.index + 1) 0)
   by_next =
       let p = (start o).requires in
       next_most _ _ _ _ _ p.0.1 (start o).args.by _ p.1.0 p.1.1.0 p.1.1.1 p.1.1.2 _ (own_count o)

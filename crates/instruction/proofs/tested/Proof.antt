@@ -28,7 +28,7 @@ tested_spec =
     let dk = sv in
     let s = dk in
     let a = s.args in
-    let k = dk.data_key.ensures in
+    let k = dk.data_key-key.ensures in
     let v = m.in-Value.field-0 in
     rw c.at_place.ensures
     (step_has (rows_of a.store.now a.partition) a.x st.with_register.result s.requires.2 a.d a.s k.1 (some v)
@@ -40,7 +40,7 @@ tested_spec =
     let dk = sv in
     let s = dk in
     let a = s.args in
-    let k = dk.data_key.ensures in
+    let k = dk.data_key-key.ensures in
     rw c.at_place-in-Absent.ensures
     (step_has (rows_of a.store.now a.partition) a.x st.with_register-in-Absent.result s.requires.2 a.d a.s k.1 none
     (got_none _ _ (rw k.0 at sv.seen_value-found.ensures) m.in-Absent.is) st.with_register-in-Absent.ensures)))

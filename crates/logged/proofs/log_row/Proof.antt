@@ -19,5 +19,5 @@ log_row_spec =
     let st = k in
     let s = st.args in
     c.get.ensures
-    ∙ ap (λ (n : ℕ). got_of (lookup n (rows_of s.store.now s.partition))) k.log_key.ensures.0
-    ∙ ap got_of (usual_row s.store.now s.partition s.id s.step st.requires.1 k.log_key.ensures.1 k.log_key.ensures.2)))
+    ∙ ap (λ (n : ℕ). got_of (lookup n (rows_of s.store.now s.partition))) k.log_key-key.ensures.0
+    ∙ ap got_of (usual_row s.store.now s.partition s.id s.step st.requires.1 k.log_key-key.ensures.1 k.log_key-key.ensures.2)))

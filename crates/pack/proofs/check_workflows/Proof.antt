@@ -83,7 +83,7 @@ module _ (c : tie.After-size_at-size invariant-loop decreases-loop) where
   short : length (lent c.before.before) ≤ 10273
   short = let s = began c.before.before in omega (arith, s.requires.whole, s.requires.few, s.requires.short)
 
-   the parts in hand are the workflow's
+-- the parts in hand are the workflow's
 module _ (c : tie.After-part invariant-loop decreases-loop) where
   operations_here : let l = c.before.before.before.before in
       c.part-ops.result.now ≡ operations_of (lent l) l.loop-workflow.workflow
@@ -114,7 +114,7 @@ module _ (c : tie.After-part invariant-loop decreases-loop) where
       let b = ap length operands_here ∙ length_operands s.args.pack.now s.requires l.loop-workflow.workflow t.loop-workflow-test.true in
       (omega (arith, a, (s.requires.sizes l.loop-workflow.workflow t.loop-workflow-test.true).0), omega (arith, a, b))
 
-   the verdict on a workflow
+-- the verdict on a workflow
 told : (c : tie.After-check_workflow-v invariant-loop decreases-loop) →
     let l = c.before.before.before.before.before in
     c.check_workflow-v.result ≡ verdict_of (workflow_no (lent l) l.loop-workflow.workflow)

@@ -94,14 +94,14 @@ all_retirable_spec =
     let l = i in
     let k = l.before.before.before.before in
     sym (can_past _ _ _ _ l.loop-row.row _ _ (omega arith) k.partition_count-book.ensures (key_there c.before) (sound k)
-    (as_many k) (omega (arith, k.book_key.ensures.0)))
+    (as_many k) (omega (arith, k.book_key-end.ensures.0)))
     ∙ l.loop-row.invariant.2)
     (λ c κs. ((start c.before.before.before.before).requires, key_in_book c.before))
     (λ c. let e = c in
     let l = e in
     let k = l in
     sym (can_no _ _ _ _ l.loop-row.row _ _ (omega arith) k.partition_count-book.ensures (key_there e.before.before.before)
-    (omega (arith, k.book_key.ensures.0)) _ c.row_retirable.ensures c.if-not-row_retirable.true)
+    (omega (arith, k.book_key-end.ensures.0)) _ c.row_retirable.ensures c.if-not-row_retirable.true)
     ∙ l.loop-row.invariant.2)
     (λ c. omega (arith, key_inside c.before.before.before.before))
     (λ c. search rules)
@@ -112,7 +112,7 @@ all_retirable_spec =
       omega arith,
       omega arith,
       sym (can_on _ _ _ _ l.loop-row.row _ _ (omega arith) k.partition_count-book.ensures (key_there e.before.before.before)
-          (omega (arith, k.book_key.ensures.0)) _ c.row_retirable.ensures
+          (omega (arith, k.book_key-end.ensures.0)) _ c.row_retirable.ensures
           c.if-not-row_retirable.false)
           ∙ l.loop-row.invariant.2,
     ))

@@ -45,9 +45,9 @@ retire_logs_spec =
     let lp = il.before.before.before.before.before in
     let a = (start lp).args in (
       omega (arith, il.loop-partition-test.true),
-      kf.keep_from.auto.0 ∙ lp.loop-partition.invariant.1,
-      logs_more a.floor a.store.now lp.loop-partition.store kf.keep_from.new.store lp.loop-partition.partition lp.log_key.result
-          lp.loop-partition.invariant.2 lp.log_key.ensures.0 kf.keep_from.ensures.0,
+      kf.keep_from.auto.store ∙ lp.loop-partition.invariant.1,
+      logs_more a.floor a.store.now lp.loop-partition.store kf.keep_from.new.store lp.loop-partition.partition lp.log_key-low.result
+          lp.loop-partition.invariant.2 lp.log_key-low.ensures.0 kf.keep_from.ensures.0,
     ))
     (λ c. c.loop-partition.invariant.1)
     (λ c. let lp = c.before in

@@ -25,9 +25,9 @@ retire_rows_spec =
     let st = start fk in
     let a = st.args in (
       ((store_ok a.store.now st.requires.0).0, omega (arith, pc.partition_count-parts.ensures)),
-      book_asked a.store.now a.floor fk.book_key.ensures.1 st.requires.0 st.requires.1 pc.partition_count-parts.result
-          fk.book_key.result fk.floor_key.result pc.partition_count-parts.ensures fk.book_key.ensures.0
-          fk.floor_key.ensures,
+      book_asked a.store.now a.floor fk.book_key-low.ensures.1 st.requires.0 st.requires.1 pc.partition_count-parts.result
+          fk.book_key-low.result fk.floor_key-key.result pc.partition_count-parts.ensures fk.book_key-low.ensures.0
+          fk.floor_key-key.ensures,
     ))
     (λ c κs. c.keep_and_put.ensures.sound)
     (λ c. search rules)
@@ -37,7 +37,7 @@ retire_rows_spec =
     let pc = counted fk in
     let st = start fk in
     let a = st.args in
-    made a.store.now a.floor fk.book_key.ensures.1 st.requires.0 st.requires.1 kp.keep_and_put.new.store
-    rl.retire_logs.new.store pc.partition_count-parts.result fk.book_key.result fk.floor_key.result
-    pc.partition_count-parts.ensures fk.book_key.ensures.0 fk.floor_key.ensures kp.keep_and_put.ensures
+    made a.store.now a.floor fk.book_key-low.ensures.1 st.requires.0 st.requires.1 kp.keep_and_put.new.store
+    rl.retire_logs.new.store pc.partition_count-parts.result fk.book_key-low.result fk.floor_key-key.result
+    pc.partition_count-parts.ensures fk.book_key-low.ensures.0 fk.floor_key-key.ensures kp.keep_and_put.ensures
     rl.retire_logs.ensures))

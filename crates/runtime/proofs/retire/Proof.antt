@@ -14,7 +14,7 @@ use Rattle.runtime.proofs.retire.Tie as tie
 
 -- where the call began, from a yes to 1 to 14 and 25 on
 abbrev start : tie.In-Accepted → tie.Start
-start c = c
+start c = c.before.before.before.before
 
 -- 1 to 14 and 25 say yes
 begun : (c : tie.In-Accepted) →

@@ -22,7 +22,7 @@ use Rattle.runtime.proofs.turn.Tie as tie
 
 -- where the call began, from a yes to 1 to 16 on
 abbrev start : tie.In-Accepted → tie.Start
-start c = c
+start c = c.before.before.before.before
 
 -- 1 to 16 say yes
 begun : (c : tie.In-Accepted) (list : Worklist) →

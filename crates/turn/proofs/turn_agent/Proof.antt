@@ -22,7 +22,7 @@ under c =
 
 -- from the operand bytes back to the start
 abbrev start : tie.After-operands_part-operands → tie.Start
-start o = o
+start o = o.before.before.before.before.before
 
 -- its operation bytes and its operand bytes
 ops_are : (c : tie.After-operands_part-operands) →

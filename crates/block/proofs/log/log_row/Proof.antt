@@ -19,4 +19,4 @@ log_row_spec =
     let st = lk in
     let a = st.args in
     c.find.ensures.all (rows_rise a.store.now st.requires.0 a.partition st.requires.1)
-    ∙ ap (λ (k : ℕ). found_in k (keys_in (rows_of a.store.now a.partition))) lk.log_key.ensures.0))
+    ∙ ap (λ (k : ℕ). found_in k (keys_in (rows_of a.store.now a.partition))) lk.log_key-key.ensures.0))

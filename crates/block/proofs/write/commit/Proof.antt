@@ -20,7 +20,7 @@ inserted pa = pa.before.before.before.before.before.before
 rows_with_log : (w : tie.After-insert_row-rows) →
     let a = w.args in
     rows_in w.insert_row-rows.result ≡ insert_at (rows_in a.ran.pending) 0 (log_key a.id a.step, a.ran.result)
-rows_with_log w = rw w.log_key.ensures.0 at w.insert_row-rows.ensures.1
+rows_with_log w = rw w.log_key-log.ensures.0 at w.insert_row-rows.ensures.1
 
 pub commit_spec : {M : Type 1} → statement M
 commit_spec =
@@ -37,7 +37,7 @@ commit_spec =
     let lk = w in
     let st = lk in
     let a = st.args in
-    let k = lk.log_key.ensures in
+    let k = lk.log_key-log.ensures in
     let q = w.insert_row-rows.result in
     let z = w.insert_row-rows.ensures.0 in
     let e = rows_with_log w in
@@ -62,7 +62,7 @@ commit_spec =
     let lk = w in
     let st = lk in
     let a = st.args in
-    let k = lk.log_key.ensures in
+    let k = lk.log_key-log.ensures in
     let q = w.insert_row-rows.ensures in
     written a.store.now _ a.partition a.ran st.requires.2 a.id a.step k.1 k.2 w.insert_row-rows.result q.0
     (rows_with_log w)
@@ -75,7 +75,7 @@ commit_spec =
     let lk = w in
     let st = lk in
     let a = st.args in
-    let k = lk.log_key.ensures in
+    let k = lk.log_key-log.ensures in
     let q = w.insert_row-rows.ensures in
     no_room a.store.now _ a.partition a.ran st.requires.2 a.id a.step k.1 k.2 w.insert_row-rows.result q.0
     (rows_with_log w)

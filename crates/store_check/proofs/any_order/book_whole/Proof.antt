@@ -54,7 +54,7 @@ book_whole_spec =
     sym (lp.loop-row.invariant.2
     ∙ all_step (whole a.store.now a.keys_at a.used) a.store.now lp.loop-row.key_at (a.used - lp.loop-row.row)
     (a.used - (lp.loop-row.row + 1)) (omega arith)
-    ∙ rw (answer f, not-true f.key_whole.result c.if-not-key_whole.true) refl))
+    ∙ rw (answer f, c.if-not-key_whole.true) refl))
     (λ c. omega arith)
     (λ c. omega arith)
     (λ c. omega arith)
@@ -67,7 +67,7 @@ book_whole_spec =
           ∙ all_step (whole a.store.now a.keys_at a.used) a.store.now lp.loop-row.key_at (a.used - lp.loop-row.row)
           (a.used - (lp.loop-row.row + 1))
           (omega arith)
-          ∙ rw (answer f, not-false f.key_whole.result c.if-not-key_whole.false) refl,
+          ∙ rw (answer f, c.if-not-key_whole.false) refl,
     ))
     (λ c. let lp = c in
     let a = lp.args in

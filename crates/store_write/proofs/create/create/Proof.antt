@@ -49,7 +49,7 @@ create_spec =
     (λ c κs. search rules)
     (λ c. let w = c in
     let cl = w in
-    w.write16.auto.0 ∙ length-set cl.clear.new.bytes 0 _ ∙ cl.clear.auto.0)
+    w.write16.auto.s ∙ length-set cl.clear.new.bytes 0 _ ∙ cl.clear.auto.bytes)
     (λ c. let w = c in
     let cl = w in
     let z = cl in

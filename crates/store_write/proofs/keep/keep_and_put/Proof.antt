@@ -18,7 +18,7 @@ abbrev start : tie.After-ended_at-first → tie.Start
 start c = c.before.before.before
 
 abbrev ended : tie.After-capacity → tie.After-ended_at-first
-ended c = c.before.before
+ended c = c.before
 
 -- the rows from the place where the search ended on
 left : (c : tie.After-ended_at-first) →

@@ -43,7 +43,7 @@ keep_by_spec =
       st.requires.1,
       omega (arith, u.used_count.ensures, st.requires.2),
       omega (arith, u.used_count.ensures, fit),
-      cl.clear.auto.0 ∙ st.requires.3,
+      cl.clear.auto.bytes ∙ st.requires.3,
     ))
     (λ c. let u = counted (clear_then c.before.before.before) in
     let st = start u in

@@ -17,7 +17,7 @@ abbrev start : tie.After-ended_at-first → tie.Start
 start c = c.before.before.before
 
 abbrev ended : tie.After-capacity → tie.After-ended_at-first
-ended c = c.before.before.before
+ended c = c.before.before
 
 -- the rows from the place where the search ended on
 left : (c : tie.After-ended_at-first) →

@@ -27,7 +27,7 @@ copy_back_spec =
     let a = st.args in (
       omega (
         arith,
-        w.copy_bytes.auto.0,
+        w.copy_bytes.auto.to,
         k.key_place-keys_at.ensures,
         cp.capacity-cap.ensures,
         keys_within a.store.now st.requires.0 a.partition st.requires.1 (cap_of a.store.now) (omega arith),
@@ -46,8 +46,8 @@ copy_back_spec =
     let a = st.args in (
       omega (
         arith,
-        w2.copy_bytes-2.auto.0,
-        w1.copy_bytes.auto.0,
+        w2.copy_bytes-2.auto.to,
+        w1.copy_bytes.auto.to,
         v.value_place-values_at.ensures,
         cp.capacity-cap.ensures,
         st.requires.0.size,

@@ -63,7 +63,7 @@ copy_rows_spec =
     let cp = v in
     let st = cp in
     let a = st.args in (
-      omega (arith, w.copy_bytes.auto.0, cp.capacity-cap.ensures, st.requires.3, st.requires.4),
+      omega (arith, w.copy_bytes.auto.to, cp.capacity-cap.ensures, st.requires.3, st.requires.4),
       omega (
         arith,
         v.value_place-values_at.ensures,
