@@ -8,7 +8,7 @@ use mir.Val.{Val}
 use denote.Laws.{Is}
 use denote.Shadow.{shadow}
 use denote.Array.{Array, each}
-use denote.Struct.Field.{u32-field}
+use denote.Builtin.{u32}
 use denote.Struct.Laws as LL
 use lib.ListN.{length, get_or}
 use Rattle.questions.specs.Basics.{if◌then◌else◌}

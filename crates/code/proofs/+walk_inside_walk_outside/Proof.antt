@@ -86,50 +86,50 @@ pub +walk_inside_walk_outside_spec : {M : Type 1} → statement M
     walk_Inside.Post
     invariant_inside
     decreases-loop-inside
-    (λ c. let s = c.before.before in (s.requires.1.1.0, s.requires.1.1.1, omega arith, omega arith, refl))
-    (λ c κs. let n = c.before.loop-i.invariant in ((c.loop-i-test.true, c.before.before.before.before.requires.1.0), (n.0, n.1)))
+    (λ c. let s = c in (s.requires.1.1.0, s.requires.1.1.1, omega arith, omega arith, refl))
+    (λ c κs. let n = c.loop-i.invariant in ((c.loop-i-test.true, c.requires.1.0), (n.0, n.1)))
     (λ c. search rules)
     (λ c.
-    let j = c.before.before in
-    let l = j.before in
+    let j = c in
+    let l = j in
     first_stop _ _ _ l.loop-i-test.true _ _ _ _ j.judge_inside-v.ensures c.in-Refused.is
-    ∙ ap verdict_of (sym l.before.loop-i.invariant.4))
+    ∙ ap verdict_of (sym l.loop-i.invariant.4))
     (λ c. search rules)
     (λ c. search rules)
     (λ c κs. search rules)
     (λ c. search rules)
     (λ c κs.
-    let o = c.before in
-    let l = o.before.before.before.before.before in
-    let s = l.before.before.before.before in (
-      omega (arith, l.loop-i-test.true, s.requires.0, l.before.loop-i.invariant.3),
+    let o = c in
+    let l = o in
+    let s = l in (
+      omega (arith, l.loop-i-test.true, s.requires.0, l.loop-i.invariant.3),
       (s.requires.1.0, ends _ _ (sym o.operation_of-op.ensures ∙ c.if-op-eq-END.true)),
     ))
     (λ c.
-    let e = c.before.before.before.before in
-    let j = e.before.before in
-    let l = j.before in
+    let e = c in
+    let j = e in
+    let l = j in
     c.walk_outside.ensures
-    ∙ ap verdict_of (sym (l.before.loop-i.invariant.4
+    ∙ ap verdict_of (sym (l.loop-i.invariant.4
     ∙ first_yes _ _ _ l.loop-i-test.true _ j.judge_inside-v.ensures e.in_default.is)))
-    (λ c κs. let e = c.before.before.before in let l = e.before.before.before in l.before.loop-i.invariant.2)
+    (λ c κs. let e = c in let l = e in l.loop-i.invariant.2)
     (λ c. search rules)
     (λ c. search rules)
     (λ c.
-    let o = c.before.before in
-    let e = o.before.before in
-    let j = e.before.before in
-    let l = j.before in
-    let n = l.before.loop-i.invariant in
+    let o = c in
+    let e = o in
+    let j = e in
+    let l = j in
+    let n = l.loop-i.invariant in
     let a = e.in_default.is in (
-      stays_inside _ _ _ _ _ j.judge_inside-v.ensures a n.0 (λ q. c.before.if-op-eq-END.false (o.operation_of-op.ensures ∙ q)),
+      stays_inside _ _ _ _ _ j.judge_inside-v.ensures a n.0 (λ q. c.if-op-eq-END.false (o.operation_of-op.ensures ∙ q)),
       puts_next _ _ _ _ _ j.judge_inside-v.ensures a _ _ _ o.operation_of-op.ensures n.1 c.puts_behind-puts.ensures n.0
-          (λ q. c.before.if-op-eq-END.false (o.operation_of-op.ensures ∙ q)),
+          (λ q. c.if-op-eq-END.false (o.operation_of-op.ensures ∙ q)),
       puts_few _ _ _ _ _ j.judge_inside-v.ensures a _ _ _ o.operation_of-op.ensures n.1 c.puts_behind-puts.ensures n.2,
       omega (arith, n.3),
       n.4 ∙ first_yes _ _ _ l.loop-i-test.true _ j.judge_inside-v.ensures a,
     ))
-    (λ c. ap verdict_of (sym (c.before.loop-i.invariant.4 ∙ first_done _ _ _ c.loop-i-test.false))))
+    (λ c. ap verdict_of (sym (c.loop-i.invariant.4 ∙ first_done _ _ _ c.loop-i-test.false))))
     (λ t. walk-outside-lts.spec (
       judge-outside-reads.Asked,
       judge-outside-reads.Learnt,
@@ -142,42 +142,42 @@ pub +walk_inside_walk_outside_spec : {M : Type 1} → statement M
     walk_outside.Post
     invariant_outside
     decreases-loop-outside
-    (λ c. (c.before.before.requires.1.1, omega arith, refl))
-    (λ c κs. ((c.loop-i-test.true, c.before.before.before.before.requires.1.0), c.before.loop-i.invariant.0))
+    (λ c. (c.requires.1.1, omega arith, refl))
+    (λ c κs. ((c.loop-i-test.true, c.requires.1.0), c.loop-i.invariant.0))
     (λ c. search rules)
     (λ c.
-    let j = c.before.before in
-    let l = j.before in
+    let j = c in
+    let l = j in
     first_stop _ _ _ l.loop-i-test.true _ _ _ _ j.judge_outside-v.ensures c.in-Refused.is
-    ∙ ap verdict_of (sym l.before.loop-i.invariant.2))
+    ∙ ap verdict_of (sym l.loop-i.invariant.2))
     (λ c. search rules)
     (λ c. search rules)
     (λ c κs. search rules)
     (λ c. search rules)
     (λ c κs.
-    let o = c.before in
-    let l = o.before.before.before.before.before in
-    let s = l.before.before.before.before in
+    let o = c in
+    let l = o in
+    let s = l in
     let b = sym o.operation_of-op.ensures ∙ c.if-op-eq-END.true in
-    (omega (arith, l.loop-i-test.true, s.requires.0, l.before.loop-i.invariant.1), (s.requires.1.0, (begins _ _ b, no_puts _ _ b))))
+    (omega (arith, l.loop-i-test.true, s.requires.0, l.loop-i.invariant.1), (s.requires.1.0, (begins _ _ b, no_puts _ _ b))))
     (λ c.
-    let e = c.before.before.before.before in
-    let j = e.before.before in
-    let l = j.before in
+    let e = c in
+    let j = e in
+    let l = j in
     c.walk_Inside.ensures
-    ∙ ap verdict_of (sym (l.before.loop-i.invariant.2
+    ∙ ap verdict_of (sym (l.loop-i.invariant.2
     ∙ first_yes _ _ _ l.loop-i-test.true _ j.judge_outside-v.ensures e.in_default.is)))
     (λ c. search rules)
     (λ c. search rules)
     (λ c.
-    let o = c.before in
-    let e = o.before.before in
-    let j = e.before.before in
-    let l = j.before in
-    let n = l.before.loop-i.invariant in
+    let o = c in
+    let e = o in
+    let j = e in
+    let l = j in
+    let n = l.loop-i.invariant in
     let a = e.in_default.is in (
       stays_outside _ _ _ _ _ j.judge_outside-v.ensures a n.0 (λ q. c.if-op-eq-END.false (o.operation_of-op.ensures ∙ q)),
       omega (arith, n.1),
       n.2 ∙ first_yes _ _ _ l.loop-i-test.true _ j.judge_outside-v.ensures a,
     ))
-    (λ c. ap verdict_of (sym (c.before.loop-i.invariant.2 ∙ first_done _ _ _ c.loop-i-test.false))))
+    (λ c. ap verdict_of (sym (c.loop-i.invariant.2 ∙ first_done _ _ _ c.loop-i-test.false))))

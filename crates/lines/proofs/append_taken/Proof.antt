@@ -12,7 +12,6 @@ unfolding answer_text Answers.answer_of
 append_taken_spec =
     tie.close
     (tie.spec
-    (λ c. search rules)
     (λ c κs. search rules)
     (λ c κs. search rules)
     (λ c. search rules)

@@ -17,7 +17,6 @@ print_hex_spec =
     (tie.spec
     invariant-loop
     decreases-loop
-    (λ c. search rules)
     (λ c κs. search rules)
     (λ c. search rules)
     (λ c. search rules)

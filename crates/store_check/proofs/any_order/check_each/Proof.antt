@@ -99,7 +99,7 @@ check_each_spec =
     let lp = turn k in
     let a = (start lp).args in (
       omega arith,
-      k.partition_apart.auto.marks.1.1.1.1.1.0 ∙ lp.loop-partition.invariant.1,
+      k.partition_apart.auto.marks ∙ lp.loop-partition.invariant.1,
       sym (each_more (part_ok_by keys_apart a.store.now) (lp.partition_count-parts.result + 1) lp.loop-partition.partition
           (omega arith) (answer k ∙ c.if-not-partition_apart.false))
           ∙ lp.loop-partition.invariant.2,
