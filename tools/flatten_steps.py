@@ -134,8 +134,14 @@ def body_of(text, env, helpers, places):
                     at = a.end()
                 else:
                     e = closing(text, a.end() - 1)
+                    given = re.match(r"\((" + W + r") ", text[a.end() - 1 : e])
                     s += gap + body_of(text[a.end() - 1 : e], env, helpers, places)
                     at = e
+                    more = re.match(r"(?:\.before)+(?![\w.])", text[at:])
+                    if more and given and p is not None and helpers.get(given.group(1), (None, None))[1] is not None:
+                        n = places.count(helpers[given.group(1)][1], p)
+                        s += ".before" * n if n is not None else more.group(0)
+                        at += more.end()
             end = at
             # what a helper gave, in brackets
             back = re.match(r"\)((?:\.before)+)(\.[^\s(){},;.]+)", text[at:])
@@ -229,7 +235,11 @@ def each_block(blocks, places, helpers, outer, outer_env):
             kinds = kinds[len(outer) :]
             env = {**outer_env, **{v: k for v, k in zip(clause.group(2).split(), kinds) if k is not None}}
             whole = re.match(r"^(\S+(?: " + W + r")* =\s+)(" + W + r")((?:\.before)*)\s*$", b)
-            if whole and back is not None and whole.group(2) in env and places.count(env[whole.group(2)], back) is not None:
+            made = re.match(r"^(\S+(?: " + W + r")* =\s+)(\((" + W + r") .*\))((?:\.before)+)\s*$", b)
+            if made and back is not None and helpers.get(made.group(3), (None, None))[1] is not None and places.count(helpers[made.group(3)][1], back) is not None:
+                tail = b[len(b.rstrip()) :]
+                result.append(made.group(1) + body_of(made.group(2), env, helpers, places) + ".before" * places.count(helpers[made.group(3)][1], back) + tail)
+            elif whole and back is not None and whole.group(2) in env and places.count(env[whole.group(2)], back) is not None:
                 tail = b[len(b.rstrip()) :]
                 result.append(whole.group(1) + whole.group(2) + ".before" * places.count(env[whole.group(2)], back) + tail)
             else:

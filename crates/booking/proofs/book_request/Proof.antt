@@ -61,7 +61,7 @@ as_read c = known c.before ∙ ap some (sym c.booked_request-known.ensures)
 
 -- five rows more, for a new id, by the book's used count
 more : (c : tie.After-used_count) →
-    let a = (start (miss (counted c)).before.before).args in
+    let a = (start (miss (counted c)).before).args in
     let rows = book_rows a.store.now in
     (length (with_request a.id (asked a.q) rows) ≡ length rows + 5) × (c.used_count.result ≡ length rows)
 more c =
@@ -112,7 +112,7 @@ book_request_spec =
       (sounds (start (miss c.before).before)).formed.shape,
       omega (arith, c.partition_count-book-in-Belongs.ensures),
     ))
-    (λ c. let st = start (miss (counted c)).before.before in
+    (λ c. let st = start (miss (counted c)).before in
     let z = sounds st in
     omega (
       arith,

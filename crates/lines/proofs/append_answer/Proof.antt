@@ -38,5 +38,5 @@ append_answer_spec =
     (λ c. let d = c in
     (answer_as _ _ d.in-Given.is d.append_taken.ensures.0, omega arith))
     (λ c. search rules)
-    (λ c. let d = c.before.before in
-    (answer_as _ _ d.before.before.before.in-Refused.is d.append_refused.ensures.0, omega arith)))
+    (λ c. let d = c in
+    (answer_as _ _ d.in-Refused.is d.append_refused.ensures.0, omega arith)))

@@ -15,6 +15,6 @@ append_refused_spec =
     (λ c κs. search rules)
     (λ c κs. search rules)
     (λ c. search rules)
-    (λ c. let d2 = c.before.before in
-    let d1 = d2.before.before.before.before in
+    (λ c. let d2 = c in
+    let d1 = d2 in
     (appended_then d1.append_bytes-written.ensures d2.append_field.ensures.0, omega arith)))

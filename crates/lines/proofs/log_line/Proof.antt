@@ -18,12 +18,12 @@ log_line_spec =
     (λ c κs. search rules)
     (λ c κs. search rules)
     (λ c. search rules)
-    (λ c. let d6 = c.before.before in
-    let d5 = d6.before.before.before.before in
-    let d4 = d5.before.before.before.before in
-    let d3 = d4.before.before.before.before in
-    let d2 = d3.before.before.before.before in
-    let d1 = d2.before.before.before.before in (
+    (λ c. let d6 = c in
+    let d5 = d6 in
+    let d4 = d5 in
+    let d3 = d4 in
+    let d2 = d3 in
+    let d1 = d2 in (
       appended_then d1.append_bytes-written.ensures
           (appended_then d2.append_field-written.ensures.0
           (appended_then d3.append_field-written-2.ensures.0

@@ -21,7 +21,7 @@ abbrev counted : tie.At-loop-partition invariant-loop decreases-loop → tie.Aft
 counted lp = lp.before.before
 
 abbrev start : tie.At-loop-partition invariant-loop decreases-loop → tie.Start invariant-loop decreases-loop
-start lp = (counted lp).before
+start lp = (counted lp).before.before
 
 pub retire_logs_spec : {M : Type 1} → statement M
 retire_logs_spec =

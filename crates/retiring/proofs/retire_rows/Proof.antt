@@ -11,7 +11,7 @@ abbrev counted : tie.After-floor_key-key → tie.After-partition_count-parts
 counted c = c.before.before
 
 abbrev start : tie.After-floor_key-key → tie.Start
-start c = (counted c).before
+start c = (counted c).before.before
 
 pub retire_rows_spec : {M : Type 1} → statement M
 retire_rows_spec =

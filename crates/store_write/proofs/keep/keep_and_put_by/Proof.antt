@@ -22,7 +22,7 @@ abbrev sized : tie.After-ended_at-ahead → tie.After-capacity-cap
 sized c = c.before.before
 
 abbrev start : tie.After-ended_at-ahead → tie.Start
-start c = (sized c).before
+start c = (sized c).before.before.before
 
 abbrev ended : tie.After-clear → tie.After-ended_at-ahead
 ended c = c.before.before
