@@ -158,13 +158,13 @@ pub +walk_inside_walk_outside_spec : {M : Type 1} → statement M
     let o = c in
     let l = o in
     let s = l in
-    let b = sym o.operation_of-op.ensures ∙ c.if-op-eq-END.true in
+    let b = sym o.operation_of.ensures ∙ c.if-operation_of-eq-BEGIN.true in
     (omega (arith, l.loop-i-test.true, s.requires.0, l.loop-i.invariant.1), (s.requires.1.0, (begins _ _ b, no_puts _ _ b))))
     (λ c.
     let e = c in
     let j = e in
     let l = j in
-    c.walk_Inside.ensures
+    c.walk_inside.ensures
     ∙ ap verdict_of (sym (l.loop-i.invariant.2
     ∙ first_yes _ _ _ l.loop-i-test.true _ j.judge_outside-v.ensures e.in_default.is)))
     (λ c. search rules)
@@ -176,7 +176,7 @@ pub +walk_inside_walk_outside_spec : {M : Type 1} → statement M
     let l = j in
     let n = l.loop-i.invariant in
     let a = e.in_default.is in (
-      stays_outside _ _ _ _ _ j.judge_outside-v.ensures a n.0 (λ q. c.if-op-eq-END.false (o.operation_of-op.ensures ∙ q)),
+      stays_outside _ _ _ _ _ j.judge_outside-v.ensures a n.0 (λ q. c.if-operation_of-eq-BEGIN.false (o.operation_of.ensures ∙ q)),
       omega (arith, n.1),
       n.2 ∙ first_yes _ _ _ l.loop-i-test.true _ j.judge_outside-v.ensures a,
     ))

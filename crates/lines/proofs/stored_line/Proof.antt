@@ -16,8 +16,8 @@ stored_line_spec =
     (λ c. let d = c in
     let b = d in (
       data_line _ _ _ (sym b.is_data.ensures ∙ d.if-is_data.true)
-          (rw (← d.data_of.ensures) d.row_Line.ensures.0),
-      d.row_Line.ensures.1,
+          (rw (← d.data_of.ensures) d.row_line.ensures.0),
+      d.row_line.ensures.1,
     ))
     (λ c κs. search rules)
     (λ c κs. search rules)

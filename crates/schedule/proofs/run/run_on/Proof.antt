@@ -44,9 +44,9 @@ run_on_spec =
       omega (
         arith,
         d.run_events-written.ensures.1,
-        d.run_events-written.kept.1.1.1.0,
+        d.run_events-written.auto.out,
         t.events_line-written.ensures.1,
-        t.events_line-written.kept.0,
+        t.events_line-written.auto.out,
         (start (begun (created t))).requires.2,
       ),
     ))

@@ -92,7 +92,7 @@ keep_and_put_by_spec =
     let cl = clear_then cr in
     let en = ended cl in
     let st = start en in (
-      cr.copy_rows.auto.part ∙ cl.clear.kept.0 ∙ st.requires.0.3 ∙ ap part_size (sym (sized en).capacity-cap.ensures),
+      cr.copy_rows.auto.part ∙ cl.clear.auto.bytes ∙ st.requires.0.3 ∙ ap part_size (sym (sized en).capacity-cap.ensures),
       omega (arith, room en, (sized en).capacity-cap.ensures),
       omega (arith, (sized en).capacity-cap.ensures, st.requires.0.0.formed.shape.cap_high),
     ))
@@ -107,7 +107,7 @@ keep_and_put_by_spec =
     let st = start (ended cl) in (
       st.requires.0.0.formed.shape,
       st.requires.0.1,
-      w.write16.auto.s ∙ ar.add_row.auto.part ∙ (copied ar).copy_rows.auto.part ∙ cl.clear.kept.0 ∙ st.requires.0.3,
+      w.write16.auto.s ∙ ar.add_row.auto.part ∙ (copied ar).copy_rows.auto.part ∙ cl.clear.auto.bytes ∙ st.requires.0.3,
     ))
     (λ c. search rules)
     (λ c. search rules)
