@@ -1,6 +1,5 @@
 // A reader carries the lent pack along with the workflow that it has open, so that a workflow is checked and found once and then read.
-// The functions over it are thin: they take the struct apart or copy it, and call one on slices and numbers, which the borrow checker
-// covers.
+// The functions over it are thin: they take the struct apart or copy it, and call one on slices and numbers.
 #![tactic(auto)]
 
 ghost use Rattle.std.specs.Prelude.{◌≡◌, ◌*◌};
@@ -133,31 +132,30 @@ pub fn open<'a>(pack: &'a [u8], workflow: u32) -> Reader<'a>
 
 // Its operation bytes: a part of the pack, at the pack's own lifetime.
 pub fn operations<'a>(r: Reader<'a>) -> &'a [u8]
-    ensures { (result.now ≡ operations_in r.entry)
-        × (Opened r.entry → result.now ≡ operations_from r.entry.pack.now r.entry.workflow) }
+    ensures of_any { result.now ≡ operations_in r.entry }
+    ensures of_opened { Opened r.entry → result.now ≡ operations_from r.entry.pack.now r.entry.workflow }
 {
     part_or_none(r.pack, r.operations, r.size)
 }
 
 // Its operand bytes, likewise.
 pub fn operands<'a>(r: Reader<'a>) -> &'a [u8]
-    ensures { (result.now ≡ operands_in r.entry)
-        × (Opened r.entry → result.now ≡ operands_from r.entry.pack.now r.entry.workflow) }
+    ensures of_any { result.now ≡ operands_in r.entry }
+    ensures of_opened { Opened r.entry → result.now ≡ operands_from r.entry.pack.now r.entry.workflow }
 {
     words_or_none(r.pack, r.operands, r.size)
 }
 
 // Its instruction at an index; past the end RETURN 0.
 pub fn instruction_at<'a>(r: Reader<'a>, index: usize) -> Instruction
-    ensures { Read (operations_in r.entry) (operands_in r.entry) index result
-        × (Opened r.entry → Read (operations_from r.entry.pack.now r.entry.workflow)
-        (operands_from r.entry.pack.now r.entry.workflow) index result) }
+    ensures of_any { Read (operations_in r.entry) (operands_in r.entry) index result }
+    ensures of_opened { Opened r.entry → Read (operations_from r.entry.pack.now r.entry.workflow)
+        (operands_from r.entry.pack.now r.entry.workflow) index result }
 {
     instruction_in(operations(r), operands(r), index)
 }
 
-// The same with plain parameters: whoever calls it is covered. The parts of a workflow come so from `pack::operations` and
-// `pack::operands`.
+// The same with plain parameters. The parts of a workflow come so from `pack::operations` and `pack::operands`.
 pub fn instruction_of(pack: &[u8], workflow: u32, index: usize) -> Instruction
     ensures { Read (operations_from pack.now workflow) (operands_from pack.now workflow) index result }
 {
