@@ -139,7 +139,8 @@ module _ (r : Ran) (kept : Kept r.pending) (id t v : ℕ) (h : id < 2 ^ 32) (g :
   keys_right P p l =
       rw keys_are
       (and_both (is_form (eqb p P) (log_key id t)) _ (log_form P p id t l h g)
-      (rw (ne_eqb p P (omega arith)) (data_forms (keys_in (rows_in r.pending)) kept.data_keys)))
+      (ap (λ (b : Bool). all_in (is_form b) (keys_in (rows_in r.pending))) (ne_eqb p P (omega arith))
+      ∙ data_forms (keys_in (rows_in r.pending)) kept.data_keys))
 
   abbrev out : List Row
   out = pairs (take q.count q.keys) (take q.count q.values)
