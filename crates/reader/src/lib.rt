@@ -3,13 +3,13 @@
 #![tactic(auto)]
 
 ghost use Rattle.std.specs.Prelude.{◌≡◌, ◌*◌};
-ghost use Rattle.reader.specs.Readers.{part_of, opening_of, operations_from, operands_from, reader_of, Opened, operations_in, operands_in};
-ghost use Rattle.reader.specs.Readers.{Beside, Read};
+ghost use Rattle.reader.specs.Readers.{part_of, opening_of, operations_from, operands_from, reader_of, Opened};
+ghost use Rattle.reader.specs.Readers.{operations_in, operands_in, Beside, Read};
 
 use questions::Verdict;
 
-// `operations`, `operands`: where the workflow's operation bytes and operand bytes begin in the pack; `size`: how many instructions it has.
-// Refused, all three are 0, and there is nothing to read.
+// `operations`, `operands`: where the workflow's operation bytes and operand bytes begin in the pack; `size`: how many instructions it
+// has. Refused, all three are 0, and there is nothing to read.
 #[derive(Clone, Copy)]
 pub struct Reader<'a> {
     pub pack: &'a [u8],
