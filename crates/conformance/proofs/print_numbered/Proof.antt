@@ -37,11 +37,11 @@ returns : tie.Need-returns-then-size-eq0
 returns c = search rules
 
 -- src/main.rt:7:1
-same_length_2 : tie.Need-shape_of-buffer-else-size-eq0
+same_length_2 : tie.Need-shape_of-buffer-otherwise-size-eq0
 same_length_2 c = search rules
 
 -- src/main.rt:7:1
-returns-2 : tie.Need-returns-else-size-eq0
+returns-2 : tie.Need-returns-otherwise-size-eq0
 returns-2 c = search rules
 
 pub print_numbered_spec : {M : Type 1} → statement M
