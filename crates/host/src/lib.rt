@@ -13,8 +13,7 @@ use questions::Verdict;
 use runtime::Known;
 
 // The check of a pack.
-#[unsafe(no_mangle)]
-pub extern "C" fn sarthule_check(pack: &[u8], answer: &mut [u8]) -> u32
+pub fn sarthule_check(pack: &[u8], answer: &mut [u8]) -> u32
     ensures { Told 12 answer.old (judged (pack_refusal pack.now))
         (values_of (judged (pack_refusal pack.now))) result answer.new }
 {
@@ -25,8 +24,7 @@ pub extern "C" fn sarthule_check(pack: &[u8], answer: &mut [u8]) -> u32
 }
 
 // Where the parts of a workflow stand in the pack.
-#[unsafe(no_mangle)]
-pub extern "C" fn sarthule_open(pack: &[u8], workflow: u32, answer: &mut [u8]) -> u32
+pub fn sarthule_open(pack: &[u8], workflow: u32, answer: &mut [u8]) -> u32
     ensures { Told 28 answer.old (judged (open_refusal pack.now workflow))
         (opened_words pack.now workflow) result answer.new }
 {
@@ -60,8 +58,7 @@ pub extern "C" fn sarthule_open(pack: &[u8], workflow: u32, answer: &mut [u8]) -
 }
 
 // How much a workflow takes: its most turns, and its most rows in each partition.
-#[unsafe(no_mangle)]
-pub extern "C" fn sarthule_figures(pack: &[u8], workflow: u32, answer: &mut [u8]) -> u32
+pub fn sarthule_figures(pack: &[u8], workflow: u32, answer: &mut [u8]) -> u32
     ensures { FiguresTold pack.now answer.old workflow result answer.new }
 {
     if answer.len() < 48 {
@@ -76,8 +73,7 @@ pub extern "C" fn sarthule_figures(pack: &[u8], workflow: u32, answer: &mut [u8]
 }
 
 // Writes a fresh store.
-#[unsafe(no_mangle)]
-pub extern "C" fn sarthule_create(
+pub fn sarthule_create(
     store: &mut [u8],
     partitions: usize,
     rows: usize,
@@ -93,8 +89,7 @@ pub extern "C" fn sarthule_create(
 }
 
 // Puts the rows of an earlier store in order.
-#[unsafe(no_mangle)]
-pub extern "C" fn sarthule_order(store: &mut [u8], answer: &mut [u8]) -> u32
+pub fn sarthule_order(store: &mut [u8], answer: &mut [u8]) -> u32
     ensures { PutInOrder store.old answer.old result store.new answer.new }
 {
     if answer.len() < 12 {
@@ -105,8 +100,7 @@ pub extern "C" fn sarthule_order(store: &mut [u8], answer: &mut [u8]) -> u32
 }
 
 // Arrival books a new id, then starts an agent; a known id only starts one.
-#[unsafe(no_mangle)]
-pub extern "C" fn sarthule_arrival(
+pub fn sarthule_arrival(
     pack: &[u8],
     store: &mut [u8],
     slots: &mut [u8],
@@ -141,8 +135,7 @@ pub extern "C" fn sarthule_arrival(
 }
 
 // Retry starts an agent from the book.
-#[unsafe(no_mangle)]
-pub extern "C" fn sarthule_retry(
+pub fn sarthule_retry(
     pack: &[u8],
     store: &[u8],
     slots: &mut [u8],
@@ -164,8 +157,7 @@ pub extern "C" fn sarthule_retry(
 }
 
 // The agent in a slot moves on.
-#[unsafe(no_mangle)]
-pub extern "C" fn sarthule_turn(
+pub fn sarthule_turn(
     pack: &[u8],
     store: &mut [u8],
     slots: &mut [u8],
@@ -187,8 +179,7 @@ pub extern "C" fn sarthule_turn(
 }
 
 // Crash empties a slot.
-#[unsafe(no_mangle)]
-pub extern "C" fn sarthule_crash(
+pub fn sarthule_crash(
     pack: &[u8],
     store: &[u8],
     slots: &mut [u8],
@@ -209,8 +200,7 @@ pub extern "C" fn sarthule_crash(
 }
 
 // Restart empties all slots, and marks all as waiting in a worklist that passes 25.
-#[unsafe(no_mangle)]
-pub extern "C" fn sarthule_restart(slots: &mut [u8], list: &mut [u8], answer: &mut [u8]) -> u32
+pub fn sarthule_restart(slots: &mut [u8], list: &mut [u8], answer: &mut [u8]) -> u32
     ensures { Restarted slots.old list.old answer.old result
         slots.new list.new answer.new }
 {
@@ -232,8 +222,7 @@ pub extern "C" fn sarthule_restart(slots: &mut [u8], list: &mut [u8], answer: &m
 }
 
 // Add puts a booked id on the worklist.
-#[unsafe(no_mangle)]
-pub extern "C" fn sarthule_add(
+pub fn sarthule_add(
     pack: &[u8],
     store: &[u8],
     slots: &[u8],
@@ -261,8 +250,7 @@ pub extern "C" fn sarthule_add(
 }
 
 // Take gives the first waiting id of the worklist, and marks it.
-#[unsafe(no_mangle)]
-pub extern "C" fn sarthule_take(
+pub fn sarthule_take(
     pack: &[u8],
     store: &[u8],
     slots: &[u8],
@@ -289,8 +277,7 @@ pub extern "C" fn sarthule_take(
 }
 
 // Done removes a taken id from the worklist, when its log leads through to RETURN.
-#[unsafe(no_mangle)]
-pub extern "C" fn sarthule_done(
+pub fn sarthule_done(
     pack: &[u8],
     store: &[u8],
     slots: &[u8],
@@ -318,8 +305,7 @@ pub extern "C" fn sarthule_done(
 }
 
 // Retire removes the book and log rows of every id below the floor.
-#[unsafe(no_mangle)]
-pub extern "C" fn sarthule_retire(
+pub fn sarthule_retire(
     pack: &[u8],
     store: &mut [u8],
     slots: &[u8],
@@ -345,8 +331,7 @@ pub extern "C" fn sarthule_retire(
 }
 
 // The reply of a booked request, worked out from the log, or that the log doesn't lead to it yet.
-#[unsafe(no_mangle)]
-pub extern "C" fn sarthule_reply(pack: &[u8], store: &[u8], id: u32, answer: &mut [u8]) -> u32
+pub fn sarthule_reply(pack: &[u8], store: &[u8], id: u32, answer: &mut [u8]) -> u32
     ensures { ReplyTold pack.now store.now answer.old id result answer.new }
 {
     if answer.len() < 12 {
