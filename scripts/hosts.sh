@@ -3,7 +3,9 @@
 # same commands with the same files, the worklist's and ten thousand moves that retire as they go. Nothing of it is part of the gate.
 set -eu
 cd "$(dirname "$0")/.."
-rt staticlib host
+(cd crates/host_c && rt lib)
+mkdir -p target/staticlib
+cp crates/host_c/out/libhost_c.a target/staticlib/libhost.a
 make -C hosts/c
 cargo build --release --offline --manifest-path hosts/rust/Cargo.toml
 make -C hosts/c check-same
