@@ -38,9 +38,9 @@ fn write_words(answer: &mut [u8], first: u32, second: u32, third: u32)
 // Writes an answer's three words, and gives its number.
 pub fn write_answer(answer: &mut [u8], a: Answer) -> u32
     requires { 12 ≤ length answer.old }
-    ensures value { (result ≡ number_of (answer_of a))
+    ensures written { (result ≡ number_of (answer_of a))
         × (answer.new ≡ with_words answer.old (values_of (answer_of a))) }
-    ensures answer_after { PlaceFits (answer_of a) → heard result answer.new ≡ some (answer_of a) }
+    ensures heard { PlaceFits (answer_of a) → heard result answer.new ≡ some (answer_of a) }
 {
     match a {
         Answer::Done => {
@@ -141,7 +141,7 @@ pub fn judge(v: Verdict) -> Answer
 pub fn write_back(slots: &mut [u8], a: Answer, agents: [Agent; 8])
     requires { length slots.old ≡ 384 }
     ensures slots_after { slots.new ≡ slots_after (answer_of a) slots.old agents }
-    ensures slots_after_2 { accepted (answer_of a) ≡ true → slots_in slots.new ≡ agents }
+    ensures slots_read { accepted (answer_of a) ≡ true → slots_in slots.new ≡ agents }
 {
     match a {
         Answer::Done => slots::write_slots(slots, agents),
@@ -159,11 +159,11 @@ pub fn write_back(slots: &mut [u8], a: Answer, agents: [Agent; 8])
 // What a call left goes to the slots' bytes, and what it answered to the answer buffer.
 pub fn finish(slots: &mut [u8], answer: &mut [u8], o: Outcome) -> u32
     requires { (length slots.old ≡ 384) × (12 ≤ length answer.old) }
-    ensures value { (result ≡ number_of (answer_of o.answer))
+    ensures written { (result ≡ number_of (answer_of o.answer))
         × (answer.new ≡ with_words answer.old (values_of (answer_of o.answer))) }
-    ensures answer_after { PlaceFits (answer_of o.answer) → heard result answer.new ≡ some (answer_of o.answer) }
+    ensures heard { PlaceFits (answer_of o.answer) → heard result answer.new ≡ some (answer_of o.answer) }
     ensures slots_after { slots.new ≡ slots_after (answer_of o.answer) slots.old o.agents }
-    ensures slots_after_2 { accepted (answer_of o.answer) ≡ true → slots_in slots.new ≡ o.agents }
+    ensures slots_read { accepted (answer_of o.answer) ≡ true → slots_in slots.new ≡ o.agents }
 {
     let a = o.answer;
     let agents = o.agents;
@@ -175,7 +175,7 @@ pub fn finish(slots: &mut [u8], answer: &mut [u8], o: Outcome) -> u32
 pub fn write_list_back(list: &mut [u8], a: Answer, left: Worklist)
     requires { 132 ≤ length list.old }
     ensures list_after { list.new ≡ list_after (answer_of a) list.old left }
-    ensures list_after_2 { accepted (answer_of a) ≡ true → list_in list.new ≡ left }
+    ensures list_read { accepted (answer_of a) ≡ true → list_in list.new ≡ left }
 {
     match a {
         Answer::Done => worklist::write_list(list, left),
@@ -193,11 +193,11 @@ pub fn write_list_back(list: &mut [u8], a: Answer, left: Worklist)
 // What a call on the worklist left goes to the list's bytes, and what it answered to the answer buffer.
 pub fn finish_list(list: &mut [u8], answer: &mut [u8], a: Answer, left: Worklist) -> u32
     requires { (132 ≤ length list.old) × (12 ≤ length answer.old) }
-    ensures value { (result ≡ number_of (answer_of a))
+    ensures written { (result ≡ number_of (answer_of a))
         × (answer.new ≡ with_words answer.old (values_of (answer_of a))) }
-    ensures answer_after { PlaceFits (answer_of a) → heard result answer.new ≡ some (answer_of a) }
+    ensures heard { PlaceFits (answer_of a) → heard result answer.new ≡ some (answer_of a) }
     ensures list_after { list.new ≡ list_after (answer_of a) list.old left }
-    ensures list_after_2 { accepted (answer_of a) ≡ true → list_in list.new ≡ left }
+    ensures list_read { accepted (answer_of a) ≡ true → list_in list.new ≡ left }
 {
     write_list_back(list, a, left);
     write_answer(answer, a)

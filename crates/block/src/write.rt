@@ -64,7 +64,7 @@ fn run_and_write(
     place: usize,
 ) -> BlockOutcome
     requires ready { Ready ops.now operands.now store.old partition begin }
-    requires partition_value { found_in (log_key id step) (keys_in (rows_of store.old partition)) ≡ Belongs place }
+    requires belongs { found_in (log_key id step) (keys_in (rows_of store.old partition)) ≡ Belongs place }
     ensures { Through store.old store.new partition id step
         (block_at ops.now operands.now store.old partition begin registers) result none }
 {

@@ -88,8 +88,8 @@ fn inside_behind(byte: u8, inside: bool) -> bool
 
 // Is the instruction at `index` inside a block? Seen from one that is outside, at `start`.
 pub fn is_inside(ops: &[u8], start: usize, index: usize) -> bool
-    requires start_le_index { (start ≤ index) × (index ≤ length ops.now) }
-    requires start_value { inside_at ops.now start ≡ false }
+    requires bounds { (start ≤ index) × (index ≤ length ops.now) }
+    requires start_outside { inside_at ops.now start ≡ false }
     ensures { result ≡ inside_at ops.now index }
 {
     let mut inside = false;
@@ -118,8 +118,8 @@ fn has_no_end(ops: &[u8], first: usize, end: usize) -> bool
 
 // Does an instruction that is outside stand, and its jump land, on the right side?
 fn is_sided_outside(entry: Entry, ops: &[u8], index: usize, word: u32) -> bool
-    requires index_value { inside_at ops.now index ≡ false }
-    requires word_value { in_range entry.operand (length ops.now) index word ≡ true }
+    requires outside { inside_at ops.now index ≡ false }
+    requires in_range { in_range entry.operand (length ops.now) index word ≡ true }
     ensures { result ≡ stands entry.side false && lands entry.operand false ops.now index (target_of word) }
 {
     let side = entry.side;
@@ -138,8 +138,8 @@ fn is_sided_outside(entry: Entry, ops: &[u8], index: usize, word: u32) -> bool
 
 // The same of one that is inside.
 fn is_sided_inside(entry: Entry, ops: &[u8], index: usize, word: u32) -> bool
-    requires index_value { inside_at ops.now index ≡ true }
-    requires word_value { in_range entry.operand (length ops.now) index word ≡ true }
+    requires inside { inside_at ops.now index ≡ true }
+    requires in_range { in_range entry.operand (length ops.now) index word ≡ true }
     ensures { result ≡ stands entry.side true && lands entry.operand true ops.now index (target_of word) }
 {
     let side = entry.side;
@@ -179,8 +179,8 @@ fn puts_behind(op: u8, puts: usize) -> usize
 
 // Questions 4 to 7 on an instruction that is outside a block. The seventh is not asked: a PUT there fails the sixth.
 fn judge_outside(ops: &[u8], operands: &[u8], workflow: usize, index: usize) -> Verdict
-    requires index_in_bounds { (index < length ops.now) × (length operands.now ≡ 4 * length ops.now) }
-    requires index_value { inside_at ops.now index ≡ false }
+    requires in_code { (index < length ops.now) × (length operands.now ≡ 4 * length ops.now) }
+    requires outside { inside_at ops.now index ≡ false }
     ensures { result ≡ verdict_of (instruction_no workflow ops.now operands.now index) }
 {
     let byte = ops[index];
@@ -200,8 +200,8 @@ fn judge_outside(ops: &[u8], operands: &[u8], workflow: usize, index: usize) -> 
 
 // Questions 4 to 7 on an instruction that is inside a block, `puts` being the block's PUTs before it.
 fn judge_inside(ops: &[u8], operands: &[u8], workflow: usize, index: usize, puts: usize) -> Verdict
-    requires index_in_bounds { (index < length ops.now) × (length operands.now ≡ 4 * length ops.now) }
-    requires index_value { (inside_at ops.now index ≡ true) × (puts_before ops.now index ≡ puts) }
+    requires in_code { (index < length ops.now) × (length operands.now ≡ 4 * length ops.now) }
+    requires inside { (inside_at ops.now index ≡ true) × (puts_before ops.now index ≡ puts) }
     ensures { result ≡ verdict_of (instruction_no workflow ops.now operands.now index) }
 {
     let byte = ops[index];
@@ -226,7 +226,7 @@ fn judge_inside(ops: &[u8], operands: &[u8], workflow: usize, index: usize, puts
 #[cycle(walk_inside_walk_outside)]
 fn walk_outside(ops: &[u8], operands: &[u8], workflow: usize, first: usize) -> Verdict
     requires operands_len { length operands.now ≡ 4 * length ops.now }
-    requires first_value { inside_at ops.now first ≡ false }
+    requires outside { inside_at ops.now first ≡ false }
     ensures { result ≡ verdict_of (first_no (instruction_no workflow ops.now operands.now)
         (length ops.now - first) first) }
 {
@@ -253,7 +253,7 @@ fn walk_outside(ops: &[u8], operands: &[u8], workflow: usize, first: usize) -> V
 #[cycle(walk_inside_walk_outside)]
 fn walk_inside(ops: &[u8], operands: &[u8], workflow: usize, first: usize) -> Verdict
     requires operands_len { length operands.now ≡ 4 * length ops.now }
-    requires first_value { (inside_at ops.now first ≡ true) × (puts_before ops.now first ≡ 0) }
+    requires begins_inside { (inside_at ops.now first ≡ true) × (puts_before ops.now first ≡ 0) }
     ensures { result ≡ verdict_of (first_no (instruction_no workflow ops.now operands.now)
         (length ops.now - first) first) }
 {

@@ -72,12 +72,12 @@ fn behind_end(ops: &[u8], begin: usize) -> usize
 }
 
 // Where the agent stands behind the block that opens at `begin`, with the block's result.
-pub fn behind_block(ops: &[u8], begin: Spot, res: u32) -> Spot
+pub fn behind_block(ops: &[u8], begin: Spot, value: u32) -> Spot
     requires { begin.position < length ops.now }
-    ensures { (ws : List ℕ) → going (place_of result) ≡ passed (code_of ops.now ws) (place_of begin) (yields res) }
+    ensures { (ws : List ℕ) → going (place_of result) ≡ passed (code_of ops.now ws) (place_of begin) (yields value) }
 {
     let mut registers = begin.registers;
-    registers[0] = res;
+    registers[0] = value;
     let position = behind_end(ops, begin.position);
     Spot {
         position,

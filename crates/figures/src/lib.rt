@@ -102,9 +102,9 @@ fn most_leading(
     inside: bool,
     most: &[u32],
 ) -> u32
-    requires by_index { (behind : ℕ) × Reached ops.now operands.now index inside behind }
+    requires reached { (behind : ℕ) × Reached ops.now operands.now index inside behind }
     requires filled { Filled by ops.now operands.now (index + 1) most.now }
-    requires fact { (operation_at ops.now index ≡ op_begin → ⊥) × (operation_at ops.now index ≡ op_end → ⊥)
+    requires goes_on { (operation_at ops.now index ≡ op_begin → ⊥) × (operation_at ops.now index ≡ op_end → ⊥)
         × (operation_at ops.now index ≡ op_return → ⊥) }
     ensures { MostAt by ops.now operands.now index result }
 {
@@ -201,8 +201,8 @@ fn most_of(ops: &[u8], operands: &[u8], by: Counted) -> u32
 // The most rows of each partition.
 fn most_rows(ops: &[u8], operands: &[u8]) -> [u32; 8]
     requires { Sized ops.now operands.now }
-    ensures result_len { length result ≡ 8 }
-    ensures by_index { (p : ℕ) → p < 8 → MostOf (by_rows p) (code_of ops.now operands.now) (get_or result p 0) }
+    ensures eight { length result ≡ 8 }
+    ensures most { (p : ℕ) → p < 8 → MostOf (by_rows p) (code_of ops.now operands.now) (get_or result p 0) }
 {
     let mut rows = [0u32; 8];
     let mut partition: usize = 0;

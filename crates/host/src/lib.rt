@@ -73,12 +73,7 @@ pub fn sarthule_figures(pack: &[u8], workflow: u32, answer: &mut [u8]) -> u32
 }
 
 // Writes a fresh store.
-pub fn sarthule_create(
-    store: &mut [u8],
-    partitions: usize,
-    rows: usize,
-    answer: &mut [u8],
-) -> u32
+pub fn sarthule_create(store: &mut [u8], partitions: usize, rows: usize, answer: &mut [u8]) -> u32
     ensures { Made store.old answer.old partitions rows result store.new answer.new }
 {
     if answer.len() < 12 {

@@ -65,10 +65,10 @@ module _ (rs : List Row) (x : Running) (y : Spot) (kept : Kept x.pending) where
       }
 
   -- by what the block sees at the key
-  step-reads : (k : ℕ) → k < 2 ^ 32 → (o : Option ℕ) → seen (rows_in x.pending) rs (data_key k) ≡ o → (to : Option ℕ → Place) →
+  step_reads : (k : ℕ) → k < 2 ^ 32 → (o : Option ℕ) → seen (rows_in x.pending) rs (data_key k) ≡ o → (to : Option ℕ → Place) →
       place_of y ≡ to o → Stepped (reads k to) rs x (at_place x y) 0
   unfolding Blocks.within rows_behind
-  step-reads k h o e to p =
+  step_reads k h o e to p =
       record {
         goes =
             λ onward.
@@ -92,13 +92,13 @@ module _ (rs : List Row) (x : Running) (y : Spot) (kept : Kept x.pending) where
     pub step_get : place_of y ≡ becomes (place_of x.place) d (Option.get_or o (register (place_of x.place) d)) →
         Stepped (act (GET d s) (place_of x.place)) rs x (at_place x y) 0
     unfolding Instructions.act
-    step_get = step-reads (register (place_of x.place) s) h o e
+    step_get = step_reads (register (place_of x.place) s) h o e
         (λ found. becomes (place_of x.place) d (Option.get_or found (register (place_of x.place) d)))
 
     pub step_has : place_of y ≡ becomes (place_of x.place) d (if◌then◌otherwise◌ (is_some o) 1 0) →
         Stepped (act (HAS d s) (place_of x.place)) rs x (at_place x y) 0
     unfolding Instructions.act
-    step_has = step-reads (register (place_of x.place) s) h o e
+    step_has = step_reads (register (place_of x.place) s) h o e
         (λ found. becomes (place_of x.place) d (if◌then◌otherwise◌ (is_some found) 1 0))
 
 module _ (rs : List Row) (x : Running) (was : Kept x.pending) (k v : ℕ) (h : k < 2 ^ 32) (q : Pending)

@@ -189,7 +189,7 @@ pub fn check_to_13(pack: &[u8], store: &[u8]) -> Verdict
 // Questions 1 to 14: the first no. The worklist is none of theirs, so it may be any.
 fn check_lent(pack: &[u8], store: &[u8], agents: [Agent; 8]) -> Verdict
     ensures { (list : Worklist) →
-        result ≡ verdict_of (lent_refusal pack.now (record { store = store.entry.now; records = agents; list = list })) }
+        result ≡ verdict_of (lent_refusal pack.now (record { store = store.now; records = agents; list = list })) }
 {
     let verdict = check_to_13(pack, store);
     match verdict {
@@ -210,7 +210,7 @@ fn check_lent(pack: &[u8], store: &[u8], agents: [Agent; 8]) -> Verdict
 // Questions 1 to 14 and 25, with which add, take and done begin: the first no.
 pub fn check_to_25(pack: &[u8], store: &[u8], agents: [Agent; 8], list: Worklist) -> Verdict
     ensures { result
-        ≡ verdict_of (list_refusal pack.now (record { store = store.entry.now; records = agents; list = list })) }
+        ≡ verdict_of (list_refusal pack.now (record { store = store.now; records = agents; list = list })) }
 {
     let verdict = check_lent(pack, store, agents);
     match verdict {
@@ -237,7 +237,7 @@ pub fn check_to_16(
     used: bool,
 ) -> Verdict
     ensures { (list : Worklist) → result
-        ≡ verdict_of (first_sixteen pack.now (record { store = store.entry.now; records = agents; list = list }) slot used) }
+        ≡ verdict_of (first_sixteen pack.now (record { store = store.now; records = agents; list = list }) slot used) }
 {
     let lent_verdict = check_lent(pack, store, agents);
     match lent_verdict {

@@ -57,10 +57,10 @@ unfolding le
 no_word [] i e = refl
 no_word (x ∷ ws) i e = absurd (omega arith)
 
-get_d_past : {A : Type 0} (xs : List A) (i : ℕ) (d : A) → length xs ≤ i → get_or xs i d ≡ d
-get_d_past [] i d h = refl
-get_d_past (x ∷ xs) zero d h = absurd (omega arith)
-get_d_past (x ∷ xs) (suc i) d h = get_d_past xs i d (le_of_suc-le-suc h)
+get_or_past : {A : Type 0} (xs : List A) (i : ℕ) (d : A) → length xs ≤ i → get_or xs i d ≡ d
+get_or_past [] i d h = refl
+get_or_past (x ∷ xs) zero d h = absurd (omega arith)
+get_or_past (x ∷ xs) (suc i) d h = get_or_past xs i d (le_of_suc-le-suc h)
 
 module _ (ops ws : List ℕ) (i : ℕ) where
   read_past : length ops ≤ i → Read ops ws i (record { byte = 176; word = 0 })
@@ -68,7 +68,7 @@ module _ (ops ws : List ℕ) (i : ℕ) where
   read_past h =
       record {
         bytes = rw (le-ltb i (length ops) h);
-        meaning = sym (get_d_past (code_of ops ws) i (RETURN 0) (omega (arith, length_code ops ws)));
+        meaning = sym (get_or_past (code_of ops ws) i (RETURN 0) (omega (arith, length_code ops ws)));
       }
 
   read_here : (b w : ℕ) → i < length ops → b ≡ get_or ops i 0 → w ≡ word_at ws i → Read ops ws i (record { byte = b; word = w })

@@ -25,8 +25,8 @@ use worklist::Worklist;
 fn can_retire(pack: &[u8], store: &[u8], agents: [Agent; 8], list: Worklist, id: u32) -> bool
     requires { (pack_refusal pack.now ≡ none) × (store_refusal store.now ≡ none) × (question13 pack.now store.now ≡ true)
         × (list_right (worklist_of list) ≡ true) }
-    ensures { (q : Request) → (contents_of (store_of store.entry.now)).book id ≡ some q →
-        result ≡ can_retire (pack_of pack.now) (state_of (record { store = store.entry.now; records = agents; list = list })) id
+    ensures { (q : Request) → (contents_of (store_of store.now)).book id ≡ some q →
+        result ≡ can_retire (pack_of pack.now) (state_of (record { store = store.now; records = agents; list = list })) id
         (some q) }
 {
     if !agents::in_no_slot(agents, id) {
@@ -45,10 +45,10 @@ fn can_retire(pack: &[u8], store: &[u8], agents: [Agent; 8], list: Worklist, id:
 
 // Can the request of a book row be retired? It is asked at the row of its workflow, and other rows are passed over.
 fn row_retirable(pack: &[u8], store: &[u8], agents: [Agent; 8], list: Worklist, key: u64) -> bool
-    requires pack_value { (pack_refusal pack.now ≡ none) × (store_refusal store.now ≡ none) × (question13 pack.now store.now ≡ true)
+    requires passes { (pack_refusal pack.now ≡ none) × (store_refusal store.now ≡ none) × (question13 pack.now store.now ≡ true)
         × (list_right (worklist_of list) ≡ true) }
-    requires store_value { member key (keys_in (book_rows store.now)) ≡ true }
-    ensures { result ≡ row_can pack.now (record { store = store.entry.now; records = agents; list = list }) key }
+    requires is_book_key { member key (keys_in (book_rows store.now)) ≡ true }
+    ensures { result ≡ row_can pack.now (record { store = store.now; records = agents; list = list }) key }
 {
     if keys::is_workflow(key) {
         let id = keys::booked_id(key) as u32;
@@ -69,8 +69,8 @@ pub fn all_retirable(
     requires { (pack_refusal pack.now ≡ none) × (store_refusal store.now ≡ none) × (question13 pack.now store.now ≡ true)
         × (list_right (worklist_of list) ≡ true) }
     ensures { result ≡ each floor (λ id. can_retire (pack_of pack.now)
-        (state_of (record { store = store.entry.now; records = agents; list = list })) id
-        ((state_of (record { store = store.entry.now; records = agents; list = list })).store.book id)) }
+        (state_of (record { store = store.now; records = agents; list = list })) id
+        ((state_of (record { store = store.now; records = agents; list = list })).store.book id)) }
 {
     let end = keys::book_key(floor, 0);
     let book = store::head::partition_count(store);

@@ -22,8 +22,8 @@ use worklist::Worklist;
 // Crash empties a slot.
 pub fn crash(pack: &[u8], store: &[u8], agents: [Agent; 8], slot: usize) -> Outcome
     ensures { (list : Worklist) →
-        Carried pack.now (record { store = store.entry.now; records = agents; list = list }) (Call.crash slot)
-        result.answer (record { store = store.entry.now; records = result.agents; list = list }) }
+        Carried pack.now (record { store = store.now; records = agents; list = list }) (Call.crash slot)
+        result.answer (record { store = store.now; records = result.agents; list = list }) }
 {
     let v = lent_check::check_to_16(pack, store, agents, slot, true);
     match v {
@@ -60,9 +60,9 @@ pub fn restart(list: Worklist) -> Restarted
 // store by its contents, which order leaves; that the rows are in order afterwards is said beside it.
 pub fn order(store: &mut [u8]) -> Answer
     ensures { ((pack : List ℕ) (records : List Agent) (list : Worklist) →
-        Carried pack (record { store = store.entry.now; records = records; list = list })
-        Call.order result (record { store = store.exit.now; records = records; list = list }))
-        × (accepted (answer_of result) ≡ true → InOrder store.entry.now store.exit.now) }
+        Carried pack (record { store = store.old; records = records; list = list })
+        Call.order result (record { store = store.new; records = records; list = list }))
+        × (accepted (answer_of result) ≡ true → InOrder store.old store.new) }
 {
     let v = ordering::order(store);
     match v {
@@ -82,8 +82,8 @@ pub fn order(store: &mut [u8]) -> Answer
 // Retry starts an agent from the book.
 pub fn retry(pack: &[u8], store: &[u8], agents: [Agent; 8], slot: usize, id: u32) -> Outcome
     ensures { (list : Worklist) →
-        Carried pack.now (record { store = store.entry.now; records = agents; list = list }) (Call.retry slot id)
-        result.answer (record { store = store.entry.now; records = result.agents; list = list }) }
+        Carried pack.now (record { store = store.now; records = agents; list = list }) (Call.retry slot id)
+        result.answer (record { store = store.now; records = result.agents; list = list }) }
 {
     let v = lent_check::check_to_16(pack, store, agents, slot, false);
     match v {
@@ -116,9 +116,9 @@ pub fn arrival(
     q: Request,
 ) -> Outcome
     ensures { (list : Worklist) →
-        Carried pack.now (record { store = store.entry.now; records = agents; list = list })
+        Carried pack.now (record { store = store.old; records = agents; list = list })
         (Call.arrival slot id q.workflow (asked q).arguments)
-        result.answer (record { store = store.exit.now; records = result.agents; list = list }) }
+        result.answer (record { store = store.new; records = result.agents; list = list }) }
 {
     let v = lent_check::check_to_16(pack, store, agents, slot, false);
     match v {
@@ -155,8 +155,8 @@ pub fn arrival(
 // Turn: the agent in a slot does its next instruction, its whole block, or its reply.
 pub fn turn(pack: &[u8], store: &mut [u8], agents: [Agent; 8], slot: usize) -> Outcome
     ensures { (list : Worklist) →
-        Carried pack.now (record { store = store.entry.now; records = agents; list = list }) (Call.turn slot)
-        result.answer (record { store = store.exit.now; records = result.agents; list = list }) }
+        Carried pack.now (record { store = store.old; records = agents; list = list }) (Call.turn slot)
+        result.answer (record { store = store.new; records = result.agents; list = list }) }
 {
     let v = lent_check::check_to_16(pack, store, agents, slot, true);
     match v {
@@ -202,8 +202,8 @@ fn unlisted(question: u8, workflow: usize, instruction: usize, list: Worklist) -
 
 // Add puts a booked id on the worklist, at its end; a listed one changes nothing.
 pub fn add(pack: &[u8], store: &[u8], agents: [Agent; 8], list: Worklist, id: u32) -> Listed
-    ensures { Carried pack.now (record { store = store.entry.now; records = agents; list = list })
-        (Call.list_add id) result.answer (record { store = store.entry.now; records = agents; list = result.list }) }
+    ensures { Carried pack.now (record { store = store.now; records = agents; list = list })
+        (Call.list_add id) result.answer (record { store = store.now; records = agents; list = result.list }) }
 {
     let v = lent_check::check_to_25(pack, store, agents, list);
     match v {
@@ -230,8 +230,8 @@ pub fn add(pack: &[u8], store: &[u8], agents: [Agent; 8], list: Worklist, id: u3
 
 // Take gives the first waiting id, and marks it.
 pub fn take(pack: &[u8], store: &[u8], agents: [Agent; 8], list: Worklist) -> Listed
-    ensures { Carried pack.now (record { store = store.entry.now; records = agents; list = list })
-        Call.list_take result.answer (record { store = store.entry.now; records = agents; list = result.list }) }
+    ensures { Carried pack.now (record { store = store.now; records = agents; list = list })
+        Call.list_take result.answer (record { store = store.now; records = agents; list = result.list }) }
 {
     let v = lent_check::check_to_25(pack, store, agents, list);
     match v {
@@ -256,8 +256,8 @@ pub fn take(pack: &[u8], store: &[u8], agents: [Agent; 8], list: Worklist) -> Li
 
 // Done removes a taken id from the worklist, when its log leads through to RETURN.
 pub fn done(pack: &[u8], store: &[u8], agents: [Agent; 8], list: Worklist, id: u32) -> Listed
-    ensures { Carried pack.now (record { store = store.entry.now; records = agents; list = list })
-        (Call.list_done id) result.answer (record { store = store.entry.now; records = agents; list = result.list }) }
+    ensures { Carried pack.now (record { store = store.now; records = agents; list = list })
+        (Call.list_done id) result.answer (record { store = store.now; records = agents; list = result.list }) }
 {
     let v = lent_check::check_to_25(pack, store, agents, list);
     match v {
@@ -302,8 +302,8 @@ pub fn retire(
     list: Worklist,
     floor: u32,
 ) -> Answer
-    ensures { Carried pack.now (record { store = store.entry.now; records = agents; list = list })
-        (Call.retire floor) result (record { store = store.exit.now; records = agents; list = list }) }
+    ensures { Carried pack.now (record { store = store.old; records = agents; list = list })
+        (Call.retire floor) result (record { store = store.new; records = agents; list = list }) }
 {
     let v = lent_check::check_to_25(pack, store, agents, list);
     match v {

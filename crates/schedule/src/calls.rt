@@ -19,10 +19,10 @@ fn arrival_of(
     request: usize,
 ) -> Outcome
     requires { ScheduleLaid schedule.now × (request < request_count schedule.now) }
-    ensures { Carried pack.now (record { store = store.entry.now; records = agents; list = no_worklist })
+    ensures { Carried pack.now (record { store = store.old; records = agents; list = no_worklist })
         (Call.arrival slot (request_id schedule.now request) (request_workflow schedule.now request)
         (request_arguments schedule.now request))
-        result.answer (record { store = store.exit.now; records = result.agents; list = no_worklist }) }
+        result.answer (record { store = store.new; records = result.agents; list = no_worklist }) }
 {
     let from = 6 + 24 * request;
     let id = words::read32(schedule, from);
@@ -46,9 +46,9 @@ fn retry_of(
     request: usize,
 ) -> Outcome
     requires { ScheduleLaid schedule.now × (request < request_count schedule.now) }
-    ensures { Carried pack.now (record { store = store.entry.now; records = agents; list = no_worklist })
+    ensures { Carried pack.now (record { store = store.now; records = agents; list = no_worklist })
         (Call.retry slot (request_id schedule.now request))
-        result.answer (record { store = store.entry.now; records = result.agents; list = no_worklist }) }
+        result.answer (record { store = store.now; records = result.agents; list = no_worklist }) }
 {
     let id = words::read32(schedule, 6 + 24 * request);
     runtime::retry(pack, store, agents, slot, id)
@@ -65,9 +65,9 @@ fn call_of(
     request: u8,
 ) -> Outcome
     requires { ScheduleLaid schedule.now × (event_right (request_count schedule.now) kind request ≡ true) }
-    ensures { Carried pack.now (record { store = store.entry.now; records = agents; list = no_worklist })
+    ensures { Carried pack.now (record { store = store.old; records = agents; list = no_worklist })
         (call_of schedule.now kind slot request)
-        result.answer (record { store = store.exit.now; records = result.agents; list = no_worklist }) }
+        result.answer (record { store = store.new; records = result.agents; list = no_worklist }) }
 {
     if kind == 0 {
         return arrival_of(pack, schedule, store, agents, slot, request as usize);
@@ -95,9 +95,9 @@ pub fn call_event(
     event: usize,
 ) -> Outcome
     requires { Allowed schedule.now × (event < event_count schedule.now) }
-    ensures { Carried pack.now (record { store = store.entry.now; records = agents; list = no_worklist })
+    ensures { Carried pack.now (record { store = store.old; records = agents; list = no_worklist })
         (call_at schedule.now event)
-        result.answer (record { store = store.exit.now; records = result.agents; list = no_worklist }) }
+        result.answer (record { store = store.new; records = result.agents; list = no_worklist }) }
 {
     let kinds = 6 + 24 * schedule[3] as usize;
     let events = words::read16(schedule, 4) as usize;

@@ -22,7 +22,7 @@ fn run_events(
 ) -> usize
     requires { Allowed schedule.now
         × Chain pack.now (parts_of schedule.now) (cap_of schedule.now) []
-        (record { store = store.now; records = replicate 8 no_agent; list = no_worklist })
+        (record { store = store.old; records = replicate 8 no_agent; list = no_worklist })
         × (written + 70656 ≤ length out.old) }
     ensures { Went pack.now schedule.now out.old written store.new out.new result
         × (result ≤ written + 70656) }

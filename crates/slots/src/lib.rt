@@ -112,7 +112,7 @@ fn write_record(bytes: &mut [u8], slot: usize, agent: Agent)
 pub fn write_slots(bytes: &mut [u8], slots: [Agent; 8])
     requires { length bytes.old ≡ 384 }
     ensures bytes_after { bytes.new ≡ with_slots bytes.old slots }
-    ensures bytes_after_2 { slots_in bytes.new ≡ slots }
+    ensures read_back { slots_in bytes.new ≡ slots }
 {
     let mut slot = 0;
     while slot < 8 {

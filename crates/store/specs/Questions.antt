@@ -49,12 +49,12 @@ rising (k ∷ ks) = ahead k ks && rising ks
 unfoldable pub keys_ok : (book : Bool) → List ℕ → Bool
 keys_ok b ks = keys_apart b ks && rising ks
 
--- a row is zero, its key and its value, where the first key begins at byte `keys-at` and the first value at byte `values-at`
+-- a row is zero, its key and its value, where the first key begins at byte `keys_at` and the first value at byte `values_at`
 unfoldable pub blank_row : (store : List ℕ) (keys_at values_at row : ℕ) → Bool
 blank_row store keys_at values_at row = eqb (le 8 store (keys_at + 8 * row)) 0 && eqb (le 4 store (values_at + 4 * row)) 0
 
--- 11 of a partition wherever it lies, by what it asks of the keys: so many rows are used, the first of its C keys begins at byte `keys-at`,
--- and the first of its C values at byte `values-at`
+-- 11 of a partition wherever it lies, by what it asks of the keys: so many rows are used, the first of its C keys begins at byte `keys_at`,
+-- and the first of its C values at byte `values_at`
 unfoldable pub part_ok_at : (keys : (book : Bool) → List ℕ → Bool) → (book : Bool) → (store : List ℕ) → (C used keys_at values_at : ℕ) →
     Bool
 part_ok_at keys book store C used keys_at values_at =

@@ -32,8 +32,8 @@ fn index_of(store: &[u8], keys_at: usize, count: usize, key: u64) -> usize
 // Is `key` among the `left` keys from byte `keys_at` on? Each of them has `mark` at its place in `marks`, so a key whose place has no such
 // mark is not among them, and nothing is sought. 65,536 leaves 104 by 8,179: the log keys of ids in a row have places of their own.
 fn seen(store: &[u8], keys_at: usize, left: usize, key: u64, marks: &[u8], mark: u8) -> bool
-    requires left_in_bounds { (keys_at + 8 * left ≤ length store.now) × (8179 ≤ length marks.now) }
-    requires left_value { all_in (λ k. eqb (get_or marks.now (k % 8179) 0) mark) (fields 8 store.now keys_at left) ≡ true }
+    requires bounds { (keys_at + 8 * left ≤ length store.now) × (8179 ≤ length marks.now) }
+    requires marked { all_in (λ k. eqb (get_or marks.now (k % 8179) 0) mark) (fields 8 store.now keys_at left) ≡ true }
     ensures { result ≡ member key (fields 8 store.now keys_at left) }
 {
     let place = (key % 8179) as usize;

@@ -54,7 +54,7 @@ fn keep_and_put_by(
 )
     requires sound { Sound store.old × (partition ≤ parts_of store.old) × (first ≤ length (rows_of store.old partition))
         × (length part.old ≡ part_size (cap_of store.old)) }
-    requires partition_len_bound { (length (drop first (rows_of store.old partition)) < cap_of store.old)
+    requires room_behind { (length (drop first (rows_of store.old partition)) < cap_of store.old)
         × (is_form (eqb partition (parts_of store.old)) key ≡ true)
         × (all_in (λ k. leb k key) (keys_in (rows_of store.old partition)) ≡ true) }
     ensures { Stored store.old store.new partition (λ rs. put_row key value (drop first rs)) }
@@ -73,7 +73,7 @@ fn keep_and_put_by(
 // there is greater.
 pub fn keep_and_put(store: &mut [u8], partition: usize, low: u64, key: u64, value: u32)
     requires sound { Sound store.old × (partition ≤ parts_of store.old) }
-    requires partition_len_bound { (length (rows_from low (rows_of store.old partition)) < cap_of store.old)
+    requires room_behind { (length (rows_from low (rows_of store.old partition)) < cap_of store.old)
         × (is_form (eqb partition (parts_of store.old)) key ≡ true)
         × (all_in (λ k. leb k key) (keys_in (rows_of store.old partition)) ≡ true) }
     ensures { Stored store.old store.new partition (λ rs. put_row key value (rows_from low rs)) }

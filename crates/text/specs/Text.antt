@@ -15,7 +15,7 @@ digits (suc n) x = let more = digits n (x / 10) ++ digit (x % 10) ∷ [] in if l
 unfoldable pub decimal : (x : ℕ) → List ℕ
 decimal x = digits x x
 
--- Behind the first `written` bytes of out stands text: they are out''s first written' bytes, there is room for them, and out' is as long as
+-- Behind the first `written` bytes of out stands text: they are the first written' bytes of out', there is room for them, and out' is as long as
 -- out was and has, behind them, what out has there.
 pub record Appended (out : List ℕ) (written : ℕ) (text : List ℕ) (out' : List ℕ) (written' : ℕ) : Type 0 where
   pub reach : written' ≡ written + length text

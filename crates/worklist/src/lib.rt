@@ -126,8 +126,8 @@ pub fn can_list(l: Worklist, id: u32) -> bool
 
 // Add: a new id goes to the end, waiting; a listed one changes nothing.
 pub fn with_id(l: Worklist, id: u32) -> Worklist
-    requires l_value { Rules.list_right (worklist_of l) ≡ true }
-    requires l_value_2 { Rules.can_list id (worklist_of l) ≡ true }
+    requires right { Rules.list_right (worklist_of l) ≡ true }
+    requires can_list { Rules.can_list id (worklist_of l) ≡ true }
     ensures { Kept l result (Rules.added id (worklist_of l)) }
 {
     let places = l.places;
@@ -146,7 +146,7 @@ pub fn with_id(l: Worklist, id: u32) -> Worklist
 // Take: the first waiting id, marked as taken.
 pub fn take_first(l: Worklist) -> Took
     requires { Rules.list_right (worklist_of l) ≡ true }
-    ensures l_value { Rules.first_waiting (worklist_of l) ≡ found_id result }
+    ensures first { Rules.first_waiting (worklist_of l) ≡ found_id result }
     ensures kept { Kept l result.list (Rules.took_first (worklist_of l)) }
 {
     let places = l.places;
@@ -301,7 +301,7 @@ fn write_entry(bytes: &mut [u8], place: usize, e: Entry)
 pub fn write_list(bytes: &mut [u8], l: Worklist)
     requires { 132 ≤ length bytes.old }
     ensures bytes_after { bytes.new ≡ with_list bytes.old l }
-    ensures bytes_after_2 { list_in bytes.new ≡ l }
+    ensures read_back { list_in bytes.new ≡ l }
 {
     words::write32(bytes, 0, l.count);
     let places = l.places;
