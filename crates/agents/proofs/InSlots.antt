@@ -5,7 +5,7 @@ use mathlib.Core.Option.{none, some}
 use mathlib.Core.Path.{◌≡◌, refl, sym, ◌∙◌, ap}
 use Prim.Native.Nat.{ℕ, ◌+◌, ◌-◌, ◌≤◌, ◌<◌}
 use borrow.Author.Tests.{eq-eqb, ne_eqb}
-use Rattle.questions.specs.Basics.{if◌then◌else◌, each_from}
+use Rattle.questions.specs.Basics.{if◌then◌otherwise◌, each_from}
 use Rattle.questions.proofs.Each.{each_none, each_more, each_fails}
 use Rattle.rules.specs.Calls.{is_of, in_no_slot}
 use Rattle.agents.specs.declared.Agent.{Agent}
@@ -16,7 +16,7 @@ pub of_other : (a : Agent) (id : ℕ) → (a.id ≡ id → ⊥) → is_of id (ag
 unfolding agent_of
 of_other a id n = go a.in_use
   where
-    go : (b : Bool) → is_of id (if◌then◌else◌ b (some (held a)) none) ≡ false
+    go : (b : Bool) → is_of id (if◌then◌otherwise◌ b (some (held a)) none) ≡ false
     go true = ne_eqb _ _ n
     go false = refl
 
@@ -25,7 +25,7 @@ pub of_same : (a : Agent) (id : ℕ) → a.id ≡ id → is_of id (agent_of a) �
 unfolding agent_of
 of_same a id e = go a.in_use
   where
-    go : (b : Bool) → is_of id (if◌then◌else◌ b (some (held a)) none) ≡ b
+    go : (b : Bool) → is_of id (if◌then◌otherwise◌ b (some (held a)) none) ≡ b
     go true = eq-eqb _ _ e
     go false = refl
 

@@ -10,7 +10,7 @@ use native.Mathlib.Omega.{arith}
 use native.Mathlib.Decide.{dec_lt}
 use lib.ListN.{length, set, replicate, length-set, get_or-eq_default}
 use lib.Seq.{ext_get_or, get_or-set_same, get_or-set_other}
-use Rattle.questions.specs.Basics.{if◌then◌else◌, update}
+use Rattle.questions.specs.Basics.{if◌then◌otherwise◌, update}
 use Rattle.rules.specs.Calls as Rules
 use Rattle.questions.proofs.Updates.{update_cases}
 use Rattle.agents.specs.declared.Agent.{Agent}
@@ -28,7 +28,7 @@ pub agent_back : (r : Agent) → Whole r → record_of (agent_of r) ≡ r
 unfolding agent_of record_of
 agent_back r (inl e) = go r.in_use refl e
   where
-    go : (b : Bool) → r.in_use ≡ b → b ≡ true → record_of (if◌then◌else◌ b (some (held r)) none) ≡ r
+    go : (b : Bool) → r.in_use ≡ b → b ≡ true → record_of (if◌then◌otherwise◌ b (some (held r)) none) ≡ r
     go true q e = λ i. record { in_use = sym q i; id = r.id; position = r.position; step = r.step; registers = r.registers }
     go false q e = absurd (let z : ◌≡◌ {A = ℕ} 0 1 = cc in omega arith)
 agent_back r (inr e) = rw e refl
@@ -100,4 +100,4 @@ slots_none = ap slots_of (sym records_none) ∙ slots_back (λ slot. none) (λ i
 -- what a slot in use holds, by its record
 pub slot_held : (rs : List Agent) (slot : ℕ) → (agent_at rs slot).in_use ≡ true → slots_of rs slot ≡ some (held (agent_at rs slot))
 unfolding slots_of agent_of
-slot_held rs slot e = ap (λ b. if◌then◌else◌ b (some (held (agent_at rs slot))) none) e
+slot_held rs slot e = ap (λ b. if◌then◌otherwise◌ b (some (held (agent_at rs slot))) none) e

@@ -3,7 +3,7 @@ use Rattle.std.specs.Prelude.{true, false, Bool, ◌&&◌, List, [], ◌∷◌, 
 use Rattle.std.proofs.Math.Option.{Option, none, some}
 use Rattle.rules.specs.Instructions.{Place}
 use Rattle.rules.specs.Store.{Request}
-use Rattle.questions.specs.Basics.{if◌then◌else◌, each}
+use Rattle.questions.specs.Basics.{if◌then◌otherwise◌, each}
 use Rattle.rules.specs.Courses.{going}
 use Rattle.rules.specs.Calls as Rules
 use Rattle.agents.specs.declared.Agent.{Agent}
@@ -22,7 +22,7 @@ held r = record { id = r.id; course = going (record { position = r.position; reg
 
 -- what a record means: an agent, or none
 unfoldable pub agent_of : Agent → Option Rules.Agent
-agent_of r = if r.in_use then some (held r) else none
+agent_of r = if r.in_use then some (held r) otherwise none
 
 -- and back: the record of what a slot holds
 unfoldable pub record_of : Option Rules.Agent → Agent

@@ -8,7 +8,7 @@ use native.Mathlib.Omega.{arith}
 use borrow.Author.Tests.{ne_eqb}
 use lib.Dec.{eqb}
 use lib.ListN.{length, get_or}
-use Rattle.questions.specs.Basics.{if◌then◌else◌}
+use Rattle.questions.specs.Basics.{if◌then◌otherwise◌}
 use Rattle.questions.proofs.Updates.{none_some}
 use Rattle.questions.specs.Questions.{No, no}
 use Rattle.questions.specs.Verdicts.{verdict_of}
@@ -114,7 +114,7 @@ module _ (number : ℕ) (answer : List ℕ) (a : Answer) (h : heard number answe
   reads_refused d e f n4 fits q w i r s t = go (eqb number 3) refl
     where
       by_3 : (b : Bool) → eqb number 3 ≡ b →
-          heard number answer ≡ if◌then◌else◌ b (some (refused (no (le 4 answer 0) (le 4 answer 4) (le 4 answer 8)))) none
+          heard number answer ≡ if◌then◌otherwise◌ b (some (refused (no (le 4 answer 0) (le 4 answer 4) (le 4 answer 8)))) none
       by_3 b g =
           unfold Answers.heard in rw (ne_eqb number 0 d, ne_eqb number 1 e, ne_eqb number 2 f, ne_eqb number 4 n4, g) refl
 

@@ -2,7 +2,7 @@
 use Rattle.std.specs.Prelude.{List, [], ◌∷◌, ℕ, eqb, length}
 use Rattle.std.proofs.Math.Option.{Option, none, some}
 use Rattle.words.specs.Words.{le}
-use Rattle.questions.specs.Basics.{if◌then◌else◌}
+use Rattle.questions.specs.Basics.{if◌then◌otherwise◌}
 use Rattle.questions.specs.Questions.{No, no, Placed}
 use Rattle.rules.specs.Blocks.{yields}
 use Rattle.rules.specs.Calls.{Answer, done, moved, reply, given, refused}
@@ -36,11 +36,11 @@ with_words answer words = puts 4 answer 0 words (length words)
 unfoldable pub heard : (number : ℕ) (answer : List ℕ) → Option Answer
 heard number answer =
     if eqb number 0 then some done
-    else if eqb number 1 then some moved
-    else if eqb number 2 then some (reply (le 4 answer 0) (yields (le 4 answer 4)))
-    else if eqb number 3 then some (refused (no (le 4 answer 0) (le 4 answer 4) (le 4 answer 8)))
-    else if eqb number 4 then some (given (le 4 answer 0))
-    else none
+    otherwise if eqb number 1 then some moved
+    otherwise if eqb number 2 then some (reply (le 4 answer 0) (yields (le 4 answer 4)))
+    otherwise if eqb number 3 then some (refused (no (le 4 answer 0) (le 4 answer 4) (le 4 answer 8)))
+    otherwise if eqb number 4 then some (given (le 4 answer 0))
+    otherwise none
 
 -- a refusal names a place of a pack, which fits into its words
 abbrev pub PlaceFits : Answer → Type 0

@@ -12,7 +12,7 @@ use lib.Dec.{ltb, leb}
 use lib.ListN.{length}
 use Rattle.contents.specs.Contents.{value_in, contents_of, book_of}
 use Rattle.keys.specs.Keys.{floor_key, table_of, log_of}
-use Rattle.questions.specs.Basics.{if◌then◌else◌, update}
+use Rattle.questions.specs.Basics.{if◌then◌otherwise◌, update}
 use Rattle.rules.specs.Instructions.{Code, Place}
 use Rattle.rules.specs.Blocks.{Block, yields, run_block, rows_needed}
 use Rattle.rules.specs.Blocks as Blocks
@@ -42,15 +42,15 @@ changed f g p v here there = fun_ext {f = g} {g = update f p v} (λ q. go q (ℕ
 module _ (xs : List ℕ) (p : ℕ) (h : p < parts_of xs) where
   used_in : (contents_of (store_of xs)).used p ≡ length (rows_of xs p)
   unfolding contents_of
-  used_in = λ i. if◌then◌else◌ (lt-ltb p (parts_of xs) h i) (length (rows_of xs p)) 0
+  used_in = λ i. if◌then◌otherwise◌ (lt-ltb p (parts_of xs) h i) (length (rows_of xs p)) 0
 
   rows_in : (contents_of (store_of xs)).rows p ≡ table_of (value_in (rows_of xs p))
   unfolding contents_of
-  rows_in = λ i k. if◌then◌else◌ (lt-ltb p (parts_of xs) h i) (table_of (value_in (rows_of xs p)) k) none
+  rows_in = λ i k. if◌then◌otherwise◌ (lt-ltb p (parts_of xs) h i) (table_of (value_in (rows_of xs p)) k) none
 
   pub log_in : (contents_of (store_of xs)).log.usual p ≡ log_of (value_in (rows_of xs p))
   unfolding contents_of
-  log_in = λ i id t. if◌then◌else◌ (lt-ltb p (parts_of xs) h i) (log_of (value_in (rows_of xs p)) id t) none
+  log_in = λ i id t. if◌then◌otherwise◌ (lt-ltb p (parts_of xs) h i) (log_of (value_in (rows_of xs p)) id t) none
 
 -- the rules' rows, and no others
 module _ (xs ys : List ℕ) (p id t : ℕ) (b : Block) (h : p < parts_of xs) (c : Committed xs ys p id t b) where
@@ -78,7 +78,7 @@ module _ (xs ys : List ℕ) (p id t : ℕ) (b : Block) (h : p < parts_of xs) (c 
             changed (contents_of (store_of xs)).log.usual (contents_of (store_of ys)).log.usual p
             (with_row_lem ((contents_of (store_of xs)).log.usual p))
             (log_in ys p still ∙ c.log ∙ ap with_row_lem (sym (log_in xs p h)))
-            (λ q n j m u. if◌then◌else◌ (ltb q (c.parts j)) (log_of (value_in (c.others q n j)) m u) none) i;
+            (λ q n j m u. if◌then◌otherwise◌ (ltb q (c.parts j)) (log_of (value_in (c.others q n j)) m u) none) i;
       }
 
   row_as : (v : Blocks.Result) →
@@ -101,10 +101,10 @@ module _ (xs ys : List ℕ) (p id t : ℕ) (b : Block) (h : p < parts_of xs) (c 
         used =
             changed (contents_of (store_of xs)).used (contents_of (store_of ys)).used p
             ((contents_of (store_of xs)).used p + rows_needed b) more_used
-            (λ q n j. if◌then◌else◌ (ltb q (c.parts j)) (length (c.others q n j)) 0) i;
+            (λ q n j. if◌then◌otherwise◌ (ltb q (c.parts j)) (length (c.others q n j)) 0) i;
         rows =
             changed (contents_of (store_of xs)).rows (contents_of (store_of ys)).rows p b.table (rows_in ys p still ∙ c.table)
-            (λ q n j k. if◌then◌else◌ (ltb q (c.parts j)) (table_of (value_in (c.others q n j)) k) none) i;
+            (λ q n j k. if◌then◌otherwise◌ (ltb q (c.parts j)) (table_of (value_in (c.others q n j)) k) none) i;
         log = (log_usual ∙ row_as b.result) i;
         book_used = length (same_book i);
         book = book_of (value_in (same_book i));
@@ -125,7 +125,7 @@ came xs ys p id t b r (some v) (e, q) = found v refl e q
 came xs ys p id t b r none q = go (has_room xs p b) refl q
   where
     go : (m : Bool) → has_room xs p b ≡ m →
-        if◌then◌else◌ m ((r ≡ outcome_of b.result) × Committed xs ys p id t b) ((r ≡ NoRoom) × (ys ≡ xs)) → Came xs ys p id t b r none
+        if◌then◌otherwise◌ m ((r ≡ outcome_of b.result) × Committed xs ys p id t b) ((r ≡ NoRoom) × (ys ≡ xs)) → Came xs ys p id t b r none
     go true m (e, c) = wrote refl m e c
     go false m (e, c) = full refl m e c
 

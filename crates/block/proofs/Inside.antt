@@ -9,7 +9,7 @@ use native.Mathlib.Omega.{arith}
 use borrow.Author.Tests.{eqb-false, not-true}
 use lib.Dec.{eqb}
 use lib.ListN.{length, get_or}
-use Rattle.questions.specs.Basics.{if◌then◌else◌}
+use Rattle.questions.specs.Basics.{if◌then◌otherwise◌}
 use Rattle.questions.specs.Verdicts.{verdict_of}
 use Rattle.questions.specs.declared.Verdict.TheVariants.{Accepted}
 use Rattle.questions.proofs.Each.{each_at}
@@ -48,7 +48,7 @@ module _ (ops ws : List ℕ) (right : Right ops ws) where
           ∙ puts_next right.workflow ops ws i Accepted accepted refl (operation_at ops i) (puts_before ops i) _ refl refl refl s n
           ∙ go (eqb (operation_at ops i) op_put)
         where
-          go : (t : Bool) → if◌then◌else◌ t (puts_before ops i + 1) (puts_before ops i) ≡ puts_before ops i + if◌then◌else◌ t 1 0
+          go : (t : Bool) → if◌then◌otherwise◌ t (puts_before ops i + 1) (puts_before ops i) ≡ puts_before ops i + if◌then◌otherwise◌ t 1 0
           go true = refl
           go false = sym (add-zero (puts_before ops i))
 

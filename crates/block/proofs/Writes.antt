@@ -9,7 +9,7 @@ use borrow.Author.Tests.{eq-eqb, ne_eqb, eqb-true, eqb-false, ltb-true, lt-ltb, 
 use lib.Dec.{eqb, ltb}
 use lib.ListN.{length, get_or, take}
 use Rattle.contents.specs.Contents.{value_in}
-use Rattle.questions.specs.Basics.{if◌then◌else◌, update}
+use Rattle.questions.specs.Basics.{if◌then◌otherwise◌, update}
 use Rattle.rules.specs.Blocks.{Block, rows_needed}
 use Rattle.keys.specs.Keys.{log_key, is_data_key, is_log_key, table_of, log_of, is_form}
 use Rattle.questions.proofs.Tests.{yes_no, and_left, and_right, and_both}
@@ -59,7 +59,7 @@ first_seen : (k v : ℕ) (ps rs : List Row) (j : ℕ) → seen ((k, v) ∷ ps) r
 unfolding over Rows.lookup
 first_seen k v ps rs j = go (eqb j k) refl
   where
-    go : (t : Bool) → eqb j k ≡ t → seen ((k, v) ∷ ps) rs j ≡ if◌then◌else◌ t (some v) (seen ps rs j)
+    go : (t : Bool) → eqb j k ≡ t → seen ((k, v) ∷ ps) rs j ≡ if◌then◌otherwise◌ t (some v) (seen ps rs j)
     go true e = rw (eq-eqb k j (sym (eqb-true j k e))) refl
     go false e = rw (ne_eqb k j (λ q. eqb-false j k e (sym q))) refl
 
@@ -97,8 +97,8 @@ unfolding over
 log_same q kept rs id t = go (ltb id (2 ^ 32)) (ltb t 65536) refl refl
   where
     go : (a b : Bool) → ltb id (2 ^ 32) ≡ a → ltb t 65536 ≡ b
-        → if◌then◌else◌ a (if◌then◌else◌ b (seen (rows_in q) rs (log_key id t)) none) none
-        ≡ if◌then◌else◌ a (if◌then◌else◌ b (lookup (log_key id t) rs) none) none
+        → if◌then◌otherwise◌ a (if◌then◌otherwise◌ b (seen (rows_in q) rs (log_key id t)) none) none
+        ≡ if◌then◌otherwise◌ a (if◌then◌otherwise◌ b (lookup (log_key id t) rs) none) none
     go true true e f =
         let no_data = log_no_data (log_key id t) (log_is id t (ltb-true id (2 ^ 32) e) (ltb-true t 65536 f)) in
         rw (none_of is_data_key (log_key id t) no_data (rows_in q) kept.data_keys) refl
@@ -139,7 +139,8 @@ module _ (r : Ran) (kept : Kept r.pending) (id t v : ℕ) (h : id < 2 ^ 32) (g :
   keys_right P p l =
       rw keys_are
       (and_both (is_form (eqb p P) (log_key id t)) _ (log_form P p id t l h g)
-      (rw (ne_eqb p P (omega arith)) (data_forms (keys_in (rows_in r.pending)) kept.data_keys)))
+      (ap (λ (b : Bool). all_in (is_form b) (keys_in (rows_in r.pending))) (ne_eqb p P (omega arith))
+      ∙ data_forms (keys_in (rows_in r.pending)) kept.data_keys))
 
   abbrev out : List Row
   out = pairs (take q.count q.keys) (take q.count q.values)

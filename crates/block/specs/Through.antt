@@ -2,7 +2,7 @@
 use Rattle.std.specs.Prelude.{Bool, true, false, List, ◌≢◌, ◌≡◌, ℕ, ◌+◌, ◌<◌, leb, length}
 use Rattle.std.proofs.Math.Option.{Option, none, some}
 use Rattle.contents.specs.Contents.{value_in}
-use Rattle.questions.specs.Basics.{if◌then◌else◌, update}
+use Rattle.questions.specs.Basics.{if◌then◌otherwise◌, update}
 use Rattle.rules.specs.Blocks.{Block, yields, run_block, rows_needed}
 use Rattle.rules.specs.Blocks as Rules
 use Rattle.keys.specs.Keys.{table_of, log_of}
@@ -56,7 +56,7 @@ pub record Committed (xs ys : List ℕ) (partition id step : ℕ) (b : Block) : 
 unfoldable pub Through : (xs ys : List ℕ) (partition id step : ℕ) → Block → BlockOutcome → (log : Option ℕ) → Type 0
 Through xs ys partition id step b r (some v) = (r ≡ Result v) × (ys ≡ xs)
 Through xs ys partition id step b r none =
-    if has_room xs partition b then ((r ≡ outcome_of b.result) × Committed xs ys partition id step b) else ((r ≡ NoRoom) × (ys ≡ xs))
+    if has_room xs partition b then ((r ≡ outcome_of b.result) × Committed xs ys partition id step b) otherwise ((r ≡ NoRoom) × (ys ≡ xs))
 
 -- had the block room, by what it came to?
 abbrev pub had_room : BlockOutcome → Bool

@@ -8,7 +8,7 @@ use Prim.Native.Nat.{ℕ, suc}
 use native.Mathlib.Omega.{arith}
 use borrow.Author.Tests.{eq-eqb}
 use lib.ListN.{length, get_or}
-use Rattle.questions.specs.Basics.{if◌then◌else◌}
+use Rattle.questions.specs.Basics.{if◌then◌otherwise◌}
 use Rattle.keys.specs.Keys.{is_floor_key, floor_at}
 use Rattle.store.specs.Layout.{parts_of}
 use Rattle.store.specs.Rows.{Row, keys_in}
@@ -34,7 +34,7 @@ module _ (store : List ℕ) (s : Sound store) (n : ℕ) (e : length (book_rows s
       ap (λ (b : Bool). keys_ok b (keys_in (book_rows store))) (sym (eq-eqb (parts_of store) (parts_of store) (λ i. parts_of store)))
       ∙ s.keys (parts_of store) (omega arith)
 
-  by_last : floor_at (value_in (book_rows store)) ≡ Option.get_or (if◌then◌else◌ (is_floor_key last.0) (some last.1) none) 0
+  by_last : floor_at (value_in (book_rows store)) ≡ Option.get_or (if◌then◌otherwise◌ (is_floor_key last.0) (some last.1) none) 0
   by_last =
       ap (λ (o : Option ℕ). Option.get_or o 0)
       (floor_last (book_rows store) n e (apart_forms true _ (keys_apart_lem true _ good)) (keys_rising true _ good))

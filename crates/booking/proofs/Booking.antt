@@ -13,7 +13,7 @@ use lib.Dec.{eqb, ltb}
 use lib.ListN.{length, get_or}
 use Rattle.contents.specs.Wrote.{Wrote}
 use Rattle.contents.specs.Contents.{contents_of, value_in, arguments_of, request_of, book_of, book_rows}
-use Rattle.questions.specs.Basics.{if◌then◌else◌, update, is_some}
+use Rattle.questions.specs.Basics.{if◌then◌otherwise◌, update, is_some}
 use Rattle.keys.specs.Keys.{book_key, is_form, book_keys, floor_key, is_floor_key, floor_at}
 use Rattle.keys.proofs.Keys.{key_no_floor}
 use Rattle.questions.specs.Questions.{No, number}
@@ -129,7 +129,7 @@ module _ (id w a0 a1 a2 a3 : ℕ) (rows : List Row) where
 
       here : book_of (value_in after) id ≡ q
       here =
-          ap (λ (b : Bool). if◌then◌else◌ b (request_of (lookup (book_key id 0) after) (arguments_of (value_in after) id)) none)
+          ap (λ (b : Bool). if◌then◌otherwise◌ b (request_of (lookup (book_key id 0) after) (arguments_of (value_in after) id)) none)
           (lt-ltb id (2 ^ 32) h)
           ∙ (λ i. request_of (row_0 i)
           (Option.get_or (row_1 i) 0 ∷ Option.get_or (row_2 i) 0 ∷ Option.get_or (row_3 i) 0 ∷ Option.get_or (row_4 i) 0 ∷ []))
@@ -139,7 +139,7 @@ module _ (id w a0 a1 a2 a3 : ℕ) (rows : List Row) where
           ∙ ap (update (book_of (value_in rows)) id q) (sym e)
       go i (no n) =
           (λ t.
-          if◌then◌else◌ (ltb i (2 ^ 32))
+          if◌then◌otherwise◌ (ltb i (2 ^ 32))
           (request_of (row_other (book_key i 0) (λ e. n (omega arith)) t)
           (Option.get_or (row_other (book_key i 1) (λ e. n (omega arith)) t) 0
           ∷ Option.get_or (row_other (book_key i 2) (λ e. n (omega arith)) t) 0

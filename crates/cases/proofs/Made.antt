@@ -11,7 +11,7 @@ use lib.Dec.{eqb}
 use lib.ListN.{length, get_or}
 use Rattle.words.specs.Words.{le, fields}
 use Rattle.words.specs.Words as Words
-use Rattle.questions.specs.Basics.{if◌then◌else◌}
+use Rattle.questions.specs.Basics.{if◌then◌otherwise◌}
 use Rattle.questions.specs.Questions.{No, Placed}
 use Rattle.questions.proofs.Every.{Every}
 use Rattle.rules.specs.Calls.{Call, arrival, retry, turn, crash, restart, order, list_add, list_take, list_done, retire}
@@ -96,11 +96,11 @@ module _ (byte : ℕ) (ws : List ℕ) where
       go (eqb byte 3) (eqb byte 4) (eqb byte 5) (eqb byte 6) (eqb byte 9) (eqb byte 10) (eqb byte 11) (eqb byte 12) (eqb byte 13)
     where
       go : (a b c d e f g h k : Bool) →
-          FromHost (if◌then◌else◌ a
+          FromHost (if◌then◌otherwise◌ a
           (arrival (get_or ws 0 0) (get_or ws 1 0) (get_or ws 2 0) (get_or ws 3 0 ∷ get_or ws 4 0 ∷ get_or ws 5 0 ∷ get_or ws 6 0 ∷ []))
-          (if◌then◌else◌ b (retry (get_or ws 0 0) (get_or ws 1 0)) (if◌then◌else◌ c (turn (get_or ws 0 0)) (if◌then◌else◌ d (crash (get_or ws 0 0))
-          (if◌then◌else◌ e order (if◌then◌else◌ f (list_add (get_or ws 0 0)) (if◌then◌else◌ g list_take
-          (if◌then◌else◌ h (list_done (get_or ws 0 0)) (if◌then◌else◌ k (retire (get_or ws 0 0)) restart)))))))))
+          (if◌then◌otherwise◌ b (retry (get_or ws 0 0) (get_or ws 1 0)) (if◌then◌otherwise◌ c (turn (get_or ws 0 0)) (if◌then◌otherwise◌ d (crash (get_or ws 0 0))
+          (if◌then◌otherwise◌ e order (if◌then◌otherwise◌ f (list_add (get_or ws 0 0)) (if◌then◌otherwise◌ g list_take
+          (if◌then◌otherwise◌ h (list_done (get_or ws 0 0)) (if◌then◌otherwise◌ k (retire (get_or ws 0 0)) restart)))))))))
       go true b c d e f g h k = tt
       go false true c d e f g h k = tt
       go false false true d e f g h k = tt

@@ -1,7 +1,7 @@
 -- The call that a case stands for, and what making it promises.
 use Rattle.std.specs.Prelude.{List, [], ◌∷◌, ◌⊎◌, ◌≡◌, ℕ, ◌≤◌, ◌<◌, eqb, length, get_or}
 use Rattle.std.proofs.Math.Option.{some}
-use Rattle.questions.specs.Basics.{if◌then◌else◌}
+use Rattle.questions.specs.Basics.{if◌then◌otherwise◌}
 use Rattle.questions.specs.Verdicts.{verdict_of}
 use Rattle.rules.specs.Calls.{Call, arrival, retry, turn, crash, restart, order, list_add, list_take, list_done, retire}
 use Rattle.pack.specs.Refusal.{pack_refusal, open_refusal}
@@ -20,15 +20,15 @@ unfoldable pub call_by : (byte : ℕ) (words : List ℕ) → Call
 call_by byte ws =
     if eqb byte 3
     then arrival (get_or ws 0 0) (get_or ws 1 0) (get_or ws 2 0) (get_or ws 3 0 ∷ get_or ws 4 0 ∷ get_or ws 5 0 ∷ get_or ws 6 0 ∷ [])
-    else if eqb byte 4 then retry (get_or ws 0 0) (get_or ws 1 0)
-    else if eqb byte 5 then turn (get_or ws 0 0)
-    else if eqb byte 6 then crash (get_or ws 0 0)
-    else if eqb byte 9 then order
-    else if eqb byte 10 then list_add (get_or ws 0 0)
-    else if eqb byte 11 then list_take
-    else if eqb byte 12 then list_done (get_or ws 0 0)
-    else if eqb byte 13 then retire (get_or ws 0 0)
-    else restart
+    otherwise if eqb byte 4 then retry (get_or ws 0 0) (get_or ws 1 0)
+    otherwise if eqb byte 5 then turn (get_or ws 0 0)
+    otherwise if eqb byte 6 then crash (get_or ws 0 0)
+    otherwise if eqb byte 9 then order
+    otherwise if eqb byte 10 then list_add (get_or ws 0 0)
+    otherwise if eqb byte 11 then list_take
+    otherwise if eqb byte 12 then list_done (get_or ws 0 0)
+    otherwise if eqb byte 13 then retire (get_or ws 0 0)
+    otherwise restart
 
 -- The bytes of records and worklist behind a call on a store. Order, add, take, done and retire leave the records; of any other call their
 -- bytes are those of the records that it left, or unchanged if it is refused. Arrival, retry, turn, crash, order and retire leave the

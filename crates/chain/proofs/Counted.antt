@@ -9,7 +9,7 @@ use native.Mathlib.Omega.{arith}
 use borrow.Author.Tests.{lt-ltb, ltb-true, eq-eqb, ne_eqb, eqb-true}
 use lib.Dec.{eqb, ltb}
 use lib.ListN.{get_or}
-use Rattle.questions.specs.Basics.{if◌then◌else◌, is_some}
+use Rattle.questions.specs.Basics.{if◌then◌otherwise◌, is_some}
 use Rattle.questions.proofs.Tests.{and_left}
 use Rattle.questions.proofs.Updates.{none_some}
 use Rattle.keys.specs.Keys.{is_data_key, data_of, log_key, book_key, is_book_key, is_floor_key, booked_id, book_row, table_of}
@@ -29,7 +29,7 @@ use Rattle.chain.proofs.Sums.{count_at, any_same, any_none, any_some}
 
 -- a data row
 abbrev pub data_at : Table → (stored : ℕ) → ℕ
-data_at table k = if is_data_key k then Option.get_or (table (data_of k)) 0 else 0
+data_at table k = if is_data_key k then Option.get_or (table (data_of k)) 0 otherwise 0
 
 -- the amount of a request, if it is booked
 abbrev pub amount_of : Option Request → ℕ
@@ -38,11 +38,11 @@ amount_of (some q) = get_or q.arguments 2 0
 
 -- a book row
 abbrev pub amount_at : (under_way : (id : ℕ) → Bool) → (book : (id : ℕ) → Option Request) → (stored : ℕ) → ℕ
-amount_at under_way book k = if is_book_key k && (eqb (book_row k) amount_row && under_way (booked_id k)) then amount_of (book (booked_id k)) else 0
+amount_at under_way book k = if is_book_key k && (eqb (book_row k) amount_row && under_way (booked_id k)) then amount_of (book (booked_id k)) otherwise 0
 
 -- ── What is found lies in one of P partitions, under a data key or an id of 32 bits ──
 
-within : {A : Type 0} (b : Bool) (o : Option ℕ) (v : ℕ) → (b ≡ true → o ≡ some v → A) → if◌then◌else◌ b o none ≡ some v → A
+within : {A : Type 0} (b : Bool) (o : Option ℕ) (v : ℕ) → (b ≡ true → o ≡ some v → A) → if◌then◌otherwise◌ b o none ≡ some v → A
 within true o v h e = h refl e
 within false o v h e = none_some v refl e
 

@@ -10,7 +10,7 @@ use lib.Dec.{ltb}
 use Rattle.contents.specs.Contents.{contents_of, value_in, arguments_of, request_of, book_of, book_rows}
 use Rattle.keys.specs.Keys.{book_key, floor_at}
 use Rattle.keys.proofs.Keys.{book_is}
-use Rattle.questions.specs.Basics.{if◌then◌else◌, is_some}
+use Rattle.questions.specs.Basics.{if◌then◌otherwise◌, is_some}
 use Rattle.questions.proofs.Updates.{none_some}
 use Rattle.questions.proofs.Questions.{or_else_none}
 use Rattle.rules.specs.Store.{Request}
@@ -40,7 +40,7 @@ rows_above rows f id q = go (ltb id (2 ^ 32)) refl
         omega arith
 
     go : (b : Bool) → ltb id (2 ^ 32) ≡ b →
-        if◌then◌else◌ b (request_of (lookup (book_key id 0) rows) (arguments_of (value_in rows) id)) none ≡ some q →
+        if◌then◌otherwise◌ b (request_of (lookup (book_key id 0) rows) (arguments_of (value_in rows) id)) none ≡ some q →
         floor_at (value_in rows) ≤ id
     go true l h = row l (lookup (book_key id 0) rows) refl h
     go false l h = none_some q refl h

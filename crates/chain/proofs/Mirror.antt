@@ -8,7 +8,7 @@ use lib.Dec.{ltb}
 use lib.ListN.{replicate}
 use Rattle.rules.proofs.States.{same_state}
 use Rattle.contents.specs.Contents.{contents_of, book_of, request_of}
-use Rattle.questions.specs.Basics.{if◌then◌else◌}
+use Rattle.questions.specs.Basics.{if◌then◌otherwise◌}
 use Rattle.questions.specs.Questions.{No}
 use Rattle.rules.specs.Calls.{Call, stopped, Outcome, State, History, fresh, refusal, call, unless, state_after, answer_to}
 use Rattle.rules.specs.Calls as Calls
@@ -35,7 +35,7 @@ use Rattle.chain.proofs.Each.{left_state}
 
 -- ── a fresh store ──
 
-if_same : {A : Type 0} (b : Bool) (x : A) → if◌then◌else◌ b x x ≡ x
+if_same : {A : Type 0} (b : Bool) (x : A) → if◌then◌otherwise◌ b x x ≡ x
 if_same true x = refl
 if_same false x = refl
 
@@ -46,13 +46,13 @@ fresh_contents P C =
     record {
       room = C;
       used = λ p. if_same (ltb p P) 0 i;
-      rows = λ p k. (ap (λ o. if◌then◌else◌ (ltb p P) o none) (if_same (ltb k (2 ^ 32)) none) ∙ if_same (ltb p P) none) i;
+      rows = λ p k. (ap (λ o. if◌then◌otherwise◌ (ltb p P) o none) (if_same (ltb k (2 ^ 32)) none) ∙ if_same (ltb p P) none) i;
       log =
           record {
             usual =
                 λ p id t.
-                (ap (λ o. if◌then◌else◌ (ltb p P) (if◌then◌else◌ (ltb id (2 ^ 32)) o none) none) (if_same (ltb t 65536) none)
-                ∙ ap (λ o. if◌then◌else◌ (ltb p P) o none) (if_same (ltb id (2 ^ 32)) none)
+                (ap (λ o. if◌then◌otherwise◌ (ltb p P) (if◌then◌otherwise◌ (ltb id (2 ^ 32)) o none) none) (if_same (ltb t 65536) none)
+                ∙ ap (λ o. if◌then◌otherwise◌ (ltb p P) o none) (if_same (ltb id (2 ^ 32)) none)
                 ∙ if_same (ltb p P) none) i;
           };
       book_used = 0;

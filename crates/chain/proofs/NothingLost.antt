@@ -9,7 +9,7 @@ use native.Mathlib.Omega.{arith}
 use native.Mathlib.Decide.{ℕ_discrete}
 use lib.Dec.{ltb}
 use lib.ListN.{length, get_or}
-use Rattle.questions.specs.Basics.{if◌then◌else◌, is_some, update, each}
+use Rattle.questions.specs.Basics.{if◌then◌otherwise◌, is_some, update, each}
 use Rattle.questions.specs.Questions.{No}
 use Rattle.questions.specs.declared.Verdict.TheVariants.{Accepted}
 use Rattle.questions.proofs.Tests.{no_yes}
@@ -85,7 +85,7 @@ four : (store : List ℕ) (id : ℕ) (q : Request) → (holds store).book id ≡
 unfolding contents_of book_of request_of
 four store id q e = go (ltb id (2 ^ 32)) (lookup (book_key id 0) (book_rows store)) e
   where
-    go : (b : Bool) (o : Option ℕ) → if◌then◌else◌ b (request_of o (arguments_of (value_in (book_rows store)) id)) none ≡ some q →
+    go : (b : Bool) (o : Option ℕ) → if◌then◌otherwise◌ b (request_of o (arguments_of (value_in (book_rows store)) id)) none ≡ some q →
         (w : ℕ) × (record { workflow = w; arguments = arguments_of (value_in (book_rows store)) id } ≡ q)
     go false o f = none_some q refl f
     go true none f = none_some q refl f
@@ -243,7 +243,7 @@ module _ (pack : List ℕ) (P C : ℕ) (only : pack_of pack ≡ MOVE ∷ []) whe
       small_after st (retires floor is all some_booked e) j =
           subst (λ (x : Rules.Store). amount_of (x.book j) < 2 ^ 32) (sym e) (go (ltb j floor))
         where
-          go : (b : Bool) → amount_of (if◌then◌else◌ b none (s.book j)) < 2 ^ 32
+          go : (b : Bool) → amount_of (if◌then◌otherwise◌ b none (s.book j)) < 2 ^ 32
           go true = omega arith
           go false = small j
 

@@ -11,7 +11,7 @@ use native.Mathlib.Decide.{dec_lt}
 use borrow.Author.Tests.{lt-ltb, ltb-true}
 use lib.ListN.{length, get_or-eq_default}
 use Rattle.contents.specs.Contents.{contents_of, value_in, book_of, book_rows}
-use Rattle.questions.specs.Basics.{if◌then◌else◌, is_some}
+use Rattle.questions.specs.Basics.{if◌then◌otherwise◌, is_some}
 use Rattle.questions.specs.Questions.{No, number}
 use Rattle.questions.proofs.Updates.{none_some, false_true, update_same, update_other}
 use Rattle.questions.proofs.Questions.{ask_none, ask_yes, or_else_none}
@@ -147,7 +147,7 @@ module _ (pack : List ℕ) (lent : Lent) (slot id w : ℕ) (args : List ℕ) (an
   nobody_below j a l p i = go (agent_at lent.records j).in_use refl p
     where
       go : (b : Bool) → (agent_at lent.records j).in_use ≡ b →
-          if◌then◌else◌ b (some (held (agent_at lent.records j))) none ≡ some a → ⊥
+          if◌then◌otherwise◌ b (some (held (agent_at lent.records j))) none ≡ some a → ⊥
       go false u e = none_some a refl e
       go true u e =
           let t = each_at (λ k. slot_right pack lent.store (agent_at lent.records k)) 8 0 (lent_14 pack lent lent_yes) j (omega arith)

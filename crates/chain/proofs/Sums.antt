@@ -9,7 +9,7 @@ use native.Mathlib.Omega.{arith}
 use native.Mathlib.Decide.{ℕ_discrete}
 use borrow.Author.Tests.{eq-eqb, ne_eqb, eqb-true, eqb-false}
 use lib.Dec.{eqb}
-use Rattle.questions.specs.Basics.{if◌then◌else◌, sum_below}
+use Rattle.questions.specs.Basics.{if◌then◌otherwise◌, sum_below}
 use Rattle.questions.proofs.Tests.{and_right}
 use Rattle.store.specs.Rows.{Row, keys_in, lookup}
 use Rattle.store.specs.Questions.{ahead, rising}
@@ -23,7 +23,7 @@ count_at counts k (some v) = counts (k, v)
 
 -- all rows but that of key k
 abbrev without : (k : ℕ) → (counts : Row → ℕ) → Row → ℕ
-without k counts r = if eqb r.0 k then 0 else counts r
+without k counts r = if eqb r.0 k then 0 otherwise counts r
 
 count_gone : (counts : Row → ℕ) (K k : ℕ) (o : Option ℕ) → eqb k K ≡ true → count_at (without K counts) k o ≡ 0
 count_gone counts K k none q = refl

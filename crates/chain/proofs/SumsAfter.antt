@@ -9,7 +9,7 @@ use native.Mathlib.Omega.{arith}
 use native.Mathlib.Decide.{ℕ_discrete}
 use borrow.Author.Tests.{ltb-true, eq-eqb, eqb-true}
 use lib.Dec.{eqb, ltb, nltb→le}
-use Rattle.questions.specs.Basics.{if◌then◌else◌, is_some, update, sum_below}
+use Rattle.questions.specs.Basics.{if◌then◌otherwise◌, is_some, update, sum_below}
 use Rattle.questions.proofs.Updates.{none_some, update_same, update_other}
 use Rattle.keys.specs.Keys.{is_data_key, data_key, data_of, book_key, is_book_key, booked_id, book_row}
 use Rattle.keys.proofs.Keys.{data_is, data_bounds, book_is, book_again}
@@ -102,7 +102,7 @@ module _ (store store' : List ℕ) (passes : store_refusal store ≡ none) (pass
 
   -- what counts of a request, by whether it is under way and what the book has of it
   abbrev due : Bool → Option Request → ℕ
-  due under_way o = if under_way then amount_of o else 0
+  due under_way o = if under_way then amount_of o otherwise 0
 
   -- the row of an amount counts as before, if its request does
   same_at : (k : ℕ) →

@@ -9,7 +9,7 @@ use native.Mathlib.Omega.{arith}
 use borrow.Author.Tests.{lt-ltb, le-ltb}
 use lib.Dec.{ltb}
 use Rattle.contents.specs.Contents.{contents_of, value_in}
-use Rattle.questions.specs.Basics.{if◌then◌else◌}
+use Rattle.questions.specs.Basics.{if◌then◌otherwise◌}
 use Rattle.keys.specs.Keys.{data_key, table_of}
 use Rattle.questions.specs.Questions.{No}
 use Rattle.rules.specs.Calls.{Call, turn, State, answer_to}
@@ -98,7 +98,7 @@ module _ (xs : List ℕ) (p k : ℕ) where
   unfolding contents_of
   row_beyond_keys l = go (ltb p (parts_of xs))
     where
-      go : (b : Bool) → if◌then◌else◌ b (table_of (value_in (rows_of xs p)) k) none ≡ none
+      go : (b : Bool) → if◌then◌otherwise◌ b (table_of (value_in (rows_of xs p)) k) none ≡ none
       go true = rw (le-ltb k (2 ^ 32) l) refl
       go false = refl
 

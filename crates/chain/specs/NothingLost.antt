@@ -1,7 +1,7 @@
 -- W-207, nothing lost on the way: what a technician adds up from the rows that stand in a store's bytes.
 use Rattle.std.specs.Prelude.{Bool, false, not, ◌&&◌, ◌||◌, ◌≡◌, ℕ, zero, suc, ◌+◌, ◌%◌, ◌^◌, ◌<◌, eqb, get_or}
 use mathlib.Core.List.{List, [], ◌∷◌, Memᴰ}
-use Rattle.questions.specs.Basics.{if◌then◌else◌, is_some, sum_below}
+use Rattle.questions.specs.Basics.{if◌then◌otherwise◌, is_some, sum_below}
 use Rattle.keys.specs.Keys.{is_data_key, log_key, booked_id, book_row}
 use Rattle.rules.specs.Move.{MOVE}
 use Rattle.rules.specs.Calls.{Answer, arrival}
@@ -29,7 +29,7 @@ sum_over counts (r ∷ rows) = counts r + sum_over counts rows
 
 -- a data row counts its value, a log row nothing
 abbrev pub data_value : Row → ℕ
-data_value r = if is_data_key r.0 then r.1 else 0
+data_value r = if is_data_key r.0 then r.1 otherwise 0
 
 -- the data values of all partitions; the book is none of them
 abbrev pub all_data : (store : List ℕ) → ℕ
@@ -55,7 +55,7 @@ amount_row = 3
 
 -- a book row counts if it is the amount of a request that is under way
 abbrev pub amount_if : (under_way : (id : ℕ) → Bool) → Row → ℕ
-amount_if under_way r = if eqb (book_row r.0) amount_row && under_way (booked_id r.0) then r.1 else 0
+amount_if under_way r = if eqb (book_row r.0) amount_row && under_way (booked_id r.0) then r.1 otherwise 0
 
 -- all of them: the sum over the book's rows
 abbrev pub amounts_under_way : (store : List ℕ) → ℕ

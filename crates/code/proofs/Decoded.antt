@@ -13,7 +13,7 @@ use borrow.Author.Tests.{ltb-true, leb-true, not-true, eqb-true, ne_eqb}
 use lib.Dec.{eqb, ltb, leb}
 use lib.ListN.{length, get_or, drop, get_or-eq_default}
 use lib.Seq.{drop-cons}
-use Rattle.questions.specs.Basics.{if◌then◌else◌}
+use Rattle.questions.specs.Basics.{if◌then◌otherwise◌}
 use Rattle.rules.specs.Shapes.{Side, outside, inside, shape}
 use Rattle.rules.specs.Checked.{side_behind, side_at, Lands, Jumps, StandsOn, GoesTo, Stands, Checked}
 use Rattle.rules.specs.Instructions.{Code, Instruction, BEGIN, RETURN, instruction_at}
@@ -80,7 +80,7 @@ own_side Inside = some inside
 own_side Outside = some outside
 
 abbrev pub behind_of : (operation : ℕ) → Option Side
-behind_of op = if◌then◌else◌ (eqb op op_begin) (some inside) (if◌then◌else◌ (eqb op op_end) (some outside) none)
+behind_of op = if◌then◌otherwise◌ (eqb op op_begin) (some inside) (if◌then◌otherwise◌ (eqb op op_end) (some outside) none)
 
 abbrev pub target_by : Operand → (w : ℕ) → Option ℕ
 target_by Any w = none
@@ -128,8 +128,8 @@ module _ (d w : ℕ) where
   decoded_side b op = ap (λ o. Option.get_or o (side_for b)) (decoded_behind op) ∙ go (eqb op op_begin) (eqb op op_end)
     where
       go : (x y : Bool) →
-          Option.get_or (if◌then◌else◌ x (some inside) (if◌then◌else◌ y (some outside) none)) (side_for b)
-          ≡ side_for (if◌then◌else◌ x true (if◌then◌else◌ y false b))
+          Option.get_or (if◌then◌otherwise◌ x (some inside) (if◌then◌otherwise◌ y (some outside) none)) (side_for b)
+          ≡ side_for (if◌then◌otherwise◌ x true (if◌then◌otherwise◌ y false b))
       go true y = refl
       go false true = refl
       go false false = refl
@@ -137,11 +137,11 @@ module _ (d w : ℕ) where
   pub decoded_end : (op : ℕ) → is_end (decode op d w) ≡ eqb op op_end
   decoded_end op = ap closing (decoded_behind op) ∙ go (eqb op op_end) refl
     where
-      go : (y : Bool) → eqb op op_end ≡ y → closing (if◌then◌else◌ (eqb op op_begin) (some inside) (if◌then◌else◌ y (some outside) none)) ≡ y
+      go : (y : Bool) → eqb op op_end ≡ y → closing (if◌then◌otherwise◌ (eqb op op_begin) (some inside) (if◌then◌otherwise◌ y (some outside) none)) ≡ y
       go true e = let n : op ≡ op_end = eqb-true op op_end e in rw n refl
       go false e = either (eqb op op_begin)
         where
-          either : (x : Bool) → closing (if◌then◌else◌ x (some inside) none) ≡ false
+          either : (x : Bool) → closing (if◌then◌otherwise◌ x (some inside) none) ≡ false
           either true = refl
           either false = refl
 
@@ -149,7 +149,7 @@ module _ (d w : ℕ) where
   decoded_opens : (op : ℕ) → (shape (decode op d w)).behind ≡ some inside → op ≡ op_begin
   decoded_opens op e = go (eqb op op_begin) (eqb op op_end) refl (sym (decoded_behind op) ∙ e)
     where
-      go : (x y : Bool) → eqb op op_begin ≡ x → if◌then◌else◌ x (some inside) (if◌then◌else◌ y (some outside) none) ≡ some inside →
+      go : (x y : Bool) → eqb op op_begin ≡ x → if◌then◌otherwise◌ x (some inside) (if◌then◌otherwise◌ y (some outside) none) ≡ some inside →
           op ≡ op_begin
       go true y q f = eqb-true op op_begin q
       go false true q f = absurd (let z : ◌≡◌ {A = ℕ} 0 1 = cc in omega arith)
@@ -166,7 +166,7 @@ module _ (d w : ℕ) where
 some_through : (x : Instruction) (rest : Code) → 0 < through_end (x ∷ rest)
 some_through x rest = go (is_end x)
   where
-    go : (b : Bool) → 0 < (if◌then◌else◌ b 1 (suc (through_end rest)))
+    go : (b : Bool) → 0 < (if◌then◌otherwise◌ b 1 (suc (through_end rest)))
     go true = omega arith
     go false = omega arith
 

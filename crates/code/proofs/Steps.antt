@@ -7,7 +7,7 @@ use native.Mathlib.Omega.{arith}
 use native.Mathlib.Numerals.{add-one}
 use borrow.Author.Tests.{ne_eqb, eqb-true}
 use lib.Dec.{eqb}
-use Rattle.questions.specs.Basics.{if◌then◌else◌}
+use Rattle.questions.specs.Basics.{if◌then◌otherwise◌}
 use Rattle.questions.specs.declared.Verdict.{Verdict}
 use Rattle.questions.specs.declared.Verdict.TheVariants.{Accepted}
 use Rattle.questions.specs.Verdicts.{verdict_of}
@@ -40,7 +40,7 @@ module _ (workflow : ℕ) (ops ws : List ℕ) (i : ℕ) (v : Verdict) (p : v ≡
 
   -- the PUTs of the block, the operation and the count in hand
   module _ (op puts r : ℕ) (e : op ≡ operation_at ops i) (q : puts_before ops i ≡ puts)
-      (f : r ≡ if◌then◌else◌ (eqb op op_put) (puts + 1) puts) where
+      (f : r ≡ if◌then◌otherwise◌ (eqb op op_put) (puts + 1) puts) where
     pub puts_next : inside_at ops i ≡ true → (operation_at ops i ≡ op_end → ⊥) → puts_before ops (i + 1) ≡ r
     unfolding puts_before
     puts_next s n =
@@ -50,7 +50,7 @@ module _ (workflow : ℕ) (ops ws : List ℕ) (i : ℕ) (v : Verdict) (p : v ≡
     pub puts_few : puts ≤ 16 → r ≤ 16
     puts_few h = rw f (go (eqb op op_put) refl)
       where
-        go : (t : Bool) → eqb op op_put ≡ t → if◌then◌else◌ t (puts + 1) puts ≤ 16
+        go : (t : Bool) → eqb op op_put ≡ t → if◌then◌otherwise◌ t (puts + 1) puts ≤ 16
         go true g =
             let l = counted_put ops i (sym e ∙ eqb-true op op_put g) (yes_7 workflow ops ws i (accepted v _ p a)) in
             omega (arith, l, q)

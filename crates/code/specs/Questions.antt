@@ -1,7 +1,7 @@
 -- Questions 4 to 8, each a test: true is yes. 4 to 7 are put to an instruction, by its index, of a workflow that has operation bytes
 -- `ops` and operand bytes `ws`.
 use Rattle.std.specs.Prelude.{Bool, true, false, not, ◌&&◌, List, ℕ, zero, suc, ◌+◌, ◌-◌, ltb, leb, eqb, length, get_or}
-use Rattle.questions.specs.Basics.{if◌then◌else◌, each_from}
+use Rattle.questions.specs.Basics.{if◌then◌otherwise◌, each_from}
 use Rattle.operation.specs.declared.Side.{Side}
 use Rattle.operation.specs.declared.Side.TheVariants.{Anywhere, Inside, Outside}
 use Rattle.operation.specs.declared.Operand.{Operand}
@@ -39,7 +39,7 @@ question5 ops ws index =
 
 -- the side behind an operation: BEGIN opens a block, END closes it
 abbrev pub inside_behind : (operation : ℕ) (inside : Bool) → Bool
-inside_behind op inside = if eqb op op_begin then true else if eqb op op_end then false else inside
+inside_behind op inside = if eqb op op_begin then true otherwise if eqb op op_end then false otherwise inside
 
 -- An instruction is inside a block if the last BEGIN or END before it is a BEGIN.
 unfoldable pub inside_at : (ops : List ℕ) (index : ℕ) → Bool
@@ -79,13 +79,13 @@ unfoldable pub puts_before : (ops : List ℕ) (index : ℕ) → ℕ
 puts_before ops zero = 0
 puts_before ops (suc index) =
     if eqb (operation_at ops index) op_begin then 0
-    else if eqb (operation_at ops index) op_end then 0
-    else if eqb (operation_at ops index) op_put then suc (puts_before ops index)
-    else puts_before ops index
+    otherwise if eqb (operation_at ops index) op_end then 0
+    otherwise if eqb (operation_at ops index) op_put then suc (puts_before ops index)
+    otherwise puts_before ops index
 
 -- a PUT behind fewer than 16
 unfoldable pub counted : (operation puts : ℕ) → Bool
-counted op puts = if eqb op op_put then ltb puts 16 else true
+counted op puts = if eqb op op_put then ltb puts 16 otherwise true
 
 -- 7. Is it at most the 16th PUT of its block?
 unfoldable pub question7 : (ops : List ℕ) (index : ℕ) → Bool

@@ -2,7 +2,7 @@
 #![tactic(auto)]
 
 ghost use Rattle.std.specs.Prelude.{◌≡◌, true, false, ◌&&◌, ◌+◌, ◌-◌, ◌*◌, ◌≤◌, ◌<◌, length, eqb};
-ghost use Rattle.questions.specs.Basics.{if◌then◌else◌, each_from};
+ghost use Rattle.questions.specs.Basics.{if◌then◌otherwise◌, each_from};
 ghost use Rattle.questions.specs.Questions.{first_no};
 ghost use Rattle.questions.specs.Verdicts.{verdict_of};
 ghost use Rattle.operation.specs.Parts.{operation_of, register_of, target_of};
@@ -169,7 +169,7 @@ fn is_counted(byte: u8, puts: usize) -> bool
 // The PUTs of a block behind an instruction inside it that is not END.
 fn puts_behind(op: u8, puts: usize) -> usize
     requires { puts ≤ 16 }
-    ensures { result ≡ (if eqb op op_put then puts + 1 else puts) }
+    ensures { result ≡ (if eqb op op_put then puts + 1 otherwise puts) }
 {
     if op == operation::PUT {
         return puts + 1;

@@ -10,7 +10,7 @@ use lib.Dec.{ltb}
 use lib.ListN.{length}
 use Rattle.rules.specs.Store.{with_book}
 use Rattle.contents.specs.Contents.{contents_of, value_in, book_of}
-use Rattle.questions.specs.Basics.{if◌then◌else◌}
+use Rattle.questions.specs.Basics.{if◌then◌otherwise◌}
 use Rattle.keys.specs.Keys.{floor_key, table_of, log_of}
 use Rattle.store.specs.Rows.{Row, Store, alter, lookup}
 use Rattle.store.proofs.Lists.{alter_here, alter_there}
@@ -36,18 +36,18 @@ contents_book st g floor =
     same p e = alter_there st.parts p g st (λ q. let l = ltb-true p st.parts e in omega arith)
 
     used_same : (p : ℕ) (b : Bool) → ltb p st.parts ≡ b →
-        if◌then◌else◌ b (length ((alter st.parts g st).rows p)) 0 ≡ if◌then◌else◌ b (length (st.rows p)) 0
+        if◌then◌otherwise◌ b (length ((alter st.parts g st).rows p)) 0 ≡ if◌then◌otherwise◌ b (length (st.rows p)) 0
     used_same p true e = ap length (same p e)
     used_same p false e = refl
 
     rows_same : (p k : ℕ) (b : Bool) → ltb p st.parts ≡ b →
-        if◌then◌else◌ b (table_of (value_in ((alter st.parts g st).rows p)) k) none ≡ if◌then◌else◌ b
+        if◌then◌otherwise◌ b (table_of (value_in ((alter st.parts g st).rows p)) k) none ≡ if◌then◌otherwise◌ b
         (table_of (value_in (st.rows p)) k) none
     rows_same p k true e = ap (λ (r : List Row). table_of (value_in r) k) (same p e)
     rows_same p k false e = refl
 
     log_same : (p id t : ℕ) (b : Bool) → ltb p st.parts ≡ b →
-        if◌then◌else◌ b (log_of (value_in ((alter st.parts g st).rows p)) id t) none ≡ if◌then◌else◌ b
+        if◌then◌otherwise◌ b (log_of (value_in ((alter st.parts g st).rows p)) id t) none ≡ if◌then◌otherwise◌ b
         (log_of (value_in (st.rows p)) id t) none
     log_same p id t true e = ap (λ (r : List Row). log_of (value_in r) id t) (same p e)
     log_same p id t false e = refl

@@ -13,7 +13,7 @@ use lib.Dec.{eqb, ltb}
 use lib.ListN.{length, get_or}
 use Rattle.contents.specs.Wrote.{Wrote}
 use Rattle.contents.specs.Contents.{value_in, arguments_of, request_of, book_of, contents_of}
-use Rattle.questions.specs.Basics.{if◌then◌else◌, is_some}
+use Rattle.questions.specs.Basics.{if◌then◌otherwise◌, is_some}
 use Rattle.keys.specs.Keys.{is_data_key, data_of, is_log_key, id_of, step_of, book_key, is_book_key, booked_id, book_row, table_of, log_of}
 use Rattle.keys.specs.Keys.{floor_key, is_floor_key}
 use Rattle.keys.specs.Keys as Keys
@@ -199,9 +199,9 @@ module _ (xs ys : List ℕ) (o : InOrder xs ys) where
   ordered_contents = λ i.
       record {
         room = o.cap i;
-        used = λ p. if◌then◌else◌ (ltb p (o.parts i)) (o.count p i) 0;
-        rows = λ p k. if◌then◌else◌ (ltb p (o.parts i)) (table_of (same_values p i) k) none;
-        log = record { usual = λ p id t. if◌then◌else◌ (ltb p (o.parts i)) (log_of (same_values p i) id t) none };
+        used = λ p. if◌then◌otherwise◌ (ltb p (o.parts i)) (o.count p i) 0;
+        rows = λ p k. if◌then◌otherwise◌ (ltb p (o.parts i)) (table_of (same_values p i) k) none;
+        log = record { usual = λ p id t. if◌then◌otherwise◌ (ltb p (o.parts i)) (log_of (same_values p i) id t) none };
         book_used = book_count i;
         book = book_of (book_values i);
         floor = book_values i floor_key;

@@ -1,7 +1,7 @@
 -- The store of the rules that bytes hold.
 use Rattle.std.specs.Prelude.{List, [], ◌∷◌, ℕ, ◌^◌, ltb, length}
 use Rattle.std.proofs.Math.Option.{Option, none, some, get_or}
-use Rattle.questions.specs.Basics.{if◌then◌else◌}
+use Rattle.questions.specs.Basics.{if◌then◌otherwise◌}
 use Rattle.keys.specs.Keys.{book_key, floor_key, table_of, log_of}
 use Rattle.rules.specs.Store.{Request}
 use Rattle.rules.specs.Store as Rules
@@ -28,7 +28,7 @@ request_of (some w) args = some (record { workflow = w; arguments = args })
 
 -- The book: what it has of an id. Past 32 bits there is none.
 unfoldable pub book_of : ((stored : ℕ) → Option ℕ) → (id : ℕ) → Option Request
-book_of f id = if ltb id (2 ^ 32) then request_of (f (book_key id 0)) (arguments_of f id) else none
+book_of f id = if ltb id (2 ^ 32) then request_of (f (book_key id 0)) (arguments_of f id) otherwise none
 
 -- the rows of the book, partition P
 abbrev pub book_rows : (store : List ℕ) → List Row
@@ -40,9 +40,9 @@ unfoldable pub contents_of : Store → Rules.Store
 contents_of st =
     record {
       room = st.cap;
-      used = λ p. if ltb p st.parts then length (st.rows p) else 0;
-      rows = λ p k. if ltb p st.parts then table_of (value_in (st.rows p)) k else none;
-      log = record { usual = λ p id t. if ltb p st.parts then log_of (value_in (st.rows p)) id t else none };
+      used = λ p. if ltb p st.parts then length (st.rows p) otherwise 0;
+      rows = λ p k. if ltb p st.parts then table_of (value_in (st.rows p)) k otherwise none;
+      log = record { usual = λ p id t. if ltb p st.parts then log_of (value_in (st.rows p)) id t otherwise none };
       book_used = length (st.rows st.parts);
       book = book_of (value_in (st.rows st.parts));
       floor = value_in (st.rows st.parts) floor_key;

@@ -10,7 +10,7 @@ use lib.Dec.{eqb, leb}
 use lib.ListN.{length, replicate, length-append}
 use Rattle.words.specs.Words.{le}
 use borrow.Author.Tests.{ne_eqb, eqb-true, lt-leb}
-use Rattle.questions.specs.Basics.{if◌then◌else◌}
+use Rattle.questions.specs.Basics.{if◌then◌otherwise◌}
 use Rattle.questions.specs.Questions.{No}
 use Rattle.questions.proofs.Updates.{none_some}
 use Rattle.questions.specs.Verdicts.{verdict_of}
@@ -48,11 +48,11 @@ unheard_by m n words e h = ap (λ o. heard (get_or o 0) words) (sym e) ∙ h
 
 -- by whether the answer buffer is long enough, the slots' buffer of the right length, and the list's long enough
 abbrev wrong_by : Bool → Bool → Option ℕ
-wrong_by long right = if◌then◌else◌ long (if◌then◌else◌ right none (some 101)) (some 100)
+wrong_by long right = if◌then◌otherwise◌ long (if◌then◌otherwise◌ right none (some 101)) (some 100)
 
 abbrev list_wrong_by : Bool → Bool → Bool → Option ℕ
 list_wrong_by long right listed =
-    if◌then◌else◌ long (if◌then◌else◌ right (if◌then◌else◌ listed none (some 102)) (some 101)) (some 100)
+    if◌then◌otherwise◌ long (if◌then◌otherwise◌ right (if◌then◌otherwise◌ listed none (some 102)) (some 101)) (some 100)
 
 -- its number is the library's own, 100 or 101, which is no answer
 pub wrong_unheard : (answer slots : List ℕ) (n : ℕ) (words : List ℕ) → buffers_wrong answer slots ≡ some n → heard n words ≡ none

@@ -8,7 +8,7 @@ use native.Mathlib.Numerals.{add-one}
 use native.Mathlib.Omega.{arith}
 use lib.Dec.{eqb}
 use lib.ListN.{length, get_or}
-use Rattle.questions.specs.Basics.{if◌then◌else◌}
+use Rattle.questions.specs.Basics.{if◌then◌otherwise◌}
 use Rattle.questions.proofs.Updates.{false_true}
 use Rattle.rules.specs.Instructions.{Code, Instruction, BEGIN, END, RETURN, instruction_at}
 use Rattle.rules.specs.Shapes.{Shape, shape, GoesOn}
@@ -58,7 +58,7 @@ module _ (d w : ℕ) where
       also tt)
 
   abbrev OnePut : (operation : ℕ) → Type 0
-  OnePut op = puts_of (decode op d w) ≡ if◌then◌else◌ (eqb op op_put) 1 0
+  OnePut op = puts_of (decode op d w) ≡ if◌then◌otherwise◌ (eqb op op_put) 1 0
 
   one_put : (op : ℕ) → op < 12 → OnePut op
   unfolding decode
@@ -192,17 +192,17 @@ module _ (ops ws : List ℕ) (i : ℕ) (side : Bool) (behind : ℕ) (at : Reache
         target_is = ap (λ y. (shape y).target) read ∙ (decoded_shape (register_at ops i) w op known).2
 
         -- what it counts itself
-        own_is : own (counting_of by) (side_at code i) x ≡ if◌then◌else◌ side (if◌then◌else◌ (eqb op op_put) 1 0) (counting_of by).one
+        own_is : own (counting_of by) (side_at code i) x ≡ if◌then◌otherwise◌ side (if◌then◌otherwise◌ (eqb op op_put) 1 0) (counting_of by).one
         own_is =
             ap (λ s. own (counting_of by) s x) (side_known ops ws (known_at ops ws at.sized.right) i (omega (arith, at.in_code))
             ∙ ap side_for (sym at.side))
             ∙ go side
           where
-            go : (s : Bool) → own (counting_of by) (side_for s) x ≡ if◌then◌else◌ s (if◌then◌else◌ (eqb op op_put) 1 0) (counting_of by).one
+            go : (s : Bool) → own (counting_of by) (side_for s) x ≡ if◌then◌otherwise◌ s (if◌then◌otherwise◌ (eqb op op_put) 1 0) (counting_of by).one
             go true = ap puts_of read ∙ one_put (register_at ops i) w op known
             go false = refl
 
-        pub next_most : (own_count : ℕ) → own_count ≡ if◌then◌else◌ side (if◌then◌else◌ (eqb op op_put) 1 0) (counting_of by).one →
+        pub next_most : (own_count : ℕ) → own_count ≡ if◌then◌otherwise◌ side (if◌then◌otherwise◌ (eqb op op_put) 1 0) (counting_of by).one →
             is_jump (operand_of op) ≡ false → MostAt by ops ws i (own_count + get_or most (i + 1) 0)
         next_most c f n =
             subst (λ k. MostAt by ops ws i (k + get_or most (i + 1) 0)) (own_is ∙ sym f)
@@ -215,7 +215,7 @@ module _ (ops ws : List ℕ) (i : ℕ) (side : Bool) (behind : ℕ) (at : Reache
           pub target_in : target_of w < length ops
           target_in = omega (arith, lands.in_code, length_code ops ws)
 
-          pub jump_most : (own_count : ℕ) → own_count ≡ if◌then◌else◌ side (if◌then◌else◌ (eqb op op_put) 1 0) (counting_of by).one →
+          pub jump_most : (own_count : ℕ) → own_count ≡ if◌then◌otherwise◌ side (if◌then◌otherwise◌ (eqb op op_put) 1 0) (counting_of by).one →
               MostAt by ops ws i (own_count + larger (get_or most (i + 1) 0) (get_or most (target_of w) 0))
           jump_most c f =
               subst (λ k. MostAt by ops ws i (k + larger (get_or most (i + 1) 0) (get_or most (target_of w) 0))) (own_is ∙ sym f)

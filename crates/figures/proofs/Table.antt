@@ -9,7 +9,7 @@ use borrow.Author.Tests.{eqb-true}
 use lib.Dec.{eqb}
 use lib.ListN.{length, get_or, set, drop, length-set, drop_of_length-le}
 use lib.Seq.{drop-cons, get_or-set_same, get_or-set_other}
-use Rattle.questions.specs.Basics.{if◌then◌else◌}
+use Rattle.questions.specs.Basics.{if◌then◌otherwise◌}
 use Rattle.rules.specs.Instructions.{Code, END, RETURN, instruction_at}
 use Rattle.rules.specs.Shapes.{outside, inside, shape}
 use Rattle.rules.specs.Blocks.{is_end, through_end}
@@ -89,29 +89,29 @@ module _ (ops ws : List ℕ) (sized : Sized ops ws) where
         (ap (λ y. (shape y).stands) (read ∙ ap (λ n. decode n (register_at ops k) (word_at ws k)) e)))
 
     pub side_before : (after : Bool) → after ≡ inside_at ops (suc k) →
-        if◌then◌else◌ (eqb op op_end) true (if◌then◌else◌ (eqb op op_begin) false after) ≡ inside_at ops k
+        if◌then◌otherwise◌ (eqb op op_end) true (if◌then◌otherwise◌ (eqb op op_begin) false after) ≡ inside_at ops k
     unfolding inside_at
     side_before after e = go (eqb op op_end) (eqb op op_begin) refl refl (e ∙ refl)
       where
         go : (x y : Bool) → eqb op op_end ≡ x → eqb op op_begin ≡ y →
-            after ≡ if◌then◌else◌ y true (if◌then◌else◌ x false (inside_at ops k)) →
-            if◌then◌else◌ x true (if◌then◌else◌ y false after) ≡ inside_at ops k
+            after ≡ if◌then◌otherwise◌ y true (if◌then◌otherwise◌ x false (inside_at ops k)) →
+            if◌then◌otherwise◌ x true (if◌then◌otherwise◌ y false after) ≡ inside_at ops k
         go true y p q f = sym (end_inside (eqb-true op op_end p))
         go false true p q f = sym (begin_outside (eqb-true op op_begin q))
         go false false p q f = f
 
     pub end_before : (behind : ℕ) → behind ≡ suc k + through_end (drop (suc k) code) →
-        if◌then◌else◌ (eqb op op_end) (k + 1) behind ≡ k + through_end (drop k code)
+        if◌then◌otherwise◌ (eqb op op_end) (k + 1) behind ≡ k + through_end (drop k code)
     end_before behind e = go (eqb op op_end) here
       where
-        here : through_end (drop k code) ≡ if◌then◌else◌ (eqb op op_end) 1 (suc (through_end (drop (suc k) code)))
+        here : through_end (drop k code) ≡ if◌then◌otherwise◌ (eqb op op_end) 1 (suc (through_end (drop (suc k) code)))
         here =
             ap through_end (drop-cons code k (RETURN 0) (omega (arith, length_code ops ws)))
-            ∙ ap (λ b. if◌then◌else◌ b 1 (suc (through_end (drop (suc k) code))))
+            ∙ ap (λ b. if◌then◌otherwise◌ b 1 (suc (through_end (drop (suc k) code))))
             (ap is_end read ∙ decoded_end (register_at ops k) (word_at ws k) op)
 
-        go : (x : Bool) → through_end (drop k code) ≡ if◌then◌else◌ x 1 (suc (through_end (drop (suc k) code))) →
-            if◌then◌else◌ x (k + 1) behind ≡ k + through_end (drop k code)
+        go : (x : Bool) → through_end (drop k code) ≡ if◌then◌otherwise◌ x 1 (suc (through_end (drop (suc k) code))) →
+            if◌then◌otherwise◌ x (k + 1) behind ≡ k + through_end (drop k code)
         go true q = omega arith
         go false q = omega arith
 

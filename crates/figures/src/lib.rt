@@ -3,7 +3,7 @@
 #![tactic(auto)]
 
 ghost use Rattle.std.specs.Prelude.{◌≡◌, true, false, ℕ, ◌+◌, ◌≤◌, ◌<◌, eqb, ltb, length, get_or};
-ghost use Rattle.questions.specs.Basics.{if◌then◌else◌};
+ghost use Rattle.questions.specs.Basics.{if◌then◌otherwise◌};
 ghost use Rattle.rules.specs.Routes.{by_rows, MostOf};
 ghost use Rattle.operation.specs.Operations.{op_begin, op_end, op_put, op_return, operand_of};
 ghost use Rattle.operation.specs.Parts.{operation_of};
@@ -58,7 +58,7 @@ fn block_of(by: Counted, partition: u32, puts: u32) -> u32
 
 // What an instruction that leads on counts: inside a block only PUT counts.
 fn own_of(by: Counted, inside: bool, op: u8) -> u32
-    ensures { result ≡ (if inside then (if eqb op op_put then 1 else 0) else (counting_of by).one) }
+    ensures { result ≡ (if inside then (if eqb op op_put then 1 otherwise 0) otherwise (counting_of by).one) }
 {
     if inside {
         if op == operation::PUT {
@@ -71,7 +71,7 @@ fn own_of(by: Counted, inside: bool, op: u8) -> u32
 
 // The larger of two numbers.
 fn larger(first: u32, second: u32) -> u32
-    ensures { result ≡ (if ltb first second then second else first) }
+    ensures { result ≡ (if ltb first second then second otherwise first) }
 {
     if first < second {
         return second;
@@ -148,7 +148,7 @@ fn most_at(
 
 // The side of an operation, by the side behind it: END stands inside a block, BEGIN outside.
 fn inside_before(op: u8, inside: bool) -> bool
-    ensures { result ≡ (if eqb op op_end then true else (if eqb op op_begin then false else inside)) }
+    ensures { result ≡ (if eqb op op_end then true otherwise (if eqb op op_begin then false otherwise inside)) }
 {
     if op == operation::END {
         return true;
@@ -162,7 +162,7 @@ fn inside_before(op: u8, inside: bool) -> bool
 // The index behind the next END from an operation on, by the one from those behind it.
 fn behind_before(op: u8, index: usize, behind: usize) -> usize
     requires { index < 256 }
-    ensures { result ≡ (if eqb op op_end then index + 1 else behind) }
+    ensures { result ≡ (if eqb op op_end then index + 1 otherwise behind) }
 {
     if op == operation::END {
         return index + 1;

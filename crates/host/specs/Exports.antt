@@ -1,7 +1,7 @@
 -- What the exports for calls promise of the number returned and of the lent buffers.
 use Rattle.std.specs.Prelude.{true, List, [], ◌∷◌, ◌≡◌, ℕ, eqb, leb, length}
 use Rattle.std.proofs.Math.Option.{Option, none, some}
-use Rattle.questions.specs.Basics.{if◌then◌else◌}
+use Rattle.questions.specs.Basics.{if◌then◌otherwise◌}
 use Rattle.rules.specs.Calls.{Call, restart, order}
 use Rattle.rules.specs.Plain.{accepted}
 use Rattle.store.specs.Ordered.{InOrder}
@@ -20,14 +20,14 @@ use Rattle.host.specs.Told.{answer_short}
 -- 101: slots that are not 384 bytes, asked behind 100
 unfoldable pub buffers_wrong : (answer slots : List ℕ) → Option ℕ
 buffers_wrong answer slots =
-    if leb 12 (length answer) then (if eqb (length slots) 384 then none else some 101) else some 100
+    if leb 12 (length answer) then (if eqb (length slots) 384 then none otherwise some 101) otherwise some 100
 
 -- 102: a worklist of fewer than 132 bytes, asked behind 101
 unfoldable pub list_wrong : (answer slots list : List ℕ) → Option ℕ
 list_wrong answer slots list =
     if leb 12 (length answer)
-    then (if eqb (length slots) 384 then (if leb 132 (length list) then none else some 102) else some 101)
-    else some 100
+    then (if eqb (length slots) 384 then (if leb 132 (length list) then none otherwise some 102) otherwise some 101)
+    otherwise some 100
 
 -- what a host lends: the store's bytes, the records that the slots' bytes mean, and a worklist
 abbrev pub lent_with : (store slots : List ℕ) → Worklist → Lent

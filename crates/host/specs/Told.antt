@@ -2,7 +2,7 @@
 use Rattle.std.specs.Prelude.{List, [], ◌∷◌, ◌++◌, ◌≡◌, ℕ, ◌*◌, leb, length, get_or, replicate}
 use Rattle.std.proofs.Math.Option.{Option, none, some}
 use Rattle.words.specs.Words.{fields}
-use Rattle.questions.specs.Basics.{if◌then◌else◌}
+use Rattle.questions.specs.Basics.{if◌then◌otherwise◌}
 use Rattle.questions.specs.Questions.{No}
 use Rattle.questions.specs.Verdicts.{verdict_of}
 use Rattle.rules.specs.Calls.{Answer}
@@ -28,7 +28,7 @@ opened_words pack w = values_of (judged (open_refusal pack w)) ++ opened_parts p
 
 -- 100: an answer buffer with fewer bytes than the call writes
 unfoldable pub answer_short : (need : ℕ) (answer : List ℕ) → Option ℕ
-answer_short need answer = if leb need (length answer) then none else some 100
+answer_short need answer = if leb need (length answer) then none otherwise some 100
 
 -- The answer buffer is too short, and nothing is written; or it has the words, none of them cut, and the number is that of the answer.
 pub record Told (need : ℕ) (answer : List ℕ) (a : Answer) (words : List ℕ) (number : ℕ) (answer' : List ℕ) : Type 0 where

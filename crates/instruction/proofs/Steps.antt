@@ -10,7 +10,7 @@ use native.Mathlib.Omega.{arith}
 use borrow.Author.Tests.{lt-ltb, ne_eqb}
 use lib.Dec.{eqb, ltb}
 use lib.ListN.{get_or, set}
-use Rattle.questions.specs.Basics.{if◌then◌else◌, update, is_some}
+use Rattle.questions.specs.Basics.{if◌then◌otherwise◌, update, is_some}
 use Rattle.rules.specs.Instructions.{GET, PUT, HAS, Place, register, becomes, goto, next, Act, moves, reads, puts, act}
 use Rattle.rules.specs.Instructions as Instructions
 use Rattle.rules.specs.Blocks.{within}
@@ -95,11 +95,11 @@ module _ (rs : List Row) (x : Running) (y : Spot) (kept : Kept x.pending) where
     step_get = step-reads (register (place_of x.place) s) h o e
         (λ found. becomes (place_of x.place) d (Option.get_or found (register (place_of x.place) d)))
 
-    pub step_has : place_of y ≡ becomes (place_of x.place) d (if◌then◌else◌ (is_some o) 1 0) →
+    pub step_has : place_of y ≡ becomes (place_of x.place) d (if◌then◌otherwise◌ (is_some o) 1 0) →
         Stepped (act (HAS d s) (place_of x.place)) rs x (at_place x y) 0
     unfolding Instructions.act
     step_has = step-reads (register (place_of x.place) s) h o e
-        (λ found. becomes (place_of x.place) d (if◌then◌else◌ (is_some found) 1 0))
+        (λ found. becomes (place_of x.place) d (if◌then◌otherwise◌ (is_some found) 1 0))
 
 module _ (rs : List Row) (x : Running) (was : Kept x.pending) (k v : ℕ) (h : k < 2 ^ 32) (q : Pending)
     (e : rows_in q ≡ put_row (data_key k) v (rows_in x.pending)) where
@@ -112,12 +112,12 @@ module _ (rs : List Row) (x : Running) (was : Kept x.pending) (k v : ℕ) (h : k
       ∙ fun_ext {f = table_of (update (seen (rows_in x.pending) rs) (data_key k) (some v))}
       {g = update (table_of (seen (rows_in x.pending) rs)) k (some v)} (data_put (seen (rows_in x.pending) rs) v k h))
 
-  keys_put : if◌then◌else◌ (is_some (table_of (seen (rows_in x.pending) rs) k)) (count_new (keys_in (rows_in x.pending)) rs)
+  keys_put : if◌then◌otherwise◌ (is_some (table_of (seen (rows_in x.pending) rs) k)) (count_new (keys_in (rows_in x.pending)) rs)
       (suc (count_new (keys_in (rows_in x.pending)) rs))
       ≡ count_new (keys_in (rows_in q)) rs
   keys_put =
       let n = count_new (keys_in (rows_in x.pending)) rs in
-      ap (λ (o : Option ℕ). if◌then◌else◌ (is_some o) n (suc n)) (table_at (seen (rows_in x.pending) rs) k h)
+      ap (λ (o : Option ℕ). if◌then◌otherwise◌ (is_some o) n (suc n)) (table_at (seen (rows_in x.pending) rs) k h)
       ∙ sym (count_new_lem (data_key k) v rs (seen (rows_in x.pending) rs (data_key k)) n)
       ∙ sym (ap (λ (ps : List Row). count_new (keys_in ps) rs) e ∙ count_put (data_key k) v rs (rows_in x.pending) was.in_order)
 
@@ -183,9 +183,9 @@ module _ (x y : Spot) (op d w : ℕ) where
   set_moved : (v : ℕ) → place_of y ≡ becomes (place_of x) d v → act (decode op d w) (place_of x) ≡ moves (becomes (place_of x) d v) → Moved
   set_moved v e a = ap moves e ∙ sym a
 
-  jump_moved : (t : Bool) (target : ℕ) → place_of y ≡ if◌then◌else◌ t (goto (place_of x) target) (next (place_of x)) → target ≡ target_of w
-      → act (decode op d w) (place_of x) ≡ moves (if◌then◌else◌ t (goto (place_of x) (target_of w)) (next (place_of x))) → Moved
-  jump_moved t target e p a = ap moves e ∙ ap (λ (n : ℕ). moves (if◌then◌else◌ t (goto (place_of x) n) (next (place_of x)))) p ∙ sym a
+  jump_moved : (t : Bool) (target : ℕ) → place_of y ≡ if◌then◌otherwise◌ t (goto (place_of x) target) (next (place_of x)) → target ≡ target_of w
+      → act (decode op d w) (place_of x) ≡ moves (if◌then◌otherwise◌ t (goto (place_of x) (target_of w)) (next (place_of x))) → Moved
+  jump_moved t target e p a = ap moves e ∙ ap (λ (n : ℕ). moves (if◌then◌otherwise◌ t (goto (place_of x) n) (next (place_of x)))) p ∙ sym a
 
   pub moved_set : op ≡ 0 → place_of y ≡ becomes (place_of x) d w → Moved
   unfolding Meaning.decode Instructions.act
@@ -211,14 +211,14 @@ module _ (x y : Spot) (op d w : ℕ) where
 
     module _ (target : ℕ) (t : target ≡ target_of w) where
       pub moved_less : op ≡ 4 →
-          place_of y ≡ if◌then◌else◌ (ltb (get_or x.registers d 0) (get_or x.registers s 0)) (goto (place_of x) target)
+          place_of y ≡ if◌then◌otherwise◌ (ltb (get_or x.registers d 0) (get_or x.registers s 0)) (goto (place_of x) target)
           (next (place_of x)) → Moved
       unfolding Meaning.decode Instructions.act
       moved_less e q = let r : source_of w ≡ s = from 4 e (λ i. omega arith) in
           jump_moved (ltb (get_or x.registers d 0) (get_or x.registers s 0)) target q t (rw (e, r) refl)
 
       pub moved_same : op ≡ 5 →
-          place_of y ≡ if◌then◌else◌ (eqb (get_or x.registers d 0) (get_or x.registers s 0)) (goto (place_of x) target)
+          place_of y ≡ if◌then◌otherwise◌ (eqb (get_or x.registers d 0) (get_or x.registers s 0)) (goto (place_of x) target)
           (next (place_of x)) → Moved
       unfolding Meaning.decode Instructions.act
       moved_same e q = let r : source_of w ≡ s = from 5 e (λ i. omega arith) in

@@ -1,6 +1,6 @@
 -- A block's run under way, and one instruction of it, as the rules have it.
 use Rattle.std.specs.Prelude.{List, ◌≡◌, ℕ, ◌+◌, ◌%◌, ◌≤◌, ◌<◌, eqb}
-use Rattle.questions.specs.Basics.{if◌then◌else◌}
+use Rattle.questions.specs.Basics.{if◌then◌otherwise◌}
 use Rattle.rules.specs.Instructions.{Place, Act, moves, opens, closes, reads, puts, returns}
 use Rattle.rules.specs.Blocks.{Work, Block, within}
 use Rattle.keys.specs.Keys.{data_key, table_of}
@@ -44,11 +44,11 @@ pub record Stepped (a : Act) (rs : List Row) (x y : Running) (more : ℕ) : Type
 
 -- the keys that an operation may add to the pending ones: PUT one, the rest none
 abbrev pub puts_of : (op : ℕ) → ℕ
-puts_of op = if eqb op op_put then 1 else 0
+puts_of op = if eqb op op_put then 1 otherwise 0
 
 -- the number of the register s: of a jump w is 16 × target + s
 abbrev pub source_by : (op word : ℕ) → ℕ
-source_by op word = if eqb op op_jlt then source_of word else if eqb op op_jeq then source_of word else word
+source_by op word = if eqb op op_jlt then source_of word otherwise if eqb op op_jeq then source_of word otherwise word
 
 -- s is the low three bits of w, in every operation but SET, whose w is any
 abbrev pub Sourced : (op word : ℕ) → Type 0

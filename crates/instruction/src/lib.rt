@@ -4,7 +4,7 @@
 pub mod pending;
 
 ghost use Rattle.std.specs.Prelude.{List, ◌≡◌, ◌+◌, ◌%◌, ◌^◌, ◌≤◌, ◌<◌};
-ghost use Rattle.questions.specs.Basics.{if◌then◌else◌};
+ghost use Rattle.questions.specs.Basics.{if◌then◌otherwise◌};
 ghost use Rattle.rules.specs.Instructions.{moves, act, next, goto, becomes, Instruction};
 ghost use Rattle.operation.specs.Parts.{operation_of};
 ghost use Rattle.code.specs.Meaning.{decode, instruction_of};
@@ -66,7 +66,7 @@ fn with_register(x: Spot, d: usize, value: u32) -> Spot
 // To a jump's target if it is taken, else on to the next instruction.
 fn jumped(x: Spot, taken: bool, target: u32) -> Spot
     requires { x.position + 1 < 2 ^ 64 }
-    ensures { place_of result ≡ if◌then◌else◌ taken (goto (place_of x) target) (next (place_of x)) }
+    ensures { place_of result ≡ if◌then◌otherwise◌ taken (goto (place_of x) target) (next (place_of x)) }
 {
     if taken {
         let registers = x.registers;

@@ -8,7 +8,7 @@ use Prim.Native.Nat.{ℕ, ◌+◌, ◌%◌, ◌^◌, ◌≤◌, ◌<◌}
 use native.Mathlib.Omega.{arith}
 use borrow.Author.Tests.{lt-ltb, le-leb, lt-leb, leb-true, ltb-true, le-ltb, eq-eqb, ne_eqb, eqb-true}
 use lib.Dec.{eqb, ltb, leb, ltb→lt, lt→ltb, nltb→le}
-use Rattle.questions.specs.Basics.{if◌then◌else◌, update}
+use Rattle.questions.specs.Basics.{if◌then◌otherwise◌, update}
 use Rattle.keys.specs.Keys.{data_key, is_data_key, data_of, log_key, is_log_key, id_of, step_of, is_form, table_of, log_of}
 use Rattle.keys.specs.Keys.{book_key, is_book_key, booked_id, book_row, is_workflow_key, floor_key, is_floor_key}
 use Rattle.questions.proofs.Tests.{and_left, and_right, no_yes}
@@ -170,14 +170,14 @@ module _ (f : ℕ → Option ℕ) (v : ℕ) where
     data_put j = go (ltb j (2 ^ 32)) refl (eqb_cases j k)
       where
         go : (b : Bool) → ltb j (2 ^ 32) ≡ b → EqbCases j k →
-            if◌then◌else◌ b (update f (data_key k) (some v) (data_key j)) none ≡ if◌then◌else◌ (eqb j k) (some v)
-            (if◌then◌else◌ b (f (data_key j)) none)
+            if◌then◌otherwise◌ b (update f (data_key k) (some v) (data_key j)) none ≡ if◌then◌otherwise◌ (eqb j k) (some v)
+            (if◌then◌otherwise◌ b (f (data_key j)) none)
         go true e (inl c) =
             ap (λ i. update f (data_key k) (some v) (data_key i)) c.0 ∙ update_same f (data_key k) (some v)
-            ∙ ap (λ b. if◌then◌else◌ b (some v) (f (data_key j))) (sym c.1)
+            ∙ ap (λ b. if◌then◌otherwise◌ b (some v) (f (data_key j))) (sym c.1)
         go true e (inr c) =
             update_other f (data_key k) (some v) (data_key j) (λ p. c.0 (omega arith))
-            ∙ ap (λ b. if◌then◌else◌ b (some v) (f (data_key j))) (sym c.1)
+            ∙ ap (λ b. if◌then◌otherwise◌ b (some v) (f (data_key j))) (sym c.1)
         go false e (inl c) = absurd (let l = not_below j (2 ^ 32) e in omega arith)
         go false e (inr c) = rw c.1 refl
 
@@ -190,8 +190,8 @@ module _ (f : ℕ → Option ℕ) (v : ℕ) where
     log_other i u n = go (ltb i (2 ^ 32)) (ltb u 65536) refl
       where
         go : (b c : Bool) → ltb u 65536 ≡ c →
-            if◌then◌else◌ b (if◌then◌else◌ c (update f (log_key id t) (some v) (log_key i u)) none) none ≡
-            if◌then◌else◌ b (if◌then◌else◌ c (f (log_key i u)) none) none
+            if◌then◌otherwise◌ b (if◌then◌otherwise◌ c (update f (log_key id t) (some v) (log_key i u)) none) none ≡
+            if◌then◌otherwise◌ b (if◌then◌otherwise◌ c (f (log_key i u)) none) none
         go true true e =
             update_other f (log_key id t) (some v) (log_key i u)
             (λ p. let l = less u 65536 e in let q : i ≡ id = omega arith in n q (omega arith))
@@ -220,6 +220,6 @@ module _ (f : ℕ → Option ℕ) (v : ℕ) where
     pub log_put_data : (k : ℕ) → table_of (update f (log_key id t) (some v)) k ≡ table_of f k
     log_put_data k = go (ltb k (2 ^ 32))
       where
-        go : (b : Bool) → if◌then◌else◌ b (update f (log_key id t) (some v) (data_key k)) none ≡ if◌then◌else◌ b (f (data_key k)) none
+        go : (b : Bool) → if◌then◌otherwise◌ b (update f (log_key id t) (some v) (data_key k)) none ≡ if◌then◌otherwise◌ b (f (data_key k)) none
         go true = update_other f (log_key id t) (some v) (data_key k) (λ p. omega arith)
         go false = refl

@@ -2,7 +2,7 @@
 -- stored keys stand for.
 use Rattle.std.specs.Prelude.{Bool, ◌&&◌, ◌||◌, ℕ, ◌+◌, ◌-◌, ◌*◌, ◌/◌, ◌%◌, ◌^◌, eqb, ltb, leb, List, [], ◌∷◌}
 use Rattle.std.proofs.Math.Option.{Option, none, get_or}
-use Rattle.questions.specs.Basics.{if◌then◌else◌}
+use Rattle.questions.specs.Basics.{if◌then◌otherwise◌}
 
 -- ── Data ──
 
@@ -72,17 +72,17 @@ is_floor_key stored = eqb stored floor_key
 
 -- Is it a key of a form of its partition? The book has book keys and the floor's, each other partition data keys and log keys.
 unfoldable pub is_form : (book : Bool) → (stored : ℕ) → Bool
-is_form book stored = if book then (is_book_key stored || is_floor_key stored) else (is_data_key stored || is_log_key stored)
+is_form book stored = if book then (is_book_key stored || is_floor_key stored) otherwise (is_data_key stored || is_log_key stored)
 
 -- ── What rows stand for ──
 
 -- The table of data: the value at a data key, if the key is present. Past 32 bits there is none.
 abbrev pub table_of : ((stored : ℕ) → Option ℕ) → (key : ℕ) → Option ℕ
-table_of f key = if ltb key (2 ^ 32) then f (data_key key) else none
+table_of f key = if ltb key (2 ^ 32) then f (data_key key) otherwise none
 
 -- The log: the result of a step of a request, if it is logged. Past 32 and 16 bits there is none: two pairs would share a key.
 abbrev pub log_of : ((stored : ℕ) → Option ℕ) → (id step : ℕ) → Option ℕ
-log_of f id step = if ltb id (2 ^ 32) then (if ltb step 65536 then f (log_key id step) else none) else none
+log_of f id step = if ltb id (2 ^ 32) then (if ltb step 65536 then f (log_key id step) otherwise none) otherwise none
 
 -- The floor of a book: the value of the floor row, or 0 if it has none.
 abbrev pub floor_at : ((stored : ℕ) → Option ℕ) → ℕ

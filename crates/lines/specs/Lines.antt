@@ -1,7 +1,7 @@
 -- The lines that are printed, as bytes. Each ends with a newline.
 use Rattle.std.specs.Prelude.{List, [], ◌∷◌, ◌++◌, ℕ}
 use Rattle.keys.specs.Keys.{is_data_key, data_of, id_of, step_of}
-use Rattle.questions.specs.Basics.{if◌then◌else◌}
+use Rattle.questions.specs.Basics.{if◌then◌otherwise◌}
 use Rattle.rules.specs.Blocks.{yields}
 use Rattle.rules.specs.Calls.{Answer, done, moved, reply, given, refused}
 use Rattle.text.specs.Text.{decimal}
@@ -72,4 +72,4 @@ log_line p id t v = log_word ++ (field p ++ (field id ++ (field t ++ (field v ++
 
 -- the line of a row by its stored key: a data key's, or else a log key's
 unfoldable pub stored_line : (partition stored value : ℕ) → List ℕ
-stored_line p k v = if is_data_key k then row_line p (data_of k) v else log_line p (id_of k) (step_of k) v
+stored_line p k v = if is_data_key k then row_line p (data_of k) v otherwise log_line p (id_of k) (step_of k) v

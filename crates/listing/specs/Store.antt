@@ -1,6 +1,6 @@
 -- What is printed of a store: per partition, by rising key, its data rows and then its log rows. The book isn't printed.
 use Rattle.std.specs.Prelude.{Bool, List, [], ◌∷◌, ◌++◌, ℕ, zero, suc, ◌+◌}
-use Rattle.questions.specs.Basics.{if◌then◌else◌}
+use Rattle.questions.specs.Basics.{if◌then◌otherwise◌}
 use Rattle.keys.specs.Keys.{is_data_key, is_log_key}
 use Rattle.store.specs.Layout.{parts_of}
 use Rattle.store.specs.Rows.{Row, rows_of}
@@ -14,7 +14,7 @@ lines_of p (r ∷ rows) = stored_line p r.0 r.1 ++ lines_of p rows
 -- the rows whose keys pass the test, in their order
 unfoldable pub of_kind : (test : ℕ → Bool) → List Row → List Row
 of_kind test [] = []
-of_kind test (r ∷ rows) = if test r.0 then r ∷ of_kind test rows else of_kind test rows
+of_kind test (r ∷ rows) = if test r.0 then r ∷ of_kind test rows otherwise of_kind test rows
 
 -- A partition: its data rows and then its log rows, both in the order in which they stand.
 unfoldable pub partition_text : (store : List ℕ) → (partition : ℕ) → List ℕ

@@ -11,7 +11,7 @@ use lib.Dec.{ltb, leb}
 use lib.ListN.{length, get_or}
 use Rattle.meaning.proofs.Tests.{workflow_below, opens_of_13}
 use Rattle.contents.specs.Contents.{value_in, arguments_of, request_of, book_of, book_rows}
-use Rattle.questions.specs.Basics.{if◌then◌else◌}
+use Rattle.questions.specs.Basics.{if◌then◌otherwise◌}
 use Rattle.rules.specs.Instructions.{BEGIN, instruction_at}
 use Rattle.rules.specs.Shapes.{Side, outside, inside}
 use Rattle.rules.specs.Checked.{side_at}
@@ -111,7 +111,7 @@ unfolding book_of request_of
 booked_workflow pack store b id q e = go (ltb id (2 ^ 32)) refl (lookup (book_key id 0) (book_rows store)) refl e
   where
     go : (t : Bool) → ltb id (2 ^ 32) ≡ t → (o : Option ℕ) → lookup (book_key id 0) (book_rows store) ≡ o →
-        if◌then◌else◌ t (request_of o (arguments_of (value_in (book_rows store)) id)) none ≡ some q → q.workflow < count pack
+        if◌then◌otherwise◌ t (request_of o (arguments_of (value_in (book_rows store)) id)) none ≡ some q → q.workflow < count pack
     go false l o x y = none_some q refl y
     go true l none x y = none_some q refl y
     go true l (some w) x y =

@@ -11,7 +11,7 @@ use lib.ListN.{length, get_or}
 use Rattle.agents.specs.Slots.{is_blank}
 use Rattle.keys.proofs.Keys.{workflow_is}
 use Rattle.contents.specs.Contents.{value_in, book_of, book_rows}
-use Rattle.questions.specs.Basics.{if◌then◌else◌}
+use Rattle.questions.specs.Basics.{if◌then◌otherwise◌}
 use Rattle.keys.specs.Keys.{book_key}
 use Rattle.pack.specs.Layout.{count}
 use Rattle.questions.proofs.Tests.{and_left, and_right}
@@ -50,11 +50,11 @@ workflow_below pack store id w h b e =
 pub slot_used : (pack store : List ℕ) (a : Agent) → a.in_use ≡ true →
     slot_right pack store a ≡ is_sound pack a (book_of (value_in (book_rows store)) a.id)
 unfolding slot_right
-slot_used pack store a e = ap (λ b. if◌then◌else◌ b (is_sound pack a (book_of (value_in (book_rows store)) a.id)) (is_blank a)) e
+slot_used pack store a e = ap (λ b. if◌then◌otherwise◌ b (is_sound pack a (book_of (value_in (book_rows store)) a.id)) (is_blank a)) e
 
 pub slot_free : (pack store : List ℕ) (a : Agent) → a.in_use ≡ false → slot_right pack store a ≡ is_blank a
 unfolding slot_right
-slot_free pack store a e = ap (λ b. if◌then◌else◌ b (is_sound pack a (book_of (value_in (book_rows store)) a.id)) (is_blank a)) e
+slot_free pack store a e = ap (λ b. if◌then◌otherwise◌ b (is_sound pack a (book_of (value_in (book_rows store)) a.id)) (is_blank a)) e
 
 pub booked_of_13 : (pack store : List ℕ) → question13 pack store ≡ true → booked_right pack store ≡ true
 unfolding question13

@@ -5,7 +5,7 @@ use Rattle.rules.specs.Calls as Rules
 use Rattle.keys.specs.Keys.{is_workflow_key}
 use Rattle.contents.specs.Contents.{contents_of, value_in, book_of, book_rows}
 use Rattle.words.specs.Words.{le}
-use Rattle.questions.specs.Basics.{if◌then◌else◌, each, is_some}
+use Rattle.questions.specs.Basics.{if◌then◌otherwise◌, each, is_some}
 use Rattle.questions.specs.Questions.{No, number, ask, or_else}
 use Rattle.rules.specs.Store.{Request}
 use Rattle.rules.specs.Calls.{Call, arrival, retry, turn, crash, restart, order, list_add, list_take, list_done, retire, stopped, refusal}
@@ -24,11 +24,11 @@ use Rattle.meaning.specs.State.{state_of, Lent}
 
 -- a row of the book that has a workflow number has one below m
 unfoldable pub books_below : (m : ℕ) → Row → Bool
-books_below m r = if is_workflow_key r.0 then ltb r.1 m else true
+books_below m r = if is_workflow_key r.0 then ltb r.1 m otherwise true
 
 -- an operation byte and its operand word: if it is BEGIN, its partition is below P
 unfoldable pub opens_below : (P byte w : ℕ) → Bool
-opens_below P b w = if eqb (b / 16) 6 then ltb w P else true
+opens_below P b w = if eqb (b / 16) 6 then ltb w P otherwise true
 
 -- of all T instructions of the pack, the operation byte and the operand word of the i-th
 abbrev pub byte_of : (pack : List ℕ) → (i : ℕ) → ℕ
@@ -60,7 +60,7 @@ is_sound pack r (some q) =
 
 -- a slot is empty, or in use and sound
 unfoldable pub slot_right : (pack store : List ℕ) → Agent → Bool
-slot_right pack store r = if r.in_use then is_sound pack r (book_of (value_in (book_rows store)) r.id) else is_blank r
+slot_right pack store r = if r.in_use then is_sound pack r (book_of (value_in (book_rows store)) r.id) otherwise is_blank r
 
 -- 14. Is each slot empty or sound?
 unfoldable pub question14 : (pack store : List ℕ) → (records : List Agent) → Bool

@@ -1,6 +1,6 @@
 -- The table of operations: where an operation stands, what its operand w may be, and whether its register d is fixed.
 use Rattle.std.specs.Prelude.{ℕ, Bool, false, ◌||◌, List, [], ◌∷◌, ◌==◌}
-use Rattle.questions.specs.Basics.{if◌then◌else◌}
+use Rattle.questions.specs.Basics.{if◌then◌otherwise◌}
 use Rattle.operation.specs.declared.Side.{Side}
 use Rattle.operation.specs.declared.Side.TheVariants.{Anywhere, Inside, Outside}
 use Rattle.operation.specs.declared.Operand.{Operand}
@@ -44,16 +44,16 @@ among op (x ∷ xs) = op == x || among op xs
 unfoldable pub side_of : (operation : ℕ) → Side
 side_of op =
     if among op (op_get ∷ op_put ∷ op_has ∷ op_end ∷ []) then Inside
-    else if among op (op_begin ∷ op_return ∷ []) then Outside
-    else Anywhere
+    otherwise if among op (op_begin ∷ op_return ∷ []) then Outside
+    otherwise Anywhere
 
 -- Of SET w is any, of JLT and JEQ 16 × target + s, of END and RETURN 0; of the rest a register or a partition, 0 to 7.
 unfoldable pub operand_of : (operation : ℕ) → Operand
 operand_of op =
     if among op (op_set ∷ []) then Any
-    else if among op (op_jlt ∷ op_jeq ∷ []) then Jump
-    else if among op (op_end ∷ op_return ∷ []) then Zero
-    else Below8
+    otherwise if among op (op_jlt ∷ op_jeq ∷ []) then Jump
+    otherwise if among op (op_end ∷ op_return ∷ []) then Zero
+    otherwise Below8
 
 -- Of BEGIN d is 0.
 unfoldable pub fixed_of : (operation : ℕ) → Bool

@@ -8,7 +8,7 @@ use native.Mathlib.Nat.{add-zero, add-suc, suc-mul, zero-mul, mul-zero, mul-add}
 use native.Mathlib.Omega.{arith}
 use borrow.Author.Tests.{lt-ltb, le-ltb, ltb-true}
 use lib.Dec.{eqb, ltb, nltb→le}
-use Rattle.questions.specs.Basics.{if◌then◌else◌, update, is_some, sum_below, count_below}
+use Rattle.questions.specs.Basics.{if◌then◌otherwise◌, update, is_some, sum_below, count_below}
 use Rattle.questions.proofs.Updates.{eqb_cases, le_cases}
 
 -- where something is counted, some number passes the test
@@ -17,7 +17,7 @@ unfolding sum_below
 count_some zero test h = absurd (omega arith)
 count_some (suc n) test h = go (test n) refl h (count_some n test)
   where
-    go : (b : Bool) → test n ≡ b → 0 < count_below n test + if◌then◌else◌ b 1 0 →
+    go : (b : Bool) → test n ≡ b → 0 < count_below n test + if◌then◌otherwise◌ b 1 0 →
         (0 < count_below n test → (i : ℕ) × (i < n) × (test i ≡ true)) → (i : ℕ) × (i < suc n) × (test i ≡ true)
     go true e l rec = (n, omega arith, e)
     go false e l rec = let x = rec (omega arith) in let x₁ = x.1 in (x.0, omega arith, x.2)
@@ -28,7 +28,7 @@ unfolding sum_below
 count_one zero test i h e = absurd (omega arith)
 count_one (suc n) test i h e = go (le_cases i n (omega arith)) (λ l. count_one n test i l e)
   where
-    go : (i ≡ n) ⊎ (i < n) → (i < n → 0 < count_below n test) → 0 < count_below n test + if◌then◌else◌ (test n) 1 0
+    go : (i ≡ n) ⊎ (i < n) → (i < n → 0 < count_below n test) → 0 < count_below n test + if◌then◌otherwise◌ (test n) 1 0
     go (inl p) rec = rw (ap test (sym p) ∙ e) (omega arith)
     go (inr l) rec = let r = rec l in omega arith
 
@@ -73,7 +73,7 @@ above n k l p = go (le_cases n k l)
 
 -- a row more at a free key is one more, if the key is below n
 pub count_put : (n k v : ℕ) (f : ℕ → Option ℕ) → f k ≡ none →
-    count_below n (λ i. is_some (update f k (some v) i)) ≡ if◌then◌else◌ (ltb k n) 1 0 + count_below n (λ i. is_some (f i))
+    count_below n (λ i. is_some (update f k (some v) i)) ≡ if◌then◌otherwise◌ (ltb k n) 1 0 + count_below n (λ i. is_some (f i))
 unfolding sum_below
 count_put zero k v f free = rw (le-ltb k 0 (omega arith)) refl
 count_put (suc n) k v f free = go (eqb_cases n k) (count_put n k v f free)
@@ -84,15 +84,15 @@ count_put (suc n) k v f free = go (eqb_cases n k) (count_put n k v f free)
     old : ℕ
     old = count_below n (λ i. is_some (f i))
 
-    go : ((n ≡ k) × (eqb n k ≡ true)) ⊎ ((n ≡ k → ⊥) × (eqb n k ≡ false)) → rest ≡ if◌then◌else◌ (ltb k n) 1 0 + old →
-        rest + if◌then◌else◌ (is_some (if◌then◌else◌ (eqb n k) (some v) (f n))) 1 0
-        ≡ if◌then◌else◌ (ltb k (suc n)) 1 0 + (old + if◌then◌else◌ (is_some (f n)) 1 0)
+    go : ((n ≡ k) × (eqb n k ≡ true)) ⊎ ((n ≡ k → ⊥) × (eqb n k ≡ false)) → rest ≡ if◌then◌otherwise◌ (ltb k n) 1 0 + old →
+        rest + if◌then◌otherwise◌ (is_some (if◌then◌otherwise◌ (eqb n k) (some v) (f n))) 1 0
+        ≡ if◌then◌otherwise◌ (ltb k (suc n)) 1 0 + (old + if◌then◌otherwise◌ (is_some (f n)) 1 0)
     go (inl h) rec =
         let r₀ : rest ≡ 0 + old = rw (le-ltb k n (let p = h.0 in omega arith)) at rec in
         rw (h.1, lt-ltb k (suc n) (let p = h.0 in omega arith), ap f h.0 ∙ free) (omega arith)
     go (inr h) rec = rw h.1 (both (ltb k n) refl rec)
       where
-        both : (b : Bool) → ltb k n ≡ b → rest ≡ if◌then◌else◌ b 1 0 + old →
-            rest + if◌then◌else◌ (is_some (f n)) 1 0 ≡ if◌then◌else◌ (ltb k (suc n)) 1 0 + (old + if◌then◌else◌ (is_some (f n)) 1 0)
+        both : (b : Bool) → ltb k n ≡ b → rest ≡ if◌then◌otherwise◌ b 1 0 + old →
+            rest + if◌then◌otherwise◌ (is_some (f n)) 1 0 ≡ if◌then◌otherwise◌ (ltb k (suc n)) 1 0 + (old + if◌then◌otherwise◌ (is_some (f n)) 1 0)
         both true e r = rw (lt-ltb k (suc n) (let l = ltb-true k n e in omega arith)) (omega arith)
         both false e r = rw (le-ltb k (suc n) (let l = nltb→le k n (rw e tt) in above n k l h.0)) (omega arith)

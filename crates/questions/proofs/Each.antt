@@ -6,7 +6,7 @@ use mathlib.Core.Logic.{⊎_elim}
 use Prim.Native.Nat.{ℕ, zero, suc, ◌+◌, ◌-◌, ◌≤◌, ◌<◌}
 use native.Mathlib.Nat.{eq-or-lt_of_le}
 use native.Mathlib.Omega.{arith}
-use Rattle.questions.specs.Basics.{if◌then◌else◌}
+use Rattle.questions.specs.Basics.{if◌then◌otherwise◌}
 use Rattle.questions.specs.Basics.{each_from}
 
 module _ (f : ℕ → Bool) where
@@ -22,7 +22,7 @@ module _ (f : ℕ → Bool) where
   unfolding each_from
   each_fails n i h t = let e : n - i ≡ suc (n - (i + 1)) = omega arith in rw (e, t)
 
-  two : (b c : Bool) → if◌then◌else◌ b c false ≡ true → (b ≡ true) × (c ≡ true)
+  two : (b c : Bool) → if◌then◌otherwise◌ b c false ≡ true → (b ≡ true) × (c ≡ true)
   two true c e = (refl, e)
   two false c e = (e, cc)
 

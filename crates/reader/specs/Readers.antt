@@ -2,7 +2,7 @@
 use Rattle.std.specs.Prelude.{List, [], ◌≡◌, ℕ, ◌+◌, ◌*◌, ◌<◌, leb, ltb, length, get_or, take, drop}
 use Rattle.std.proofs.Math.Option.{Option, none, some}
 use Rattle.std.specs.Borrow.{Bor}
-use Rattle.questions.specs.Basics.{if◌then◌else◌}
+use Rattle.questions.specs.Basics.{if◌then◌otherwise◌}
 use Rattle.rules.specs.Instructions.{instruction_at}
 use Rattle.questions.specs.Questions.{No}
 use Rattle.questions.specs.Verdicts.{verdict_of}
@@ -17,7 +17,7 @@ use Rattle.reader.specs.declared.Reader.{Reader}
 
 -- so many bytes from `start` on; none where there are not so many
 unfoldable pub part_of : (bytes : List ℕ) (start count : ℕ) → List ℕ
-part_of bytes start count = if leb (start + count) (length bytes) then take count (drop start bytes) else []
+part_of bytes start count = if leb (start + count) (length bytes) then take count (drop start bytes) otherwise []
 
 -- a number that an opening hands out; a refusal comes with 0
 unfoldable pub opened_number : Option No → ℕ → ℕ
@@ -73,7 +73,7 @@ Beside ops ws = 0 < length ops → 0 < length ws → length ws ≡ 4 * length op
 unfoldable pub read_at : (ops ws : List ℕ) (index : ℕ) → Instruction
 read_at ops ws index =
     if ltb index (length ops) then record { byte = get_or ops index 0; word = word_at ws index }
-    else record { byte = 16 * op_return; word = 0 }
+    otherwise record { byte = 16 * op_return; word = 0 }
 
 -- What was read is the instruction at an index of the workflow that has these bytes: by byte and word, and by the meaning that the rules
 -- give it.

@@ -1,16 +1,15 @@
 // A reader carries the lent pack along with the workflow that it has open, so that a workflow is checked and found once and then read.
-// The functions over it are thin: they take the struct apart or copy it, and call one on slices and numbers, which the borrow checker
-// covers.
+// The functions over it are thin: they take the struct apart or copy it, and call one on slices and numbers.
 #![tactic(auto)]
 
 ghost use Rattle.std.specs.Prelude.{◌≡◌, ◌*◌};
-ghost use Rattle.reader.specs.Readers.{part_of, opening_of, operations_from, operands_from, reader_of, Opened, operations_in, operands_in};
-ghost use Rattle.reader.specs.Readers.{Beside, Read};
+ghost use Rattle.reader.specs.Readers.{part_of, opening_of, operations_from, operands_from, reader_of, Opened};
+ghost use Rattle.reader.specs.Readers.{operations_in, operands_in, Beside, Read};
 
 use questions::Verdict;
 
-// `operations`, `operands`: where the workflow's operation bytes and operand bytes begin in the pack; `size`: how many instructions it has.
-// Refused, all three are 0, and there is nothing to read.
+// `operations`, `operands`: where the workflow's operation bytes and operand bytes begin in the pack; `size`: how many instructions it
+// has. Refused, all three are 0, and there is nothing to read.
 #[derive(Clone, Copy)]
 pub struct Reader<'a> {
     pub pack: &'a [u8],
@@ -133,31 +132,30 @@ pub fn open<'a>(pack: &'a [u8], workflow: u32) -> Reader<'a>
 
 // Its operation bytes: a part of the pack, at the pack's own lifetime.
 pub fn operations<'a>(r: Reader<'a>) -> &'a [u8]
-    ensures { (result.now ≡ operations_in r.entry)
-        × (Opened r.entry → result.now ≡ operations_from r.entry.pack.now r.entry.workflow) }
+    ensures of_any { result.now ≡ operations_in r.entry }
+    ensures of_opened { Opened r.entry → result.now ≡ operations_from r.entry.pack.now r.entry.workflow }
 {
     part_or_none(r.pack, r.operations, r.size)
 }
 
 // Its operand bytes, likewise.
 pub fn operands<'a>(r: Reader<'a>) -> &'a [u8]
-    ensures { (result.now ≡ operands_in r.entry)
-        × (Opened r.entry → result.now ≡ operands_from r.entry.pack.now r.entry.workflow) }
+    ensures of_any { result.now ≡ operands_in r.entry }
+    ensures of_opened { Opened r.entry → result.now ≡ operands_from r.entry.pack.now r.entry.workflow }
 {
     words_or_none(r.pack, r.operands, r.size)
 }
 
 // Its instruction at an index; past the end RETURN 0.
 pub fn instruction_at<'a>(r: Reader<'a>, index: usize) -> Instruction
-    ensures { Read (operations_in r.entry) (operands_in r.entry) index result
-        × (Opened r.entry → Read (operations_from r.entry.pack.now r.entry.workflow)
-        (operands_from r.entry.pack.now r.entry.workflow) index result) }
+    ensures of_any { Read (operations_in r.entry) (operands_in r.entry) index result }
+    ensures of_opened { Opened r.entry → Read (operations_from r.entry.pack.now r.entry.workflow)
+        (operands_from r.entry.pack.now r.entry.workflow) index result }
 {
     instruction_in(operations(r), operands(r), index)
 }
 
-// The same with plain parameters: whoever calls it is covered. The parts of a workflow come so from `pack::operations` and
-// `pack::operands`.
+// The same with plain parameters. The parts of a workflow come so from `pack::operations` and `pack::operands`.
 pub fn instruction_of(pack: &[u8], workflow: u32, index: usize) -> Instruction
     ensures { Read (operations_from pack.now workflow) (operands_from pack.now workflow) index result }
 {

@@ -7,7 +7,7 @@ use Prim.Native.Nat.{ℕ, ◌%◌, ◌^◌, ◌<◌}
 use native.Mathlib.Omega.{arith}
 use borrow.Author.Tests.{eqb-true, ltb-true}
 use lib.Dec.{ltb}
-use Rattle.questions.specs.Basics.{if◌then◌else◌, is_some}
+use Rattle.questions.specs.Basics.{if◌then◌otherwise◌, is_some}
 use Rattle.questions.proofs.Tests.{no_yes, and_left, and_right, and_false}
 use Rattle.questions.proofs.Updates.{none_some}
 use Rattle.keys.specs.Keys.{book_key, is_book_key, booked_id, is_workflow_key}
@@ -109,7 +109,7 @@ module _ (rows : List Row) (id : ℕ) where
       found (some w) f g = (w, f)
 
       go : (b : Bool) → ltb id (2 ^ 32) ≡ b →
-          if◌then◌else◌ b (request_of (lookup (book_key id 0) rows) (arguments_of (value_in rows) id)) none ≡ some q →
+          if◌then◌otherwise◌ b (request_of (lookup (book_key id 0) rows) (arguments_of (value_in rows) id)) none ≡ some q →
           (id < 2 ^ 32) × (w : ℕ) × (lookup (book_key id 0) rows ≡ some w)
       go true l g = let f = found (lookup (book_key id 0) rows) refl g in (ltb-true id (2 ^ 32) l, f.0, f.1)
       go false l g = none_some q refl g

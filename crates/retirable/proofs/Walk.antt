@@ -9,7 +9,7 @@ use native.Mathlib.Omega.{arith}
 use borrow.Author.Tests.{lt-ltb, le-ltb, ltb-true}
 use lib.Dec.{ltb}
 use lib.ListN.{length, get_or}
-use Rattle.questions.specs.Basics.{if◌then◌else◌, is_some, each_from, each}
+use Rattle.questions.specs.Basics.{if◌then◌otherwise◌, is_some, each_from, each}
 use Rattle.questions.proofs.Each.{each_none, each_more, each_fails, each_at, each_all}
 use Rattle.keys.specs.Keys.{book_key, booked_id, is_workflow_key}
 use Rattle.keys.proofs.Keys.{workflow_is}
@@ -54,7 +54,7 @@ module _ (pack : List ℕ) (lent : Lent) (floor : ℕ) where
 
   -- what is asked at a key: of a smaller id, whether its request can be retired
   abbrev passes : (stored : ℕ) → Bool
-  passes k = if ltb k (book_key floor 0) then row_can pack lent k else true
+  passes k = if ltb k (book_key floor 0) then row_can pack lent k otherwise true
 
   passes_below : (k : ℕ) → k < book_key floor 0 → passes k ≡ row_can pack lent k
   passes_below k h = rw (lt-ltb k (book_key floor 0) h) refl
@@ -65,7 +65,7 @@ module _ (pack : List ℕ) (lent : Lent) (floor : ℕ) where
   at_its_row id h l =
       let e : booked_id (book_key id 0) ≡ id = omega arith in
       passes_below (book_key id 0) (omega arith)
-      ∙ ap (λ (b : Bool). if◌then◌else◌ b (can (booked_id (book_key id 0))) true) (workflow_is id h) ∙ ap can e
+      ∙ ap (λ (b : Bool). if◌then◌otherwise◌ b (can (booked_id (book_key id 0))) true) (workflow_is id h) ∙ ap can e
 
   rows_to_ids : each (length rows) (λ i. passes (key_of i)) ≡ true → each floor can ≡ true
   unfolding state_of contents_of
@@ -81,11 +81,11 @@ module _ (pack : List ℕ) (lent : Lent) (floor : ℕ) where
   ids_to_rows : each floor can ≡ true → each (length rows) (λ i. passes (key_of i)) ≡ true
   ids_to_rows h = each_all (λ i. passes (key_of i)) (length rows) 0 (λ i l l'. small (key_of i) (ltb (key_of i) (book_key floor 0)) refl)
     where
-      asked : (k : ℕ) → k < book_key floor 0 → (b : Bool) → if◌then◌else◌ b (can (booked_id k)) true ≡ true
+      asked : (k : ℕ) → k < book_key floor 0 → (b : Bool) → if◌then◌otherwise◌ b (can (booked_id k)) true ≡ true
       asked k l true = each_at can floor 0 h (booked_id k) (omega arith) (omega arith)
       asked k l false = refl
 
-      small : (k : ℕ) (b : Bool) → ltb k (book_key floor 0) ≡ b → if◌then◌else◌ b (row_can pack lent k) true ≡ true
+      small : (k : ℕ) (b : Bool) → ltb k (book_key floor 0) ≡ b → if◌then◌otherwise◌ b (row_can pack lent k) true ≡ true
       small k true e = unfold row_can in asked k (ltb-true k (book_key floor 0) e) (is_workflow_key k)
       small k false e = refl
 

@@ -1,6 +1,6 @@
 -- What question 28 asks at a row of the book.
 use Rattle.std.specs.Prelude.{Bool, true, List, ℕ}
-use Rattle.questions.specs.Basics.{if◌then◌else◌}
+use Rattle.questions.specs.Basics.{if◌then◌otherwise◌}
 use Rattle.keys.specs.Keys.{is_workflow_key, booked_id}
 use Rattle.rules.specs.Calls.{can_retire}
 use Rattle.pack.specs.Meaning.{pack_of}
@@ -11,4 +11,4 @@ unfoldable pub row_can : (pack : List ℕ) → Lent → (stored : ℕ) → Bool
 row_can pack lent stored =
     if is_workflow_key stored then
     can_retire (pack_of pack) (state_of lent) (booked_id stored) ((state_of lent).store.book (booked_id stored))
-    else true
+    otherwise true

@@ -10,7 +10,7 @@ use native.Mathlib.Omega.{arith}
 use borrow.Author.Tests.{lt-ltb, lt-leb, ne_eqb}
 use lib.Dec.{eqb}
 use lib.ListN.{length}
-use Rattle.questions.specs.Basics.{if◌then◌else◌, is_some, count_below}
+use Rattle.questions.specs.Basics.{if◌then◌otherwise◌, is_some, count_below}
 use Rattle.questions.proofs.Counts.{sum_same}
 use Rattle.questions.proofs.Tests.{no_yes}
 use Rattle.questions.proofs.Updates.{false_true, eqb_cases}
@@ -128,20 +128,20 @@ module _ (floor : ℕ) (rows : List Row) where
     booked_first : count_below floor (λ id. is_some (book_of (value_in rows) id)) ≡ count_below floor (λ id. is_some (lookup (book_key id 0) rows))
     booked_first =
         sum_same floor _ _
-        (λ id l. ap (λ (t : Bool). if◌then◌else◌ t 1 0)
+        (λ id l. ap (λ (t : Bool). if◌then◌otherwise◌ t 1 0)
         (ap is_some (book_row_lem rows id (omega arith)) ∙ some_request (lookup (book_key id 0) rows) (arguments_of (value_in rows) id)))
 
     -- so many rows go
     pub rows_gone : length (rows_from (book_key floor 0) rows) + 5 * count_below floor (λ id. is_some (book_of (value_in rows) id)) ≡ length rows
     rows_gone = omega (arith, book_count floor rows (keys_rising true (keys_in rows) good) alike others, booked_first)
 
-    one_more : (o : Option ℕ) → new_rows o ≡ if◌then◌else◌ (is_some o) 0 1
+    one_more : (o : Option ℕ) → new_rows o ≡ if◌then◌otherwise◌ (is_some o) 0 1
     unfolding new_rows
     one_more none = refl
     one_more (some v) = refl
 
     pub book_used_lem : length (book_from floor rows)
-        ≡ length rows - 5 * count_below floor (λ id. is_some (book_of (value_in rows) id)) + if◌then◌else◌ (is_some (lookup floor_key rows)) 0 1
+        ≡ length rows - 5 * count_below floor (λ id. is_some (book_of (value_in rows) id)) + if◌then◌otherwise◌ (is_some (lookup floor_key rows)) 0 1
     book_used_lem =
         let put = rows_after floor_key floor (rows_from (book_key floor 0) rows)
         (rising_from (book_key floor 0) rows (keys_rising true (keys_in rows) good)) in

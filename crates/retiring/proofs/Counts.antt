@@ -9,7 +9,7 @@ use native.Mathlib.Omega.{arith}
 use borrow.Author.Tests.{lt-ltb}
 use lib.Dec.{ltb}
 use lib.ListN.{length}
-use Rattle.questions.specs.Basics.{if◌then◌else◌, is_some, sum_below, count_below}
+use Rattle.questions.specs.Basics.{if◌then◌otherwise◌, is_some, sum_below, count_below}
 use Rattle.questions.proofs.Counts.{sum_same, sum_rows, sum_times}
 use Rattle.keys.specs.Keys.{log_key, book_key, log_of}
 use Rattle.store.specs.Questions.{rising}
@@ -26,10 +26,10 @@ logged_rows floor f h =
     (λ id l.
     sum_same 65536 _ _
     (λ t l'.
-    ap (λ b. if◌then◌else◌ (is_some (if◌then◌else◌ b (if◌then◌else◌ (ltb t 65536) (f (log_key id t)) none) none)) 1 0)
+    ap (λ b. if◌then◌otherwise◌ (is_some (if◌then◌otherwise◌ b (if◌then◌otherwise◌ (ltb t 65536) (f (log_key id t)) none) none)) 1 0)
     (lt-ltb id (2 ^ 32) (omega arith))
-    ∙ ap (λ b. if◌then◌else◌ (is_some (if◌then◌else◌ b (f (log_key id t)) none)) 1 0) (lt-ltb t 65536 l')))
-    ∙ sym (sum_rows floor 65536 (λ k. if◌then◌else◌ (is_some (f k)) 1 0))
+    ∙ ap (λ b. if◌then◌otherwise◌ (is_some (if◌then◌otherwise◌ b (f (log_key id t)) none)) 1 0) (lt-ltb t 65536 l')))
+    ∙ sym (sum_rows floor 65536 (λ k. if◌then◌otherwise◌ (is_some (f k)) 1 0))
 
 -- so many rows are left
 pub log_count : (floor : ℕ) (rows : List Row) → floor ≤ 2 ^ 32 → rising (keys_in rows) ≡ true →
@@ -44,7 +44,7 @@ log_count floor rows h u =
 -- five rows for a booked id
 five_rows : (f : ℕ → Option ℕ) (id : ℕ) → ((j : ℕ) → j < 5 → is_some (f (book_key id j)) ≡ is_some (f (book_key id 0))) →
     ((j : ℕ) → 5 ≤ j → j < 8 → f (book_key id j) ≡ none) →
-    count_below 8 (λ j. is_some (f (book_key id j))) ≡ 5 * if◌then◌else◌ (is_some (f (book_key id 0))) 1 0
+    count_below 8 (λ j. is_some (f (book_key id j))) ≡ 5 * if◌then◌otherwise◌ (is_some (f (book_key id 0))) 1 0
 unfolding sum_below
 five_rows f id all others =
     rw (
@@ -59,8 +59,8 @@ five_rows f id all others =
     (go (is_some (f (book_key id 0))))
   where
     go : (b : Bool) →
-        0 + if◌then◌else◌ b 1 0 + if◌then◌else◌ b 1 0 + if◌then◌else◌ b 1 0 + if◌then◌else◌ b 1 0 + if◌then◌else◌ b 1 0 + 0 + 0 + 0
-        ≡ 5 * if◌then◌else◌ b 1 0
+        0 + if◌then◌otherwise◌ b 1 0 + if◌then◌otherwise◌ b 1 0 + if◌then◌otherwise◌ b 1 0 + if◌then◌otherwise◌ b 1 0 + if◌then◌otherwise◌ b 1 0 + 0 + 0 + 0
+        ≡ 5 * if◌then◌otherwise◌ b 1 0
     go true = refl
     go false = refl
 
@@ -70,9 +70,9 @@ booked_rows : (floor : ℕ) (f : ℕ → Option ℕ) →
     ((id j : ℕ) → id < floor → 5 ≤ j → j < 8 → f (book_key id j) ≡ none) →
     count_below (floor * 8) (λ k. is_some (f k)) ≡ 5 * count_below floor (λ id. is_some (f (book_key id 0)))
 booked_rows floor f all others =
-    sum_rows floor 8 (λ k. if◌then◌else◌ (is_some (f k)) 1 0)
+    sum_rows floor 8 (λ k. if◌then◌otherwise◌ (is_some (f k)) 1 0)
     ∙ sum_same floor _ _ (λ id l. five_rows f id (λ j h. all id j l h) (λ j h h'. others id j l h h'))
-    ∙ sum_times floor 5 (λ id. if◌then◌else◌ (is_some (f (book_key id 0))) 1 0)
+    ∙ sum_times floor 5 (λ id. if◌then◌otherwise◌ (is_some (f (book_key id 0))) 1 0)
 
 -- so many rows go
 pub book_count : (floor : ℕ) (rows : List Row) → rising (keys_in rows) ≡ true →

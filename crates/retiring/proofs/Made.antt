@@ -8,7 +8,7 @@ use native.Mathlib.Omega.{arith}
 use borrow.Author.Tests.{lt-ltb, le-leb, ltb-true, ltb-false, eq-eqb}
 use lib.Dec.{eqb, ltb, leb}
 use lib.ListN.{length}
-use Rattle.questions.specs.Basics.{if◌then◌else◌, is_some, sum_below, count_below}
+use Rattle.questions.specs.Basics.{if◌then◌otherwise◌, is_some, sum_below, count_below}
 use Rattle.questions.proofs.Counts.{count_some}
 use Rattle.questions.proofs.Tests.{no_yes}
 use Rattle.keys.specs.Keys.{log_key, book_key, data_key, floor_key, is_form, table_of, log_of}
@@ -36,15 +36,15 @@ use Rattle.retiring.proofs.Book.{not_floor, floor_there, key_stays, key_gone, ri
 module _ (floor : ℕ) (rows : List Row) (small : floor < 2 ^ 32) where
   -- data rows don't change
   table_same : (k : ℕ) → table_of (value_in (log_from floor rows)) k ≡ table_of (value_in rows) k
-  table_same k = ap (λ (o : Option ℕ). if◌then◌else◌ (ltb k (2 ^ 32)) o none) (lookup_from (log_key floor 0) (data_key k) rows (omega arith))
+  table_same k = ap (λ (o : Option ℕ). if◌then◌otherwise◌ (ltb k (2 ^ 32)) o none) (lookup_from (log_key floor 0) (data_key k) rows (omega arith))
 
   -- log rows of smaller ids are gone, and the others are as they were
-  log_left : (id t : ℕ) → log_of (value_in (log_from floor rows)) id t ≡ if◌then◌else◌ (ltb id floor) none (log_of (value_in rows) id t)
+  log_left : (id t : ℕ) → log_of (value_in (log_from floor rows)) id t ≡ if◌then◌otherwise◌ (ltb id floor) none (log_of (value_in rows) id t)
   log_left id t = go (ltb id floor) refl (ltb id (2 ^ 32)) (ltb t 65536) refl
     where
       go : (b : Bool) → ltb id floor ≡ b → (c d : Bool) → ltb t 65536 ≡ d →
-          if◌then◌else◌ c (if◌then◌else◌ d (lookup (log_key id t) (log_from floor rows)) none) none
-          ≡ if◌then◌else◌ b none (if◌then◌else◌ c (if◌then◌else◌ d (lookup (log_key id t) rows) none) none)
+          if◌then◌otherwise◌ c (if◌then◌otherwise◌ d (lookup (log_key id t) (log_from floor rows)) none) none
+          ≡ if◌then◌otherwise◌ b none (if◌then◌otherwise◌ c (if◌then◌otherwise◌ d (lookup (log_key id t) rows) none) none)
       go true e true true f =
           lookup_below (log_key floor 0) (log_key id t) rows (omega (arith, ltb-true id floor e, ltb-true t 65536 f))
       go false e true true f = lookup_from (log_key floor 0) (log_key id t) rows (omega (arith, ltb-false id floor e))
@@ -83,14 +83,14 @@ module _ (floor : ℕ) (rows : List Row) where
           ∷ []
 
   book_left : floor < 2 ^ 32 → (id : ℕ) →
-      book_of (value_in (book_from floor rows)) id ≡ if◌then◌else◌ (ltb id floor) none (book_of (value_in rows) id)
+      book_of (value_in (book_from floor rows)) id ≡ if◌then◌otherwise◌ (ltb id floor) none (book_of (value_in rows) id)
   book_left small id = go (ltb id floor) refl (ltb id (2 ^ 32)) refl
     where
       past : ltb id (2 ^ 32) ≡ false → (f : ℕ → Option ℕ) → book_of f id ≡ none
       past e f = unfold book_of in rw e refl
 
       go : (b : Bool) → ltb id floor ≡ b → (c : Bool) → ltb id (2 ^ 32) ≡ c →
-          book_of (value_in (book_from floor rows)) id ≡ if◌then◌else◌ b none (book_of (value_in rows) id)
+          book_of (value_in (book_from floor rows)) id ≡ if◌then◌otherwise◌ b none (book_of (value_in rows) id)
       go true e c f = let l = ltb-true id floor e in book_below id l (omega arith)
       go false e true f = book_above id (ltb-false id floor e) (ltb-true id (2 ^ 32) f)
       go false e false f = past f (value_in (book_from floor rows)) ∙ sym (past f (value_in rows))
@@ -137,44 +137,44 @@ module _ (xs : List ℕ) (floor : ℕ) (small : floor < 2 ^ 32) (ok : store_refu
       (logs : (p : ℕ) → p < P → rows_of zs p ≡ log_from floor (rows_of xs p))
       (book : rows_of zs P ≡ book_from floor (rows_of xs P)) where
     used_is : (p : ℕ) →
-        if◌then◌else◌ (ltb p (parts_of zs)) (length (rows_of zs p)) 0
-        ≡ if◌then◌else◌ (ltb p P) (length (rows_of xs p)) 0 - sum_below floor
-        (λ id. count_below (2 ^ 16) (λ t. is_some (if◌then◌else◌ (ltb p P) (log_of (value_in (rows_of xs p)) id t) none)))
-    used_is p = ap (λ (n : ℕ). if◌then◌else◌ (ltb p n) (length (rows_of zs p)) 0) parts ∙ go (ltb p P) refl
+        if◌then◌otherwise◌ (ltb p (parts_of zs)) (length (rows_of zs p)) 0
+        ≡ if◌then◌otherwise◌ (ltb p P) (length (rows_of xs p)) 0 - sum_below floor
+        (λ id. count_below (2 ^ 16) (λ t. is_some (if◌then◌otherwise◌ (ltb p P) (log_of (value_in (rows_of xs p)) id t) none)))
+    used_is p = ap (λ (n : ℕ). if◌then◌otherwise◌ (ltb p n) (length (rows_of zs p)) 0) parts ∙ go (ltb p P) refl
       where
         go : (b : Bool) → ltb p P ≡ b →
-            if◌then◌else◌ b (length (rows_of zs p)) 0
-            ≡ if◌then◌else◌ b (length (rows_of xs p)) 0 - sum_below floor
-            (λ id. count_below (2 ^ 16) (λ t. is_some (if◌then◌else◌ b (log_of (value_in (rows_of xs p)) id t) none)))
+            if◌then◌otherwise◌ b (length (rows_of zs p)) 0
+            ≡ if◌then◌otherwise◌ b (length (rows_of xs p)) 0 - sum_below floor
+            (λ id. count_below (2 ^ 16) (λ t. is_some (if◌then◌otherwise◌ b (log_of (value_in (rows_of xs p)) id t) none)))
         go true e =
             let l : p < P = ltb-true p P e in
             ap length (logs p l) ∙ log_count floor (rows_of xs p) (omega arith) (rows_rise xs sound p (omega arith))
         go false e = omega arith
 
     rows_is : (p k : ℕ) →
-        if◌then◌else◌ (ltb p (parts_of zs)) (table_of (value_in (rows_of zs p)) k) none
-        ≡ if◌then◌else◌ (ltb p P) (table_of (value_in (rows_of xs p)) k) none
-    rows_is p k = ap (λ (n : ℕ). if◌then◌else◌ (ltb p n) (table_of (value_in (rows_of zs p)) k) none) parts ∙ go (ltb p P) refl
+        if◌then◌otherwise◌ (ltb p (parts_of zs)) (table_of (value_in (rows_of zs p)) k) none
+        ≡ if◌then◌otherwise◌ (ltb p P) (table_of (value_in (rows_of xs p)) k) none
+    rows_is p k = ap (λ (n : ℕ). if◌then◌otherwise◌ (ltb p n) (table_of (value_in (rows_of zs p)) k) none) parts ∙ go (ltb p P) refl
       where
         go : (b : Bool) → ltb p P ≡ b →
-            if◌then◌else◌ b (table_of (value_in (rows_of zs p)) k) none ≡ if◌then◌else◌ b (table_of (value_in (rows_of xs p)) k) none
+            if◌then◌otherwise◌ b (table_of (value_in (rows_of zs p)) k) none ≡ if◌then◌otherwise◌ b (table_of (value_in (rows_of xs p)) k) none
         go true e =
             ap (λ (rs : List Row). table_of (value_in rs) k) (logs p (ltb-true p P e)) ∙ table_same floor (rows_of xs p) small k
         go false e = refl
 
     log_is : (p id t : ℕ) →
-        if◌then◌else◌ (ltb p (parts_of zs)) (log_of (value_in (rows_of zs p)) id t) none
-        ≡ if◌then◌else◌ (ltb id floor) none (if◌then◌else◌ (ltb p P) (log_of (value_in (rows_of xs p)) id t) none)
+        if◌then◌otherwise◌ (ltb p (parts_of zs)) (log_of (value_in (rows_of zs p)) id t) none
+        ≡ if◌then◌otherwise◌ (ltb id floor) none (if◌then◌otherwise◌ (ltb p P) (log_of (value_in (rows_of xs p)) id t) none)
     log_is p id t =
-        ap (λ (n : ℕ). if◌then◌else◌ (ltb p n) (log_of (value_in (rows_of zs p)) id t) none) parts ∙ go (ltb p P) refl
+        ap (λ (n : ℕ). if◌then◌otherwise◌ (ltb p n) (log_of (value_in (rows_of zs p)) id t) none) parts ∙ go (ltb p P) refl
       where
-        none_left : (b : Bool) → ◌≡◌ {A = Option ℕ} none (if◌then◌else◌ b none none)
+        none_left : (b : Bool) → ◌≡◌ {A = Option ℕ} none (if◌then◌otherwise◌ b none none)
         none_left true = refl
         none_left false = refl
 
         go : (b : Bool) → ltb p P ≡ b →
-            if◌then◌else◌ b (log_of (value_in (rows_of zs p)) id t) none
-            ≡ if◌then◌else◌ (ltb id floor) none (if◌then◌else◌ b (log_of (value_in (rows_of xs p)) id t) none)
+            if◌then◌otherwise◌ b (log_of (value_in (rows_of zs p)) id t) none
+            ≡ if◌then◌otherwise◌ (ltb id floor) none (if◌then◌otherwise◌ b (log_of (value_in (rows_of xs p)) id t) none)
         go true e =
             ap (λ (rs : List Row). log_of (value_in rs) id t) (logs p (ltb-true p P e)) ∙ log_left floor (rows_of xs p) small id t
         go false e = none_left (ltb id floor)
@@ -208,7 +208,7 @@ module _ (xs : List ℕ) (floor : ℕ) (small : floor < 2 ^ 32) (ok : store_refu
         let one = count_some floor (λ id. is_some (before.book id)) some_booked in
         no_yes
         (sym (ap (λ (s : Rules.Store). is_some (s.book one.0)) e
-        ∙ ap (λ (b : Bool). is_some {A = Request} (if◌then◌else◌ b none (before.book one.0))) (lt-ltb one.0 floor one.1))
+        ∙ ap (λ (b : Bool). is_some {A = Request} (if◌then◌otherwise◌ b none (before.book one.0))) (lt-ltb one.0 floor one.1))
         ∙ one.2)
 
     wrote : Sound zs → Wrote xs zs (retired (contents_of (store_of xs)) floor)

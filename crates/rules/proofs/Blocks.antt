@@ -11,7 +11,7 @@ use native.Mathlib.Omega.{arith}
 use native.Mathlib.Decide.{dec_lt}
 use lib.ListN.{length, drop, length-drop, get_or-eq_default}
 use lib.Seq.{drop-cons, drop-drop}
-use Rattle.questions.specs.Basics.{if◌then◌else◌}
+use Rattle.questions.specs.Basics.{if◌then◌otherwise◌}
 use Rattle.rules.specs.Instructions.{Code, Place, next, Instruction, BEGIN, RETURN, Act, moves, opens, closes, reads, puts, returns}
 use Rattle.rules.specs.Instructions.{act, act_at, instruction_at}
 use Rattle.rules.specs.Shapes.{outside, inside, shape, GoesOn}
@@ -77,9 +77,9 @@ through_from [] k h = absurd (not-suc-le-zero h)
 through_from (x ∷ rest) zero h = sym (zero-add (through_end (x ∷ rest)))
 through_from (x ∷ rest) (suc k) h = go (is_end x) h (through_from rest k)
   where
-    go : (b : Bool) → suc k < (if◌then◌else◌ b 1 (suc (through_end rest))) →
+    go : (b : Bool) → suc k < (if◌then◌otherwise◌ b 1 (suc (through_end rest))) →
         (k < through_end rest → through_end rest ≡ k + through_end (drop k rest)) →
-        if◌then◌else◌ b 1 (suc (through_end rest)) ≡ suc k + through_end (drop k rest)
+        if◌then◌otherwise◌ b 1 (suc (through_end rest)) ≡ suc k + through_end (drop k rest)
     go true l rec = absurd (omega arith)
     go false l rec = omega (arith, rec (omega arith))
 
@@ -87,7 +87,7 @@ some_through : (rest : Code) → 0 < length rest → 0 < through_end rest
 some_through [] l = absurd (not-suc-le-zero l)
 some_through (y ∷ rest) l = go (is_end y)
   where
-    go : (b : Bool) → 0 < (if◌then◌else◌ b 1 (suc (through_end rest)))
+    go : (b : Bool) → 0 < (if◌then◌otherwise◌ b 1 (suc (through_end rest)))
     go true = omega arith
     go false = omega arith
 
@@ -123,24 +123,24 @@ module _ (code : Code) (checked : Checked code) (begin p : ℕ) (opened : begin 
         let d = ap through_end (drop-drop (j - suc begin) (suc begin) code ∙ ap (λ n. drop n code) from_begin) in
         omega (arith, e, d, from_begin)
 
-    here : through_end (drop j code) ≡ if◌then◌else◌ (is_end x) 1 (suc (through_end (drop (suc j) code)))
+    here : through_end (drop j code) ≡ if◌then◌otherwise◌ (is_end x) 1 (suc (through_end (drop (suc j) code)))
     here = ap through_end (drop-cons code j (RETURN 0) in_code)
 
     -- if this one closes the block, it is that END
     at_end : (shape x).behind ≡ some outside → suc j ≡ behind_end code begin
-    at_end e = let t = here ∙ ap (λ o. if◌then◌else◌ (closing o) 1 (suc (through_end (drop (suc j) code)))) e in omega (arith, t, same_end)
+    at_end e = let t = here ∙ ap (λ o. if◌then◌otherwise◌ (closing o) 1 (suc (through_end (drop (suc j) code)))) e in omega (arith, t, same_end)
 
     -- only the last of them is END
     no_end_before : suc j < behind_end code begin → is_end x ≡ false
     no_end_before l = go (is_end x) here
       where
-        go : (b : Bool) → through_end (drop j code) ≡ if◌then◌else◌ b 1 (suc (through_end (drop (suc j) code))) → b ≡ false
+        go : (b : Bool) → through_end (drop j code) ≡ if◌then◌otherwise◌ b 1 (suc (through_end (drop (suc j) code))) → b ≡ false
         go true t = absurd (omega (arith, t, same_end, l))
         go false t = refl
 
     -- if not, it is ahead
     not_end : (shape x).behind ≡ none → behind_end code j ≡ behind_end code begin
-    not_end e = let t = here ∙ ap (λ o. if◌then◌else◌ (closing o) 1 (suc (through_end (drop (suc j) code)))) e in omega (arith, t, same_end)
+    not_end e = let t = here ∙ ap (λ o. if◌then◌otherwise◌ (closing o) 1 (suc (through_end (drop (suc j) code)))) e in omega (arith, t, same_end)
 
     -- on to the next instruction of the block
     pub next_between : GoesOn (shape x) → Between (suc j)

@@ -7,7 +7,7 @@ use native.Mathlib.Decide.{dec_lt}
 use native.Mathlib.Omega.{arith}
 use lib.ListN.{length, get_or-eq_default}
 use lib.Seq.{set-get_or, get_or-set_same}
-use Rattle.questions.specs.Basics.{if◌then◌else◌, update, is_some}
+use Rattle.questions.specs.Basics.{if◌then◌otherwise◌, update, is_some}
 use Rattle.rules.specs.Instructions.{Code, Instruction, SET, END, GET, RETURN, Place, register, next, becomes, act, act_at}
 use Rattle.rules.specs.Instructions.{instruction_at}
 use Rattle.rules.specs.Blocks.{Table, Work, Block, yields, within, run_from, run_block}
@@ -37,7 +37,7 @@ module _ (d s : ℕ) (w : Work) (onward : Work → Block) where
         behind_put =
             λ k v e.
             let put : Table = update w.table (register at k) (some (register at v)) in
-            let n : ℕ = if◌then◌else◌ (is_some (w.table (register at k))) w.new_keys (suc w.new_keys) in
+            let n : ℕ = if◌then◌otherwise◌ (is_some (w.table (register at k))) w.new_keys (suc w.new_keys) in
             ap
             (λ (found : Option ℕ).
             onward (record { place = becomes (next at) d (get_or found (register at d)); table = put; new_keys = n }))

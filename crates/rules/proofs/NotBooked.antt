@@ -6,7 +6,7 @@ use mathlib.Core.Option.{Option, none, some}
 use Prim.Native.Nat.{ℕ, suc}
 use native.Mathlib.Omega.{arith}
 use lib.Dec.{ltb}
-use Rattle.questions.specs.Basics.{if◌then◌else◌, is_some}
+use Rattle.questions.specs.Basics.{if◌then◌otherwise◌, is_some}
 use Rattle.questions.specs.Questions.{No}
 use Rattle.rules.specs.Instructions.{Pack, Code, Place}
 use Rattle.rules.specs.Blocks.{Result}
@@ -60,7 +60,7 @@ module _
       fed_run_lem j k none n = refl
       fed_run_lem j k (some r) n = go (ltb r.move_count k)
         where
-          go : (b : Bool) → (if◌then◌else◌ b (move pack m j r) m).runs id ≡ m.runs id
+          go : (b : Bool) → (if◌then◌otherwise◌ b (move pack m j r) m).runs id ≡ m.runs id
           go true = move_other pack m j r id n
           go false = refl
 
@@ -86,7 +86,7 @@ module _
       run_same c = go (refusal pack s c) refl
         where
           either : (b : Bool) → (fed pack m t (feeds c)).runs id ≡ m.runs id →
-              (fed pack m t (if◌then◌else◌ b (feeds c) nothing)).runs id ≡ m.runs id
+              (fed pack m t (if◌then◌otherwise◌ b (feeds c) nothing)).runs id ≡ m.runs id
           either true h = h
           either false h = refl
 

@@ -6,7 +6,7 @@ use mathlib.Core.List.{List, [], ◌∷◌, ◌++◌, Memᴰ}
 use mathlib.Core.Option.{Option, none, some}
 use Prim.Native.Nat.{ℕ}
 use lib.Dec.{eqb}
-use Rattle.questions.specs.Basics.{if◌then◌else◌}
+use Rattle.questions.specs.Basics.{if◌then◌otherwise◌}
 use Rattle.rules.specs.Blocks.{Result}
 use Rattle.rules.specs.Plain.{Reply, answered, first_replies}
 use Rattle.questions.proofs.Updates.{none_some, false_true, eqb_same, eqb_cases}
@@ -14,16 +14,16 @@ use Rattle.questions.proofs.Updates.{none_some, false_true, eqb_same, eqb_cases}
 -- the value of the first reply to an id
 abbrev pub reply_to : (id : ℕ) → List Reply → Option Result
 reply_to id [] = none
-reply_to id (r ∷ rest) = if◌then◌else◌ (eqb id r.id) (some r.value) (reply_to id rest)
+reply_to id (r ∷ rest) = if◌then◌otherwise◌ (eqb id r.id) (some r.value) (reply_to id rest)
 
 -- a reply more changes none that is there
 pub reply_more : (id : ℕ) (v : Result) (l : List Reply) (x : Reply) → reply_to id l ≡ some v → reply_to id (l ++ x ∷ []) ≡ some v
 reply_more id v [] x e = none_some v refl e
 reply_more id v (r ∷ l) x e = go (eqb id r.id) e (reply_more id v l x)
   where
-    go : (b : Bool) → if◌then◌else◌ b (some r.value) (reply_to id l) ≡ some v →
+    go : (b : Bool) → if◌then◌otherwise◌ b (some r.value) (reply_to id l) ≡ some v →
         (reply_to id l ≡ some v → reply_to id (l ++ x ∷ []) ≡ some v) →
-        if◌then◌else◌ b (some r.value) (reply_to id (l ++ x ∷ [])) ≡ some v
+        if◌then◌otherwise◌ b (some r.value) (reply_to id (l ++ x ∷ [])) ≡ some v
     go true h rec = h
     go false h rec = rec h
 
@@ -34,16 +34,16 @@ reply_other id [] x n = go (eqb_cases id x.id)
     go : ((id ≡ x.id) × (eqb id x.id ≡ true)) ⊎ ((id ≡ x.id → ⊥) × (eqb id x.id ≡ false)) → reply_to id (x ∷ []) ≡ none
     go (inl h) = absurd (n h.0)
     go (inr h) = rw h.1 refl
-reply_other id (r ∷ l) x n = ap (if◌then◌else◌ (eqb id r.id) (some r.value)) (reply_other id l x n)
+reply_other id (r ∷ l) x n = ap (if◌then◌otherwise◌ (eqb id r.id) (some r.value)) (reply_other id l x n)
 
 -- and is the first where there was none
 pub reply_new : (id : ℕ) (v : Result) (l : List Reply) → reply_to id l ≡ none → reply_to id (l ++ record { id = id; value = v } ∷ []) ≡ some v
 reply_new id v [] e = rw (eqb_same id) refl
 reply_new id v (r ∷ l) e = go (eqb id r.id) e (reply_new id v l)
   where
-    go : (b : Bool) → if◌then◌else◌ b (some r.value) (reply_to id l) ≡ none →
+    go : (b : Bool) → if◌then◌otherwise◌ b (some r.value) (reply_to id l) ≡ none →
         (reply_to id l ≡ none → reply_to id (l ++ record { id = id; value = v } ∷ []) ≡ some v) →
-        if◌then◌else◌ b (some r.value) (reply_to id (l ++ record { id = id; value = v } ∷ [])) ≡ some v
+        if◌then◌otherwise◌ b (some r.value) (reply_to id (l ++ record { id = id; value = v } ∷ [])) ≡ some v
     go true h rec = none_some r.value h refl
     go false h rec = rec h
 
@@ -65,13 +65,13 @@ unfolding first_replies
 answered_first id v [] e = none_some v refl e
 answered_first id v (r ∷ rs) e = go (eqb_cases id r.id) (answered_first id v rs)
   where
-    rest : (b : Bool) → (id ≡ r.id → ⊥) → reply_to id (if◌then◌else◌ b (first_replies rs) (first_replies rs ++ r ∷ [])) ≡ some v →
+    rest : (b : Bool) → (id ≡ r.id → ⊥) → reply_to id (if◌then◌otherwise◌ b (first_replies rs) (first_replies rs ++ r ∷ [])) ≡ some v →
         reply_to id (first_replies rs) ≡ some v
     rest true n h = h
     rest false n h = sym (reply_other id (first_replies rs) r n) ∙ h
 
     go : ((id ≡ r.id) × (eqb id r.id ≡ true)) ⊎ ((id ≡ r.id → ⊥) × (eqb id r.id ≡ false)) →
         (reply_to id (first_replies rs) ≡ some v → answered id rs ≡ true) →
-        if◌then◌else◌ (eqb id r.id) true (answered id rs) ≡ true
+        if◌then◌otherwise◌ (eqb id r.id) true (answered id rs) ≡ true
     go (inl h) rec = rw h.1 refl
     go (inr h) rec = rw h.1 (rec (rest (answered r.id rs) h.0 e))

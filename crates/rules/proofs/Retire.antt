@@ -6,7 +6,7 @@ use Prim.Native.Nat.{ℕ, ◌≤◌, ◌<◌}
 use native.Mathlib.Omega.{arith}
 use borrow.Author.Tests.{lt-ltb, ltb-true, le-ltb}
 use lib.Dec.{ltb, nltb→le}
-use Rattle.questions.specs.Basics.{if◌then◌else◌, is_some, each}
+use Rattle.questions.specs.Basics.{if◌then◌otherwise◌, is_some, each}
 use Rattle.rules.specs.Instructions.{Pack}
 use Rattle.rules.specs.Store.{Request, Store, floor_of, booked_below, book_retired, log_retired, retired}
 use Rattle.rules.specs.Logged.{logged_through}
@@ -22,24 +22,24 @@ use Rattle.rules.proofs.Follow.{Free, Same, Grows, same_grows}
 -- ── What is kept and what is removed ──
 
 -- from the floor on nothing is removed
-pub kept_from : {A : Type 0} (floor id : ℕ) (o : Option A) → floor ≤ id → if◌then◌else◌ (ltb id floor) none o ≡ o
+pub kept_from : {A : Type 0} (floor id : ℕ) (o : Option A) → floor ≤ id → if◌then◌otherwise◌ (ltb id floor) none o ≡ o
 kept_from floor id o l = rw (le-ltb id floor l) refl
 
 -- below it nothing is left
-pub gone_below : {A : Type 0} (floor id : ℕ) (o : Option A) → id < floor → if◌then◌else◌ (ltb id floor) none o ≡ none
+pub gone_below : {A : Type 0} (floor id : ℕ) (o : Option A) → id < floor → if◌then◌otherwise◌ (ltb id floor) none o ≡ none
 gone_below floor id o l = rw (lt-ltb id floor l) refl
 
 -- what is there was there and is from the floor on
-pub there_from : {A : Type 0} (floor id : ℕ) (o : Option A) (x : A) → if◌then◌else◌ (ltb id floor) none o ≡ some x →
+pub there_from : {A : Type 0} (floor id : ℕ) (o : Option A) (x : A) → if◌then◌otherwise◌ (ltb id floor) none o ≡ some x →
     (floor ≤ id) × (o ≡ some x)
 there_from {A} floor id o x e = go (ltb id floor) refl e
   where
-    go : (b : Bool) → ltb id floor ≡ b → if◌then◌else◌ b none o ≡ some x → (floor ≤ id) × (o ≡ some x)
+    go : (b : Bool) → ltb id floor ≡ b → if◌then◌otherwise◌ b none o ≡ some x → (floor ≤ id) × (o ≡ some x)
     go true h f = none_some x refl f
     go false h f = (nltb→le id floor (rw h tt), f)
 
 -- where there was nothing, there is nothing
-pub none_there : {A : Type 0} (b : Bool) (o : Option A) → o ≡ none → if◌then◌else◌ b none o ≡ none
+pub none_there : {A : Type 0} (b : Bool) (o : Option A) → o ≡ none → if◌then◌otherwise◌ b none o ≡ none
 none_there true o e = refl
 none_there false o e = e
 
@@ -168,4 +168,4 @@ one_booked s floor id q l e = count_one floor (λ i. is_some (s.book i)) id l (a
 pub none_booked : (s : Store) (floor : ℕ) → ((id : ℕ) → id < floor → s.book id ≡ none) → booked_below s floor ≡ 0
 unfolding booked_below
 none_booked s floor h =
-    sum_same floor _ _ (λ id l. ap (λ (o : Option Request). if◌then◌else◌ (is_some o) 1 0) (h id l)) ∙ count_none floor
+    sum_same floor _ _ (λ id l. ap (λ (o : Option Request). if◌then◌otherwise◌ (is_some o) 1 0) (h id l)) ∙ count_none floor

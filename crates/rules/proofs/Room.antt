@@ -11,7 +11,7 @@ use native.Mathlib.Decide.{ℕ_discrete, dec_lt}
 use borrow.Author.Tests.{le-leb, ltb-true}
 use lib.Dec.{eqb, ltb, nltb→le}
 use lib.ListN.{length}
-use Rattle.questions.specs.Basics.{if◌then◌else◌, update}
+use Rattle.questions.specs.Basics.{if◌then◌otherwise◌, update}
 use Rattle.rules.specs.Instructions.{Code, Pack, Place, BEGIN, instruction_at}
 use Rattle.rules.specs.Shapes.{outside}
 use Rattle.rules.specs.Blocks.{Result, Block, run_block, rows_needed}
@@ -240,7 +240,7 @@ module _ (pack : Pack) (P id : ℕ) (q : Request) (checked : Checked (request_co
 
       -- the rows of the block and of any route from behind it are free
       takes : (k : ℕ) → k < P → (r : Route code to.place.position) →
-          s.store.used k + if◌then◌else◌ (eqb p k) (rows_needed b) 0 + count_on (by_rows k) code _ r ≤ s.store.room
+          s.store.used k + if◌then◌otherwise◌ (eqb p k) (rows_needed b) 0 + count_on (by_rows k) code _ r ≤ s.store.room
       takes k l r = go (eqb p k) ((lead r).1 (by_rows k))
         where
           free : s.store.used k + count_on (by_rows k) code c.place.position (lead r).0 ≤ s.store.room
@@ -248,8 +248,8 @@ module _ (pack : Pack) (P id : ℕ) (q : Request) (checked : Checked (request_co
 
           go : (e : Bool) →
               count_on (by_rows k) code c.place.position (lead r).0
-              ≡ if◌then◌else◌ e (1 + puts_on code (suc c.place.position) way.0) 0 + count_on (by_rows k) code _ r →
-              s.store.used k + if◌then◌else◌ e (rows_needed b) 0 + count_on (by_rows k) code _ r ≤ s.store.room
+              ≡ if◌then◌otherwise◌ e (1 + puts_on code (suc c.place.position) way.0) 0 + count_on (by_rows k) code _ r →
+              s.store.used k + if◌then◌otherwise◌ e (rows_needed b) 0 + count_on (by_rows k) code _ r ≤ s.store.room
           go true e = omega (arith, e, free, way.1)
           go false e = omega (arith, e, free)
 
@@ -258,8 +258,8 @@ module _ (pack : Pack) (P id : ℕ) (q : Request) (checked : Checked (request_co
       enough =
           let w = does_forward code checked c place_is.1 place_is.2 from p onto o b.result in
           let r = some_route code checked to.place.position w.in_code w.side in
-          let l : s.store.used p + if◌then◌else◌ true (rows_needed b) 0 + count_on (by_rows p) code _ r ≤ s.store.room =
-          subst (λ e. s.store.used p + if◌then◌else◌ e (rows_needed b) 0 + count_on (by_rows p) code _ r ≤ s.store.room)
+          let l : s.store.used p + if◌then◌otherwise◌ true (rows_needed b) 0 + count_on (by_rows p) code _ r ≤ s.store.room =
+          subst (λ e. s.store.used p + if◌then◌otherwise◌ e (rows_needed b) 0 + count_on (by_rows p) code _ r ≤ s.store.room)
           (eqb_same p) (takes p in_parts r) in
           omega (arith, l)
 
@@ -279,18 +279,18 @@ module _ (pack : Pack) (P id : ℕ) (q : Request) (checked : Checked (request_co
       abbrev used' : ℕ → ℕ
       used' = update s.store.used p (s.store.used p + rows_needed b)
 
-      used_after : (k : ℕ) → used' k ≡ s.store.used k + if◌then◌else◌ (eqb p k) (rows_needed b) 0
+      used_after : (k : ℕ) → used' k ≡ s.store.used k + if◌then◌otherwise◌ (eqb p k) (rows_needed b) 0
       used_after k = go (eqb_cases p k)
         where
           go : ((p ≡ k) × (eqb p k ≡ true)) ⊎ ((p ≡ k → ⊥) × (eqb p k ≡ false)) →
-              used' k ≡ s.store.used k + if◌then◌else◌ (eqb p k) (rows_needed b) 0
+              used' k ≡ s.store.used k + if◌then◌otherwise◌ (eqb p k) (rows_needed b) 0
           go (inl e) =
               subst (λ j. used' j ≡ s.store.used j + rows_needed b) e.0
               (update_same s.store.used p (s.store.used p + rows_needed b))
-              ∙ ap (λ x. s.store.used k + if◌then◌else◌ x (rows_needed b) 0) (sym e.1)
+              ∙ ap (λ x. s.store.used k + if◌then◌otherwise◌ x (rows_needed b) 0) (sym e.1)
           go (inr e) =
               update_other s.store.used p (s.store.used p + rows_needed b) k (λ i. e.0 (sym i))
-              ∙ sym (add-zero (s.store.used k)) ∙ ap (λ x. s.store.used k + if◌then◌else◌ x (rows_needed b) 0) (sym e.1)
+              ∙ sym (add-zero (s.store.used k)) ∙ ap (λ x. s.store.used k + if◌then◌otherwise◌ x (rows_needed b) 0) (sym e.1)
 
       room_after : (k : ℕ) → k < P → (r : Route code to.place.position) → used' k + count_on (by_rows k) code _ r ≤ s.store.room
       room_after k l r =

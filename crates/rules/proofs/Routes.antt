@@ -12,7 +12,7 @@ use borrow.Author.Tests.{ltb-true, ltb-false}
 use lib.Dec.{eqb, ltb}
 use lib.ListN.{length, drop, length-drop}
 use lib.Seq.{drop-cons, drop-drop}
-use Rattle.questions.specs.Basics.{if◌then◌else◌}
+use Rattle.questions.specs.Basics.{if◌then◌otherwise◌}
 use Rattle.questions.proofs.Updates.{none_some, false_true, eqb_cases}
 use Rattle.rules.specs.Instructions.{Code, Instruction, SET, COPY, ADD, SUB, JLT, JEQ, BEGIN, END, GET, PUT, HAS, RETURN}
 use Rattle.rules.specs.Instructions.{instruction_at}
@@ -25,7 +25,7 @@ use Rattle.rules.proofs.Blocks.{inside_through, through_from}
 
 -- the larger of two numbers
 abbrev pub larger : (a b : ℕ) → ℕ
-larger a b = if◌then◌else◌ (ltb a b) b a
+larger a b = if◌then◌otherwise◌ (ltb a b) b a
 
 -- a block counts no less where more PUTs are passed in it
 abbrev pub Rising : Counting → Type 0
@@ -134,7 +134,7 @@ through_length : (rest : Code) → through_end rest ≤ length rest
 through_length [] = omega arith
 through_length (x ∷ rest) = go (is_end x) (through_length rest)
   where
-    go : (b : Bool) → through_end rest ≤ length rest → if◌then◌else◌ b 1 (suc (through_end rest)) ≤ suc (length rest)
+    go : (b : Bool) → through_end rest ≤ length rest → if◌then◌otherwise◌ b 1 (suc (through_end rest)) ≤ suc (length rest)
     go true l = omega arith
     go false l = omega arith
 
@@ -204,7 +204,7 @@ module _ (code : Code) where
           all_at : (j : ℕ) → j ≡ t → (w : Way code j) → puts_on code j w ≤ k
           all_at j e w = subst (λ y. (w : Way code y) → puts_on code y w ≤ k) (sym e) h w
 
-      go : (b : Bool) → ltb n m ≡ b → Puts i (if◌then◌else◌ b m n)
+      go : (b : Bool) → ltb n m ≡ b → Puts i (if◌then◌otherwise◌ b m n)
       go true e =
           let l = ltb-true n m e in
           record {
@@ -268,7 +268,7 @@ module _ (code : Code) where
             all_at j e r = subst (λ y. (r : Route code y) → count_on c code y r ≤ k) (sym e) h r
         bound _ k g o f h (Route.through i p e w r) = on_begin i p g e
 
-        go : (b : Bool) → ltb n m ≡ b → Counts i (c.one + if◌then◌else◌ b m n)
+        go : (b : Bool) → ltb n m ≡ b → Counts i (c.one + if◌then◌otherwise◌ b m n)
         go true e =
             let l = ltb-true n m e in
             record {
@@ -427,14 +427,14 @@ module _ (code : Code) (checked : Checked code) where
   end_ahead : (i : ℕ) → i < length code → GoesOn (shape (X code i)) → through_end (drop i code) ≡ suc (through_end (drop (suc i) code))
   end_ahead i h g =
       ap through_end (drop-cons code i (RETURN 0) h)
-      ∙ ap (λ o. if◌then◌else◌ (closing o) 1 (suc (through_end (drop (suc i) code)))) g.same_side
+      ∙ ap (λ o. if◌then◌otherwise◌ (closing o) 1 (suc (through_end (drop (suc i) code)))) g.same_side
 
   -- a way passes fewer PUTs than it has instructions up to its END, and with it
   way_within : (i : ℕ) → i < length code → side_at code i ≡ inside → (w : Way code i) → puts_on code i w < through_end (drop i code)
   unfolding puts_on
   way_within _ h s (Way.ends i d e) =
       let t = ap through_end (drop-cons code i (RETURN 0) h)
-      ∙ ap (λ y. if◌then◌else◌ (is_end y) 1 (suc (through_end (drop (suc i) code)))) e in
+      ∙ ap (λ y. if◌then◌otherwise◌ (is_end y) 1 (suc (through_end (drop (suc i) code)))) e in
       omega (arith, t)
   way_within _ h s (Way.passes i g w) =
       let n = same_side code checked i h g in

@@ -5,7 +5,7 @@ use mathlib.Core.Logic.{◌⊎◌, inl, inr}
 use mathlib.Core.Option.{Option, none, some}
 use Prim.Native.Nat.{ℕ, suc}
 use lib.Dec.{ltb, eqb}
-use Rattle.questions.specs.Basics.{if◌then◌else◌}
+use Rattle.questions.specs.Basics.{if◌then◌otherwise◌}
 use Rattle.rules.specs.Instructions.{Place, register, goto, next, Instruction, SET, COPY, ADD, SUB, JLT, JEQ, BEGIN, END, GET, PUT}
 use Rattle.rules.specs.Instructions.{HAS, RETURN, Act, moves, opens, closes, reads, puts, returns, act}
 use Rattle.rules.specs.Shapes.{outside, inside, Shape, shape, GoesOn}
@@ -27,8 +27,8 @@ on b l = record { same_side = b; leads_on = l }
 
 -- a jump goes either way
 either : (at : Place) (target : ℕ) (taken : Bool) →
-    ((if◌then◌else◌ taken (goto at target) (next at)).position ≡ suc at.position)
-    ⊎ (some target ≡ some (if◌then◌else◌ taken (goto at target) (next at)).position)
+    ((if◌then◌otherwise◌ taken (goto at target) (next at)).position ≡ suc at.position)
+    ⊎ (some target ≡ some (if◌then◌otherwise◌ taken (goto at target) (next at)).position)
 either at target true = inr refl
 either at target false = inl refl
 

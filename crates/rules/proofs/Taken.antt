@@ -7,7 +7,7 @@ use mathlib.Core.Option.{none, some}
 use Prim.Native.Nat.{ℕ, zero, suc, ◌+◌, ◌-◌, ◌≤◌, ◌<◌}
 use native.Mathlib.Omega.{arith}
 use lib.ListN.{length}
-use Rattle.questions.specs.Basics.{if◌then◌else◌, is_some}
+use Rattle.questions.specs.Basics.{if◌then◌otherwise◌, is_some}
 use Rattle.rules.specs.Instructions.{Code, Place, next, Instruction, BEGIN, Act, moves, opens, closes, reads, puts, returns}
 use Rattle.rules.specs.Instructions.{act_at, instruction_at}
 use Rattle.rules.specs.Shapes.{outside, inside, shape, GoesOn}
@@ -72,7 +72,7 @@ module _ (code : Code) (checked : Checked code) (begin p : ℕ) (opened : begin 
       (rec _ (omega arith) (next_between code checked begin p opened begins w.place.position h on))
     where
       at_most_one : (b : Bool) →
-          if◌then◌else◌ b w.new_keys (suc w.new_keys) ≤ w.new_keys + puts_of (instruction_at code w.place.position)
+          if◌then◌otherwise◌ b w.new_keys (suc w.new_keys) ≤ w.new_keys + puts_of (instruction_at code w.place.position)
       at_most_one true = omega arith
       at_most_one false = omega (arith, one)
   one_way w f rec h (closes v) (s, b, (d, e, g)) = (Way.ends w.place.position d e, omega arith)

@@ -8,7 +8,7 @@ use mathlib.Core.Option.{Option, none, some, some-injective}
 use Prim.Native.Nat.{ℕ, suc, ◌≤◌, ◌<◌}
 use native.Mathlib.Omega.{arith}
 use lib.Dec.{eqb, ltb, lt→ltb, ltb→lt}
-use Rattle.questions.specs.Basics.{if◌then◌else◌, update, is_some}
+use Rattle.questions.specs.Basics.{if◌then◌otherwise◌, update, is_some}
 use Rattle.rules.specs.Instructions.{Code, Pack, Place}
 use Rattle.rules.specs.Blocks.{Table, Result, Block, run_block}
 use Rattle.rules.specs.Courses.{Course, Next, goes, does, says, next_of}
@@ -406,7 +406,7 @@ module _
         ≡ turn_on s slot a (request_code pack r.request) (next_of (request_code pack r.request) a.course)
     outcome_is = turn_is pack s t slot a live_stands
 
-    fed_is : fed pack m t (feeds (turn slot)) ≡ if◌then◌else◌ (ltb r.move_count (suc k)) (move pack m a.id r) m
+    fed_is : fed pack m t (feeds (turn slot)) ≡ if◌then◌otherwise◌ (ltb r.move_count (suc k)) (move pack m a.id r) m
     unfolding fed fed_turn fed_run
     fed_is = ap (fed_turn pack m) live.tally_is ∙ ap (fed_run pack m a.id (suc k)) live.run_is
 
@@ -426,7 +426,7 @@ module _
         (update t slot (tally_of a.id (suc r.move_count))) rs
         (turn_in pack s slot (some a))
         (turn_on s slot stands (request_code pack r.request) (next_of (request_code pack r.request) r.course))
-        (fed_is ∙ ap (λ b. if◌then◌else◌ b (move pack m a.id r) m) (ltb_yes r.move_count (suc k) (omega arith)))
+        (fed_is ∙ ap (λ b. if◌then◌otherwise◌ b (move pack m a.id r) m) (ltb_yes r.move_count (suc k) (omega arith)))
         (tallied_is ∙ ap (λ n. update t slot (tally_of a.id (suc n))) e)
         (outcome_is
         ∙ ap (λ (x : Agent). turn_on s slot x (request_code pack r.request) (next_of (request_code pack r.request) x.course)) same)
@@ -454,7 +454,7 @@ module _
     back_turn l =
         keeps_by pack (fed pack m t (feeds (turn slot))) m (tallied t (feeds (turn slot))) (update t slot (tally_of a.id (suc k))) rs
         (turn_in pack s slot (some a)) (turn_on s slot a (request_code pack r.request) (next_of (request_code pack r.request) a.course))
-        (fed_is ∙ ap (λ b. if◌then◌else◌ b (move pack m a.id r) m) (ltb_no r.move_count (suc k) l))
+        (fed_is ∙ ap (λ b. if◌then◌otherwise◌ b (move pack m a.id r) m) (ltb_no r.move_count (suc k) l))
         tallied_is outcome_is
         (back_keeps pack s m t rs inv slot low a r k live.run_is live.book_is progress l live.there
         (next_of (request_code pack r.request) a.course) refl)

@@ -9,7 +9,7 @@ use native.Mathlib.Omega.{arith}
 use borrow.Author.Tests.{le-leb, leb-true, ltb-true}
 use lib.Dec.{ltb, leb, eqb}
 use lib.ListN.{length}
-use Rattle.questions.specs.Basics.{if◌then◌else◌}
+use Rattle.questions.specs.Basics.{if◌then◌otherwise◌}
 use Rattle.rules.specs.Worklist.{Mark, waiting, taken, Entry, Worklist, most_listed, is_waiting, is_marked, listed, all_once, all_marked}
 use Rattle.rules.specs.Worklist.{list_right, can_list, added, took_first, without, all_waiting, restarted}
 use Rattle.questions.proofs.Tests.{no_yes, yes_no, and_left, and_right, and_both}
@@ -25,12 +25,12 @@ SameOrNot j k = ((j ≡ k) × (eqb j k ≡ true)) ⊎ ((j ≡ k → ⊥) × (eqb
 -- ── Who is listed ──
 
 -- who is listed with one entry more at the end
-pub listed_more : (id : ℕ) (l : Worklist) (x : Entry) → listed id (l ++ x ∷ []) ≡ if◌then◌else◌ (listed id l) true (listed id (x ∷ []))
+pub listed_more : (id : ℕ) (l : Worklist) (x : Entry) → listed id (l ++ x ∷ []) ≡ if◌then◌otherwise◌ (listed id l) true (listed id (x ∷ []))
 listed_more id [] x = refl
 listed_more id (e ∷ l) x = go (eqb id e.id) (listed_more id l x)
   where
-    go : (b : Bool) → listed id (l ++ x ∷ []) ≡ if◌then◌else◌ (listed id l) true (listed id (x ∷ [])) →
-        if◌then◌else◌ b true (listed id (l ++ x ∷ [])) ≡ if◌then◌else◌ (if◌then◌else◌ b true (listed id l)) true (listed id (x ∷ []))
+    go : (b : Bool) → listed id (l ++ x ∷ []) ≡ if◌then◌otherwise◌ (listed id l) true (listed id (x ∷ [])) →
+        if◌then◌otherwise◌ b true (listed id (l ++ x ∷ [])) ≡ if◌then◌otherwise◌ (if◌then◌otherwise◌ b true (listed id l)) true (listed id (x ∷ []))
     go true rec = refl
     go false rec = rec
 
@@ -39,16 +39,16 @@ pub listed_added : (id j : ℕ) (l : Worklist) → listed j l ≡ true → liste
 unfolding added
 listed_added id j l e = go (listed id l)
   where
-    go : (b : Bool) → listed j (if◌then◌else◌ b l (l ++ entry id waiting ∷ [])) ≡ true
+    go : (b : Bool) → listed j (if◌then◌otherwise◌ b l (l ++ entry id waiting ∷ [])) ≡ true
     go true = e
-    go false = listed_more j l (entry id waiting) ∙ ap (λ b. if◌then◌else◌ b true (listed j (entry id waiting ∷ []))) e
+    go false = listed_more j l (entry id waiting) ∙ ap (λ b. if◌then◌otherwise◌ b true (listed j (entry id waiting ∷ []))) e
 
 -- who is listed after an addition was listed, or is the one added
 pub added_listed : (id j : ℕ) (l : Worklist) → listed j (added id l) ≡ true → (listed j l ≡ true) ⊎ (j ≡ id)
 unfolding added
 added_listed id j l e = go (listed id l) e
   where
-    new : (b : Bool) → listed j l ≡ b → if◌then◌else◌ b true (listed j (entry id waiting ∷ [])) ≡ true → (listed j l ≡ true) ⊎ (j ≡ id)
+    new : (b : Bool) → listed j l ≡ b → if◌then◌otherwise◌ b true (listed j (entry id waiting ∷ [])) ≡ true → (listed j l ≡ true) ⊎ (j ≡ id)
     new true h f = inl h
     new false h f = one (eqb_cases j id)
       where
@@ -56,7 +56,7 @@ added_listed id j l e = go (listed id l) e
         one (inl c) = inr c.0
         one (inr c) = no_yes (rw c.1 at f)
 
-    go : (b : Bool) → listed j (if◌then◌else◌ b l (l ++ entry id waiting ∷ [])) ≡ true → (listed j l ≡ true) ⊎ (j ≡ id)
+    go : (b : Bool) → listed j (if◌then◌otherwise◌ b l (l ++ entry id waiting ∷ [])) ≡ true → (listed j l ≡ true) ⊎ (j ≡ id)
     go true h = inl h
     go false h = new (listed j l) refl (sym (listed_more j l (entry id waiting)) ∙ h)
 
@@ -66,20 +66,20 @@ listed_took j [] = refl
 listed_took j (e ∷ l) = go (is_waiting e.mark) (listed_took j l)
   where
     go : (b : Bool) → listed j (took_first l) ≡ listed j l →
-        listed j (if◌then◌else◌ b (entry e.id taken ∷ l) (e ∷ took_first l)) ≡ if◌then◌else◌ (eqb j e.id) true (listed j l)
+        listed j (if◌then◌otherwise◌ b (entry e.id taken ∷ l) (e ∷ took_first l)) ≡ if◌then◌otherwise◌ (eqb j e.id) true (listed j l)
     go true rec = refl
-    go false rec = ap (if◌then◌else◌ (eqb j e.id) true) rec
+    go false rec = ap (if◌then◌otherwise◌ (eqb j e.id) true) rec
 
 -- nor does a restart
 pub listed_waiting : (j : ℕ) (l : Worklist) → listed j (all_waiting l) ≡ listed j l
 listed_waiting j [] = refl
-listed_waiting j (e ∷ l) = ap (if◌then◌else◌ (eqb j e.id) true) (listed_waiting j l)
+listed_waiting j (e ∷ l) = ap (if◌then◌otherwise◌ (eqb j e.id) true) (listed_waiting j l)
 
 pub listed_restarted : (j : ℕ) (l : Worklist) → listed j (restarted l) ≡ listed j l
 unfolding restarted
 listed_restarted j l = go (list_right l)
   where
-    go : (b : Bool) → listed j (if◌then◌else◌ b (all_waiting l) l) ≡ listed j l
+    go : (b : Bool) → listed j (if◌then◌otherwise◌ b (all_waiting l) l) ≡ listed j l
     go true = listed_waiting j l
     go false = refl
 
@@ -89,30 +89,30 @@ listed_without id j [] n = refl
 listed_without id j (e ∷ l) n = go (eqb_cases id e.id) (listed_without id j l n)
   where
     go : SameOrNot id e.id → listed j (without id l) ≡ listed j l →
-        listed j (if◌then◌else◌ (eqb id e.id) l (e ∷ without id l)) ≡ if◌then◌else◌ (eqb j e.id) true (listed j l)
+        listed j (if◌then◌otherwise◌ (eqb id e.id) l (e ∷ without id l)) ≡ if◌then◌otherwise◌ (eqb j e.id) true (listed j l)
     go (inl h) rec = rw h.1 (other (eqb_cases j e.id))
       where
-        other : SameOrNot j e.id → listed j l ≡ if◌then◌else◌ (eqb j e.id) true (listed j l)
+        other : SameOrNot j e.id → listed j l ≡ if◌then◌otherwise◌ (eqb j e.id) true (listed j l)
         other (inl c) = absurd (n (c.0 ∙ sym h.0))
         other (inr c) = rw c.1 refl
-    go (inr h) rec = rw h.1 (ap (if◌then◌else◌ (eqb j e.id) true) rec)
+    go (inr h) rec = rw h.1 (ap (if◌then◌otherwise◌ (eqb j e.id) true) rec)
 
 -- who is listed after a removal was listed
 pub without_listed : (id j : ℕ) (l : Worklist) → listed j (without id l) ≡ true → listed j l ≡ true
 without_listed id j [] e = e
 without_listed id j (x ∷ l) e = go (eqb id x.id) e (without_listed id j l)
   where
-    more : (b : Bool) → listed j l ≡ true → if◌then◌else◌ b true (listed j l) ≡ true
+    more : (b : Bool) → listed j l ≡ true → if◌then◌otherwise◌ b true (listed j l) ≡ true
     more true h = refl
     more false h = h
 
-    sub : (b : Bool) → if◌then◌else◌ b true (listed j (without id l)) ≡ true → (listed j (without id l) ≡ true → listed j l ≡ true) →
-        if◌then◌else◌ b true (listed j l) ≡ true
+    sub : (b : Bool) → if◌then◌otherwise◌ b true (listed j (without id l)) ≡ true → (listed j (without id l) ≡ true → listed j l ≡ true) →
+        if◌then◌otherwise◌ b true (listed j l) ≡ true
     sub true h rec = refl
     sub false h rec = rec h
 
-    go : (b : Bool) → listed j (if◌then◌else◌ b l (x ∷ without id l)) ≡ true → (listed j (without id l) ≡ true → listed j l ≡ true) →
-        if◌then◌else◌ (eqb j x.id) true (listed j l) ≡ true
+    go : (b : Bool) → listed j (if◌then◌otherwise◌ b l (x ∷ without id l)) ≡ true → (listed j (without id l) ≡ true → listed j l ≡ true) →
+        if◌then◌otherwise◌ (eqb j x.id) true (listed j l) ≡ true
     go true h rec = more (eqb j x.id) h
     go false h rec = sub (eqb j x.id) h rec
 
@@ -161,14 +161,14 @@ once_more (e ∷ l) x o n = go (eqb_cases x.id e.id) (once_more l x (and_right (
         (rec (rw h.1 at n))
       where
         apart : SameOrNot e.id x.id →
-            if◌then◌else◌ (eqb e.id x.id) true false ≡ false
+            if◌then◌otherwise◌ (eqb e.id x.id) true false ≡ false
         apart (inl c) = absurd (h.0 (sym c.0))
         apart (inr c) = rw c.1 refl
 
         absent : listed e.id (l ++ x ∷ []) ≡ false
         absent =
             listed_more e.id l x
-            ∙ ap (λ b. if◌then◌else◌ b true (listed e.id (x ∷ [])))
+            ∙ ap (λ b. if◌then◌otherwise◌ b true (listed e.id (x ∷ [])))
             (not_false (listed e.id l) (and_left (not (listed e.id l)) _ o))
             ∙ apart (eqb_cases e.id x.id)
 
@@ -182,8 +182,8 @@ pub right_added : (id : ℕ) (l : Worklist) → Right l → can_list id l ≡ tr
 unfolding added can_list
 right_added id l r c = go (listed id l) refl c
   where
-    go : (b : Bool) → listed id l ≡ b → if◌then◌else◌ b true (ltb (length l) most_listed) ≡ true →
-        Right (if◌then◌else◌ b l (l ++ entry id waiting ∷ []))
+    go : (b : Bool) → listed id l ≡ b → if◌then◌otherwise◌ b true (ltb (length l) most_listed) ≡ true →
+        Right (if◌then◌otherwise◌ b l (l ++ entry id waiting ∷ []))
     go true e h = r
     go false e h =
         record {
@@ -198,7 +198,7 @@ length_took [] = refl
 length_took (e ∷ l) = go (is_waiting e.mark) (length_took l)
   where
     go : (b : Bool) → length (took_first l) ≡ length l →
-        length (if◌then◌else◌ b (entry e.id taken ∷ l) (e ∷ took_first l)) ≡ suc (length l)
+        length (if◌then◌otherwise◌ b (entry e.id taken ∷ l) (e ∷ took_first l)) ≡ suc (length l)
     go true rec = refl
     go false rec = ap suc rec
 
@@ -207,7 +207,7 @@ once_took [] = refl
 once_took (e ∷ l) = go (is_waiting e.mark) (once_took l)
   where
     go : (b : Bool) → all_once (took_first l) ≡ all_once l →
-        all_once (if◌then◌else◌ b (entry e.id taken ∷ l) (e ∷ took_first l)) ≡ (not (listed e.id l) && all_once l)
+        all_once (if◌then◌otherwise◌ b (entry e.id taken ∷ l) (e ∷ took_first l)) ≡ (not (listed e.id l) && all_once l)
     go true rec = refl
     go false rec = rw (rec, listed_took e.id l) refl
 
@@ -215,7 +215,7 @@ marked_took : (l : Worklist) → all_marked l ≡ true → all_marked (took_firs
 marked_took [] m = refl
 marked_took (e ∷ l) m = go (is_waiting e.mark) (marked_took l (and_right (is_marked e.mark) _ m))
   where
-    go : (b : Bool) → all_marked (took_first l) ≡ true → all_marked (if◌then◌else◌ b (entry e.id taken ∷ l) (e ∷ took_first l)) ≡ true
+    go : (b : Bool) → all_marked (took_first l) ≡ true → all_marked (if◌then◌otherwise◌ b (entry e.id taken ∷ l) (e ∷ took_first l)) ≡ true
     go true rec = and_right (is_marked e.mark) _ m
     go false rec = and_both (is_marked e.mark) (all_marked (took_first l)) (and_left (is_marked e.mark) _ m) rec
 
@@ -232,7 +232,7 @@ length_without : (id : ℕ) (l : Worklist) → length (without id l) ≤ length 
 length_without id [] = omega arith
 length_without id (e ∷ l) = go (eqb id e.id) (length_without id l)
   where
-    go : (b : Bool) → length (without id l) ≤ length l → length (if◌then◌else◌ b l (e ∷ without id l)) ≤ suc (length l)
+    go : (b : Bool) → length (without id l) ≤ length l → length (if◌then◌otherwise◌ b l (e ∷ without id l)) ≤ suc (length l)
     go true rec = omega arith
     go false rec = omega arith
 
@@ -244,7 +244,7 @@ once_without id (e ∷ l) o = go (eqb id e.id) (once_without id l (and_right (no
     absent true h = no_yes (sym (not_false (listed e.id l) (and_left (not (listed e.id l)) _ o)) ∙ without_listed id e.id l h)
     absent false h = refl
 
-    go : (b : Bool) → all_once (without id l) ≡ true → all_once (if◌then◌else◌ b l (e ∷ without id l)) ≡ true
+    go : (b : Bool) → all_once (without id l) ≡ true → all_once (if◌then◌otherwise◌ b l (e ∷ without id l)) ≡ true
     go true rec = and_right (not (listed e.id l)) _ o
     go false rec =
         and_both (not (listed e.id (without id l))) (all_once (without id l)) (absent (listed e.id (without id l)) refl) rec
@@ -253,7 +253,7 @@ marked_without : (id : ℕ) (l : Worklist) → all_marked l ≡ true → all_mar
 marked_without id [] m = refl
 marked_without id (e ∷ l) m = go (eqb id e.id) (marked_without id l (and_right (is_marked e.mark) _ m))
   where
-    go : (b : Bool) → all_marked (without id l) ≡ true → all_marked (if◌then◌else◌ b l (e ∷ without id l)) ≡ true
+    go : (b : Bool) → all_marked (without id l) ≡ true → all_marked (if◌then◌otherwise◌ b l (e ∷ without id l)) ≡ true
     go true rec = and_right (is_marked e.mark) _ m
     go false rec = and_both (is_marked e.mark) (all_marked (without id l)) (and_left (is_marked e.mark) _ m) rec
 

@@ -1,7 +1,7 @@
 -- The run of a block, one definition for runtime and plain machine; its result, the rows that it needs, and the position behind END.
 use Rattle.std.specs.Prelude.{Bool, true, false, [], ◌∷◌, ◌≡◌, ℕ, zero, suc, ◌+◌, ◌-◌, ◌<◌, length, set, drop}
 use Rattle.std.proofs.Math.Option.{Option, none, some}
-use Rattle.questions.specs.Basics.{if◌then◌else◌, update, is_some}
+use Rattle.questions.specs.Basics.{if◌then◌otherwise◌, update, is_some}
 use Rattle.rules.specs.Instructions.{Code, Instruction, END, instruction_at, Place, register, next}
 use Rattle.rules.specs.Instructions.{Act, moves, opens, closes, reads, puts, returns, act_at}
 use Rattle.rules.specs.Shapes.{Side, outside, inside, shape}
@@ -40,7 +40,7 @@ within (puts k v) w onward =
     (record {
       place = next w.place;
       table = update w.table k (some v);
-      new_keys = if is_some (w.table k) then w.new_keys else suc w.new_keys;
+      new_keys = if is_some (w.table k) then w.new_keys otherwise suc w.new_keys;
     })
 within (closes v) w onward = close w (yields v)
 within (opens p) w onward = close w (yields 0)
@@ -73,7 +73,7 @@ is_end i = closing (shape i).behind
 -- how many instructions there are up to the first END, and with it
 abbrev pub through_end : Code → ℕ
 through_end [] = 0
-through_end (i ∷ rest) = if is_end i then 1 else suc (through_end rest)
+through_end (i ∷ rest) = if is_end i then 1 otherwise suc (through_end rest)
 
 -- the position behind the END of the block that BEGIN at this index opens
 abbrev pub behind_end : Code → (begin : ℕ) → ℕ

@@ -2,7 +2,7 @@
 use Rattle.std.specs.Prelude.{List, ℕ, suc, ◌+◌, ◌-◌, ◌%◌, ◌^◌, ltb, eqb, get_or, set}
 use Rattle.std.proofs.Math.Option
 use Rattle.std.proofs.Math.Option.{Option}
-use Rattle.questions.specs.Basics.{if◌then◌else◌, is_some}
+use Rattle.questions.specs.Basics.{if◌then◌otherwise◌, is_some}
 
 -- An instruction with its operands: d and s are the numbers of registers, w is the operand word, a target is an index in the workflow.
 pub data Instruction : Type 0 where
@@ -59,13 +59,13 @@ act (SET d w) at = moves (becomes at d w)
 act (COPY d s) at = moves (becomes at d (register at s))
 act (ADD d s) at = moves (becomes at d ((register at d + register at s) % 2 ^ 32))
 act (SUB d s) at = moves (becomes at d ((register at d + 2 ^ 32 - register at s) % 2 ^ 32))
-act (JLT d s target) at = moves (if ltb (register at d) (register at s) then goto at target else next at)
-act (JEQ d s target) at = moves (if eqb (register at d) (register at s) then goto at target else next at)
+act (JLT d s target) at = moves (if ltb (register at d) (register at s) then goto at target otherwise next at)
+act (JEQ d s target) at = moves (if eqb (register at d) (register at s) then goto at target otherwise next at)
 act (BEGIN p) at = opens p
 act (END d) at = closes (register at d)
 act (GET d s) at = reads (register at s) (λ found. becomes at d (Option.get_or found (register at d)))
 act (PUT d s) at = puts (register at d) (register at s)
-act (HAS d s) at = reads (register at s) (λ found. becomes at d (if is_some found then 1 else 0))
+act (HAS d s) at = reads (register at s) (λ found. becomes at d (if is_some found then 1 otherwise 0))
 act (RETURN d) at = returns (register at d)
 
 -- the instruction at an index. (Past the end of the code nothing stands; no checked workflow gets there.)

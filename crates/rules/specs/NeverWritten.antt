@@ -1,7 +1,7 @@
 -- W-206, reading a key never written: what the changed line of the table of operations comes to.
 use Rattle.std.proofs.Math.Option.{none, some, get_or}
 use Rattle.std.specs.Prelude.{◌≡◌, ℕ, suc, ◌<◌, length}
-use Rattle.questions.specs.Basics.{if◌then◌else◌, is_some}
+use Rattle.questions.specs.Basics.{if◌then◌otherwise◌, is_some}
 use Rattle.rules.specs.Instructions.{Code, SET, END, GET, PUT, HAS, Place, register, next, becomes, act, instruction_at}
 use Rattle.rules.specs.Blocks.{Table, Work, Block, yields, within, run_block}
 
@@ -28,7 +28,7 @@ pub record NeverWritten (d s : ℕ) (w : Work) (onward : Work → Block) : Type 
       ≡ onward (work_at w (becomes w.place d (get_or (w.table (register w.place s)) 0)))
   -- HAS is as it was: 1, or 0 if absent
   pub has : within (act (HAS d s) w.place) w onward
-      ≡ onward (work_at w (becomes w.place d (if is_some (w.table (register w.place s)) then 1 else 0)))
+      ≡ onward (work_at w (becomes w.place d (if is_some (w.table (register w.place s)) then 1 otherwise 0)))
 
 -- The register is that of the block's copy and not of the record, which stands at the BEGIN and has the registers of `at`: a block that
 -- SETs d and then reads an absent key into it comes to what it has SET.

@@ -1,7 +1,7 @@
 -- The plain machine, what it is fed, and the replies: the plain run of document 01.
 use Rattle.std.specs.Prelude.{Bool, true, false, List, [], ◌∷◌, ◌++◌, ℕ, suc, ltb, eqb}
 use Rattle.std.proofs.Math.Option.{Option, none, some}
-use Rattle.questions.specs.Basics.{if◌then◌else◌, update}
+use Rattle.questions.specs.Basics.{if◌then◌otherwise◌, update}
 use Rattle.rules.specs.Instructions.{Code, Pack}
 use Rattle.rules.specs.Blocks.{Table, Result, run_block}
 use Rattle.rules.specs.Courses.{Course, Next, goes, does, says, next_of}
@@ -106,7 +106,7 @@ feeds (stopped n) = nothing
 
 -- by its answer: a call that isn't accepted feeds nothing. (A later answer that is neither accepted nor refused has its place here.)
 abbrev pub feed_of : Event → Feed
-feed_of e = if accepted e.answer then feeds e.made else nothing
+feed_of e = if accepted e.answer then feeds e.made otherwise nothing
 
 -- Of a slot: the id that the last accepted arrival or retry there named, and the number of accepted turns there since.
 pub record Tally : Type 0 where
@@ -136,7 +136,7 @@ fed_arrival m id q (some r) = m
 -- fewer than k moves; otherwise nothing.
 unfoldable pub fed_run : Pack → Machine → (id k : ℕ) → Option Run → Machine
 fed_run pack m id k none = m
-fed_run pack m id k (some r) = if ltb r.move_count k then move pack m id r else m
+fed_run pack m id k (some r) = if ltb r.move_count k then move pack m id r otherwise m
 
 unfoldable pub fed_turn : Pack → Machine → Option Tally → Machine
 fed_turn pack m none = m
@@ -177,13 +177,13 @@ replies_of (e ∷ before) = with_answer e.answer (replies_of before)
 -- did an earlier turn reply to this id?
 abbrev pub answered : (id : ℕ) → (earlier : List Reply) → Bool
 answered id [] = false
-answered id (r ∷ earlier) = if eqb id r.id then true else answered id earlier
+answered id (r ∷ earlier) = if eqb id r.id then true otherwise answered id earlier
 
 -- The first replies, in order: those to an id which no earlier turn replied to.
 unfoldable pub first_replies : List Reply → List Reply
 first_replies [] = []
 first_replies (r ∷ earlier) =
-    if answered r.id earlier then first_replies earlier else first_replies earlier ++ r ∷ []
+    if answered r.id earlier then first_replies earlier otherwise first_replies earlier ++ r ∷ []
 
 -- ── Of a list of calls ──
 

@@ -1,7 +1,7 @@
 -- W-202, how much a workflow takes: its routes, the turns and the rows of a route, and the most of each over all routes.
 use Rattle.std.proofs.Math.Option.{some}
 use Rattle.std.specs.Prelude.{◌≡◌, ℕ, suc, ◌+◌, ◌≤◌, ◌<◌, eqb}
-use Rattle.questions.specs.Basics.{if◌then◌else◌}
+use Rattle.questions.specs.Basics.{if◌then◌otherwise◌}
 use Rattle.rules.specs.Instructions.{Code, Instruction, SET, COPY, ADD, SUB, JLT, JEQ, BEGIN, END, GET, PUT, HAS, RETURN}
 use Rattle.rules.specs.Instructions.{instruction_at}
 use Rattle.rules.specs.Shapes.{Side, outside, inside, shape, GoesOn}
@@ -56,7 +56,7 @@ by_turns = record { one = 1; block = λ p puts. 1 }
 
 -- rows in a partition: for each block there one, and one for each PUT that it passes
 abbrev pub by_rows : (partition : ℕ) → Counting
-by_rows q = record { one = 0; block = λ p puts. if eqb p q then 1 + puts else 0 }
+by_rows q = record { one = 0; block = λ p puts. if eqb p q then 1 + puts otherwise 0 }
 
 -- the count on a route
 unfoldable pub count_on : Counting → (code : Code) (index : ℕ) → Route code index → ℕ

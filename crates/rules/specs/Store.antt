@@ -1,7 +1,7 @@
 -- The store as rows by key: data, log and book, with the used counts and the room; without bytes. What retiring leaves of it.
 use Rattle.std.specs.Prelude.{Bool, true, false, ◌&&◌, List, [], ◌∷◌, ℕ, ◌+◌, ◌-◌, ◌*◌, ◌^◌, eqb, ltb}
 use Rattle.std.proofs.Math.Option.{Option, none, some, get_or}
-use Rattle.questions.specs.Basics.{if◌then◌else◌, update, is_some, sum_below, count_below}
+use Rattle.questions.specs.Basics.{if◌then◌otherwise◌, update, is_some, sum_below, count_below}
 use Rattle.rules.specs.Blocks.{Table, Result, yields, Block, rows_needed}
 
 -- what the book has of a request: the workflow number and the arguments
@@ -125,8 +125,8 @@ book_retired s floor =
       used = s.used;
       rows = s.rows;
       log = s.log;
-      book_used = s.book_used - rows_per_request * booked_below s floor + (if is_some s.floor then 0 else 1);
-      book = λ id. if ltb id floor then none else s.book id;
+      book_used = s.book_used - rows_per_request * booked_below s floor + (if is_some s.floor then 0 otherwise 1);
+      book = λ id. if ltb id floor then none otherwise s.book id;
       floor = some floor;
     }
 
@@ -137,7 +137,7 @@ log_retired s =
       room = s.room;
       used = λ p. s.used p - logged_below s (floor_of s) p;
       rows = s.rows;
-      log = record { usual = λ p id t. if ltb id (floor_of s) then none else s.log.usual p id t };
+      log = record { usual = λ p id t. if ltb id (floor_of s) then none otherwise s.log.usual p id t };
       book_used = s.book_used;
       book = s.book;
       floor = s.floor;

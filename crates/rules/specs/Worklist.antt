@@ -1,7 +1,7 @@
 -- W-208, the worklist: up to 16 ids in order of entry, each waiting or taken.
 use Rattle.std.specs.Prelude.{Bool, true, false, not, ◌&&◌, List, [], ◌∷◌, ◌++◌, ℕ, ltb, leb, eqb, length}
 use Rattle.std.proofs.Math.Option.{Option, none, some}
-use Rattle.questions.specs.Basics.{if◌then◌else◌}
+use Rattle.questions.specs.Basics.{if◌then◌otherwise◌}
 
 -- a mark; only a lent list has one that is neither waiting nor taken
 pub data Mark : Type 0 where
@@ -33,7 +33,7 @@ is_taken (neither m) = false
 -- is this id listed?
 abbrev pub listed : (id : ℕ) → Worklist → Bool
 listed id [] = false
-listed id (e ∷ rest) = if eqb id e.id then true else listed id rest
+listed id (e ∷ rest) = if eqb id e.id then true otherwise listed id rest
 
 -- ── The questions ──
 
@@ -58,33 +58,33 @@ list_right l = leb (length l) most_listed && (all_once l && all_marked l)
 
 -- 26. If the id is new to the list, are fewer than 16 listed?
 unfoldable pub can_list : (id : ℕ) → Worklist → Bool
-can_list id l = if listed id l then true else ltb (length l) most_listed
+can_list id l = if listed id l then true otherwise ltb (length l) most_listed
 
 -- the first waiting id; 27 asks of a take that there is one
 abbrev pub first_waiting : Worklist → Option ℕ
 first_waiting [] = none
-first_waiting (e ∷ rest) = if is_waiting e.mark then some e.id else first_waiting rest
+first_waiting (e ∷ rest) = if is_waiting e.mark then some e.id otherwise first_waiting rest
 
 -- is this id listed as taken? 27 asks it of the id that done names.
 abbrev pub taken_on : (id : ℕ) → Worklist → Bool
 taken_on id [] = false
-taken_on id (e ∷ rest) = if eqb id e.id then is_taken e.mark else taken_on id rest
+taken_on id (e ∷ rest) = if eqb id e.id then is_taken e.mark otherwise taken_on id rest
 
 -- ── What the calls leave of it ──
 
 -- Add: a new id goes to the end, waiting. Adding a listed id changes nothing.
 unfoldable pub added : (id : ℕ) → Worklist → Worklist
-added id l = if listed id l then l else l ++ record { id = id; mark = waiting } ∷ []
+added id l = if listed id l then l otherwise l ++ record { id = id; mark = waiting } ∷ []
 
 -- Take marks the first waiting id.
 abbrev pub took_first : Worklist → Worklist
 took_first [] = []
-took_first (e ∷ rest) = if is_waiting e.mark then record { id = e.id; mark = taken } ∷ rest else e ∷ took_first rest
+took_first (e ∷ rest) = if is_waiting e.mark then record { id = e.id; mark = taken } ∷ rest otherwise e ∷ took_first rest
 
 -- Done removes an id.
 abbrev pub without : (id : ℕ) → Worklist → Worklist
 without id [] = []
-without id (e ∷ rest) = if eqb id e.id then rest else e ∷ without id rest
+without id (e ∷ rest) = if eqb id e.id then rest otherwise e ∷ without id rest
 
 -- all are marked as waiting
 abbrev pub all_waiting : Worklist → Worklist
@@ -93,4 +93,4 @@ all_waiting (e ∷ rest) = record { id = e.id; mark = waiting } ∷ all_waiting 
 
 -- Restart marks all as waiting in a list that passes 25 and doesn't touch another.
 unfoldable pub restarted : Worklist → Worklist
-restarted l = if list_right l then all_waiting l else l
+restarted l = if list_right l then all_waiting l otherwise l

@@ -1,11 +1,11 @@
 -- The questions step by step, from what the code has in hand.
 use mathlib.Core.Path.{◌≡◌, refl, sym, ap, ◌∙◌}
-use mathlib.Core.Bool.{Bool, true, false, not, ◌&&◌}
+use mathlib.Core.Bool.{Bool, true, false, ◌&&◌}
 use mathlib.Core.List.{List}
 use mathlib.Core.Option.{Option, none, some}
 use Prim.Native.Nat.{ℕ, ◌+◌, ◌*◌, ◌/◌, ◌≤◌, ◌<◌}
 use native.Mathlib.Omega.{arith}
-use borrow.Author.Tests.{leb-true, eqb-true, le-leb, not-true, not-false}
+use borrow.Author.Tests.{leb-true, eqb-true, le-leb}
 use lib.Dec.{leb, eqb}
 use lib.ListN.{length, get_or}
 use Rattle.questions.specs.Questions.{No, no, number, ask, or_else}
@@ -25,11 +25,11 @@ module _ (s : List ℕ) (g e i : ℕ) (r : Bool) (is_g : g ≡ request_count s) 
   unfolding right_at
   right_as = rw (← is_e, ← is_g) (sym said)
 
-  pub event_right_lem : not r ≡ false → right_at s i ≡ true
-  event_right_lem h = right_as ∙ not-false r h
+  pub event_right_lem : r ≡ true → right_at s i ≡ true
+  event_right_lem h = right_as ∙ h
 
-  pub event_wrong : not r ≡ true → right_at s i ≡ false
-  event_wrong h = right_as ∙ not-true r h
+  pub event_wrong : r ≡ false → right_at s i ≡ false
+  event_wrong h = right_as ∙ h
 
 -- a yes to 22
 pub laid : (s : List ℕ) → question22 s ≡ true → ScheduleLaid s
@@ -58,29 +58,29 @@ laid_as s e h q h' = rw (← q, le-leb (request_count s) 64 h, le-leb e 1024 h')
 
 -- the verdict, question by question, from what the code's tests answered
 module _ (s : List ℕ) where
-  pub no_22 : (r : Bool) → r ≡ question22 s → not r ≡ true → verdict_of (some (number 22)) ≡ verdict_of (bytes_refusal s)
+  pub no_22 : (r : Bool) → r ≡ question22 s → r ≡ false → verdict_of (some (number 22)) ≡ verdict_of (bytes_refusal s)
   unfolding bytes_refusal ask
-  no_22 r q h = rw (sym q ∙ not-true r h) refl
+  no_22 r q h = rw (sym q ∙ h) refl
 
-  pub no_23 : (r t : Bool) → r ≡ question22 s → not r ≡ false → t ≡ question23 s → not t ≡ true →
+  pub no_23 : (r t : Bool) → r ≡ question22 s → r ≡ true → t ≡ question23 s → t ≡ false →
       verdict_of (some (number 23)) ≡ verdict_of (bytes_refusal s)
   unfolding bytes_refusal ask
-  no_23 r t q h q' h' = rw (sym q ∙ not-false r h, sym q' ∙ not-true t h') refl
+  no_23 r t q h q' h' = rw (sym q ∙ h, sym q' ∙ h') refl
 
   -- 9 is put to the numbers that the code has read
   nine : (u : Bool) (P C : ℕ) → 3 ≤ length s → P ≡ parts_of s → C ≡ cap_of s → u ≡ numbers_right P C → question9 s ≡ u
   unfolding question9
   nine u P C l p c q = rw (le-leb 3 (length s) l, ← p, ← c) (sym q)
 
-  module _ (r t u : Bool) (P C : ℕ) (q : r ≡ question22 s) (h : not r ≡ false) (q' : t ≡ question23 s) (h' : not t ≡ false)
+  module _ (r t u : Bool) (P C : ℕ) (q : r ≡ question22 s) (h : r ≡ true) (q' : t ≡ question23 s) (h' : t ≡ true)
       (l : 3 ≤ length s) (p : P ≡ parts_of s) (c : C ≡ cap_of s) (q'' : u ≡ numbers_right P C) where
-    pub no_9 : not u ≡ true → verdict_of (some (number 9)) ≡ verdict_of (bytes_refusal s)
+    pub no_9 : u ≡ false → verdict_of (some (number 9)) ≡ verdict_of (bytes_refusal s)
     unfolding bytes_refusal ask
-    no_9 h'' = rw (sym q ∙ not-false r h, sym q' ∙ not-false t h', nine u P C l p c q'' ∙ not-true u h'') refl
+    no_9 h'' = rw (sym q ∙ h, sym q' ∙ h', nine u P C l p c q'' ∙ h'') refl
 
-    pub no_no : not u ≡ false → verdict_of none ≡ verdict_of (bytes_refusal s)
+    pub no_no : u ≡ true → verdict_of none ≡ verdict_of (bytes_refusal s)
     unfolding bytes_refusal ask
-    no_no h'' = rw (sym q ∙ not-false r h, sym q' ∙ not-false t h', nine u P C l p c q'' ∙ not-false u h'') refl
+    no_no h'' = rw (sym q ∙ h, sym q' ∙ h', nine u P C l p c q'' ∙ h'') refl
 
 -- one row of questions and then another: the verdict of both, from that of the first
 pub then_accepted : (o rest : Option No) (v : Verdict) → v ≡ verdict_of o → v ≡ Accepted → verdict_of rest ≡ verdict_of (or_else o rest)

@@ -1,7 +1,7 @@
 -- Questions 22 and 23, and the first no of a schedule with its pack.
 use Rattle.std.specs.Prelude.{Bool, true, ◌&&◌, ◌||◌, List, ◌≡◌, ℕ, ◌≤◌, ltb, leb, eqb, length}
 use Rattle.std.proofs.Math.Option.{Option, none}
-use Rattle.questions.specs.Basics.{if◌then◌else◌, each}
+use Rattle.questions.specs.Basics.{if◌then◌otherwise◌, each}
 use Rattle.questions.specs.Questions.{No, number, ask, or_else}
 use Rattle.pack.specs.Refusal.{pack_refusal}
 use Rattle.store.specs.Layout.{parts_of, cap_of}
@@ -27,7 +27,7 @@ names_request kind = eqb kind 0 || eqb kind 3
 
 -- of one event, by how many requests there are
 unfoldable pub event_right : (requests kind index : ℕ) → Bool
-event_right requests kind index = leb kind 4 && (if names_request kind then ltb index requests else eqb index 0)
+event_right requests kind index = leb kind 4 && (if names_request kind then ltb index requests otherwise eqb index 0)
 
 unfoldable pub right_at : (schedule : List ℕ) → (event : ℕ) → Bool
 right_at s event = event_right (request_count s) (kind_at s event) (index_at s event)

@@ -13,7 +13,7 @@ use borrow.Author.Tests.{lt-ltb}
 use lib.Dec.{ltb, eqb}
 use lib.ListN.{length, replicate}
 use lib.Seq.{ext_get_or}
-use Rattle.questions.specs.Basics.{if◌then◌else◌}
+use Rattle.questions.specs.Basics.{if◌then◌otherwise◌}
 use Rattle.words.specs.Words.{le, put, fields}
 use Rattle.agents.specs.declared.Agent.{Agent}
 use Rattle.agents.specs.Slots.{no_agent, agent_at, is_blank}
@@ -30,7 +30,7 @@ twelve xs at = simp add_assoc
 -- the i-th record, by the words that were read
 pub record_read : (xs : List ℕ) (i u p s : ℕ) → u ≡ le 4 xs (48 * i) → p ≡ le 4 xs (48 * i + 8) → s ≡ le 4 xs (48 * i + 12)
     → record_in xs i
-    ≡ if◌then◌else◌ (ltb u 2 && (ltb p (2 ^ 16) && ltb s (2 ^ 16)))
+    ≡ if◌then◌otherwise◌ (ltb u 2 && (ltb p (2 ^ 16) && ltb s (2 ^ 16)))
     (record { in_use = eqb u 1; id = le 4 xs (48 * i + 4); position = p; step = s; registers = fields 4 xs (48 * i + 16) 8 }) no_record
 unfolding record_by is_record
 record_read xs i u p s eu ep es = rw (eu, ep, es, twelve xs (48 * i)) refl
@@ -58,7 +58,7 @@ pub record_written : (xs : List ℕ) (at : ℕ) (a : Agent)
 unfolding puts words_of
 record_written xs at a = rw (bit a.in_use) (simp (add-zero, add_assoc))
   where
-    bit : (b : Bool) → bool_byte b ≡ if◌then◌else◌ b 1 0
+    bit : (b : Bool) → bool_byte b ≡ if◌then◌otherwise◌ b 1 0
     bit true = refl
     bit false = refl
 
@@ -68,8 +68,8 @@ unfolding record_by is_record words_of
 back a f = rw (lt-ltb a.position (2 ^ 16) f.position, lt-ltb a.step (2 ^ 16) f.step) (go a.in_use refl)
   where
     go : (b : Bool) → a.in_use ≡ b
-        → if◌then◌else◌ (ltb (if◌then◌else◌ b 1 0) 2 && true)
-        (record { in_use = eqb (if◌then◌else◌ b 1 0) 1; id = a.id; position = a.position; step = a.step; registers = a.registers })
+        → if◌then◌otherwise◌ (ltb (if◌then◌otherwise◌ b 1 0) 2 && true)
+        (record { in_use = eqb (if◌then◌otherwise◌ b 1 0) 1; id = a.id; position = a.position; step = a.step; registers = a.registers })
         no_record
         ≡ a
     go true e = λ j. record { in_use = sym e j; id = a.id; position = a.position; step = a.step; registers = a.registers }

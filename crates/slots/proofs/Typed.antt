@@ -11,7 +11,7 @@ use denote.Array.{Array, each}
 use denote.Builtin.{u32}
 use denote.Struct.Laws as LL
 use lib.ListN.{length, get_or}
-use Rattle.questions.specs.Basics.{if◌then◌else◌}
+use Rattle.questions.specs.Basics.{if◌then◌otherwise◌}
 use Rattle.agents.specs.declared.Agent.{Agent}
 use Rattle.agents.specs.Slots.{agent_at}
 use Rattle.agents.proofs.Typed.{eight_records, eight_registers}
@@ -34,7 +34,7 @@ registers_small (x ∷ l) [] s j = absurd s
 registers_small (x ∷ l) (u ∷ us) s zero = s.0.1
 registers_small (x ∷ l) (u ∷ us) s (suc j) = registers_small l us s.1 j
 
-bit : (b : Bool) → if◌then◌else◌ b 1 0 < 256 ^ 4
+bit : (b : Bool) → if◌then◌otherwise◌ b 1 0 < 256 ^ 4
 bit true = omega arith
 bit false = omega arith
 

@@ -1,7 +1,7 @@
 -- Eight agent records in 384 lent bytes, 48 to a record: twelve words of 4 bytes, which are in use (0 or 1), id, position, step number and
 -- the eight registers.
 use Rattle.std.specs.Prelude.{Bool, false, ◌&&◌, List, [], ◌∷◌, ℕ, zero, suc, ◌+◌, ◌*◌, ◌^◌, ltb, eqb, get_or, drop, replicate}
-use Rattle.questions.specs.Basics.{if◌then◌else◌}
+use Rattle.questions.specs.Basics.{if◌then◌otherwise◌}
 use Rattle.words.specs.Words.{put, fields}
 use Rattle.agents.specs.declared.Agent.{Agent}
 use Rattle.agents.specs.Slots.{agent_at}
@@ -19,7 +19,7 @@ unfoldable pub record_by : (ws : List ℕ) → Agent
 record_by ws =
     if is_record ws
     then record { in_use = eqb (get_or ws 0 0) 1; id = get_or ws 1 0; position = get_or ws 2 0; step = get_or ws 3 0; registers = drop 4 ws }
-    else no_record
+    otherwise no_record
 
 -- the i-th record in the bytes
 abbrev pub record_in : (bytes : List ℕ) (i : ℕ) → Agent
@@ -36,7 +36,7 @@ slots_in bytes = records_in bytes 8 0
 
 -- the twelve words of a record
 unfoldable pub words_of : Agent → List ℕ
-words_of a = (if a.in_use then 1 else 0) ∷ a.id ∷ a.position ∷ a.step ∷ a.registers
+words_of a = (if a.in_use then 1 otherwise 0) ∷ a.id ∷ a.position ∷ a.step ∷ a.registers
 
 -- xs with the first n of the numbers vs in a row from `at` on, w bytes each
 unfoldable pub puts : (w : ℕ) (xs : List ℕ) (at : ℕ) (vs : List ℕ) (n : ℕ) → List ℕ

@@ -8,7 +8,7 @@ use native.Mathlib.Omega.{arith}
 use borrow.Author.Tests.{ltb-true, ne_eqb}
 use lib.Dec.{ltb}
 use lib.ListN.{length, get_or}
-use Rattle.questions.specs.Basics.{if◌then◌else◌}
+use Rattle.questions.specs.Basics.{if◌then◌otherwise◌}
 use Rattle.questions.proofs.Tests.{and_left, and_right}
 use Rattle.keys.specs.Keys.{floor_key, is_floor_key, is_form}
 use Rattle.keys.proofs.Keys.{form_floor}
@@ -17,7 +17,7 @@ use Rattle.store.specs.Questions.{ahead, rising, all_in}
 
 -- the key and the value of the last row, one of n + 1
 pub floor_last : (rs : List Row) (n : ℕ) → length rs ≡ suc n → all_in (is_form true) (keys_in rs) ≡ true → rising (keys_in rs) ≡ true →
-    lookup floor_key rs ≡ (if is_floor_key (get_or rs n (0, 0)).0 then some (get_or rs n (0, 0)).1 else none)
+    lookup floor_key rs ≡ (if is_floor_key (get_or rs n (0, 0)).0 then some (get_or rs n (0, 0)).1 otherwise none)
 unfolding lookup is_floor_key all_in keys_in rising ahead
 floor_last [] n e f u = absurd (omega arith)
 floor_last (r ∷ []) n e f u = let z : n ≡ 0 = omega arith in rw z refl

@@ -8,7 +8,7 @@ use borrow.Author.Tests.{eq-eqb, ne_eqb, eqb-true, eqb-false, lt-ltb, le-ltb, lt
 use lib.Dec.{eqb, ltb}
 use lib.ListN.{drop}
 use Rattle.words.specs.Words.{le, fields}
-use Rattle.questions.specs.Basics.{if◌then◌else◌}
+use Rattle.questions.specs.Basics.{if◌then◌otherwise◌}
 use Rattle.questions.proofs.Tests.{and_left, and_right}
 use Rattle.store.specs.Rows.{Row, keys_in, index_of, rank_of, first_has}
 use Rattle.store.specs.Questions.{member, ahead, rising}
@@ -24,7 +24,7 @@ shift n (Belongs i) = Belongs (n + i)
 -- what the search comes to: each smaller key is passed, and the first other one decides
 unfoldable pub sought : (k : ℕ) → List ℕ → Found
 sought k [] = Belongs 0
-sought k (x ∷ ks) = if ltb x k then shift 1 (sought k ks) else (if eqb x k then At 0 else Belongs 0)
+sought k (x ∷ ks) = if ltb x k then shift 1 (sought k ks) otherwise (if eqb x k then At 0 otherwise Belongs 0)
 
 pub shift_none : (f : Found) → shift 0 f ≡ f
 unfolding shift
@@ -51,8 +51,8 @@ found_later : (k x : ℕ) (ks : List ℕ) → x < k → found_in k (x ∷ ks) �
 unfolding found_in member index_of smaller shift
 found_later k x ks l = rw (ne_eqb x k (omega arith), lt-ltb x k l) (go (member k ks))
   where
-    go : (b : Bool) → if◌then◌else◌ b (At (suc (index_of k ks))) (Belongs (1 + smaller k ks)) ≡ shift 1
-        (if◌then◌else◌ b (At (index_of k ks)) (Belongs (smaller k ks)))
+    go : (b : Bool) → if◌then◌otherwise◌ b (At (suc (index_of k ks))) (Belongs (1 + smaller k ks)) ≡ shift 1
+        (if◌then◌otherwise◌ b (At (index_of k ks)) (Belongs (smaller k ks)))
     go true = ap At (omega arith)
     go false = refl
 
@@ -122,7 +122,7 @@ sought_behind k g [] more other l = sought_first k g more l ∙ sym (sought_firs
 sought_behind k g (x ∷ low) more other l = go (sought_behind k g low more other l)
   where
     go : sought k (low ++ g ∷ more) ≡ sought k (low ++ g ∷ other) → sought k (x ∷ low ++ g ∷ more) ≡ sought k (x ∷ low ++ g ∷ other)
-    go ih = unfold sought in ap (λ (f : Found). if◌then◌else◌ (ltb x k) (shift 1 f) (if◌then◌else◌ (eqb x k) (At 0) (Belongs 0))) ih
+    go ih = unfold sought in ap (λ (f : Found). if◌then◌otherwise◌ (ltb x k) (shift 1 f) (if◌then◌otherwise◌ (eqb x k) (At 0) (Belongs 0))) ih
 
 -- The search's promise, of an answer found key by key.
 pub searched : (k : ℕ) (ks : List ℕ) (found : Found) → found ≡ sought k ks → Searched k ks found

@@ -10,7 +10,7 @@ use borrow.Author.Tests.{eq-eqb, ne_eqb, le-ltb, ltb-true, ltb-false, leb-true}
 use lib.Dec.{eqb, ltb, leb}
 use lib.ListN.{length, take, drop}
 use Rattle.keys.specs.Keys.{is_form}
-use Rattle.questions.specs.Basics.{if◌then◌else◌, update, is_some, count_below}
+use Rattle.questions.specs.Basics.{if◌then◌otherwise◌, update, is_some, count_below}
 use Rattle.questions.proofs.Counts.{sum_same, count_none, count_put}
 use Rattle.questions.proofs.Tests.{and_left, and_right}
 use Rattle.questions.proofs.Updates.{eqb_cases}
@@ -77,7 +77,7 @@ lookup_from low k (r ∷ rs) h = go (lookup_from low k rs h) (ltb r.0 low) refl
   where
     go : lookup k (rows_from low rs) ≡ lookup k rs → (b : Bool) → ltb r.0 low ≡ b → lookup k (rows_from low (r ∷ rs)) ≡ lookup k (r ∷ rs)
     go ih true e = let l : r.0 < low = ltb-true r.0 low e in rw (e, ne_eqb r.0 k (omega arith)) ih
-    go ih false e = rw e (ap (λ (o : Option ℕ). if◌then◌else◌ (eqb r.0 k) (some r.1) o) ih)
+    go ih false e = rw e (ap (λ (o : Option ℕ). if◌then◌otherwise◌ (eqb r.0 k) (some r.1) o) ih)
 
 pub lookup_below : (low k : ℕ) (rs : List Row) → k < low → lookup k (rows_from low rs) ≡ none
 unfolding rows_from lookup
@@ -97,7 +97,7 @@ as_update r rs k = go (eqb_cases r.0 k) (eqb_cases k r.0)
   where
     go : ((r.0 ≡ k) × (eqb r.0 k ≡ true)) ⊎ ((r.0 ≡ k → ⊥) × (eqb r.0 k ≡ false)) →
         ((k ≡ r.0) × (eqb k r.0 ≡ true)) ⊎ ((k ≡ r.0 → ⊥) × (eqb k r.0 ≡ false)) →
-        if◌then◌else◌ (eqb r.0 k) (some r.1) (lookup k rs) ≡ if◌then◌else◌ (eqb k r.0) (some r.1) (lookup k rs)
+        if◌then◌otherwise◌ (eqb r.0 k) (some r.1) (lookup k rs) ≡ if◌then◌otherwise◌ (eqb k r.0) (some r.1) (lookup k rs)
     go (inl a) (inl b) = rw (a.1, b.1) refl
     go (inl a) (inr b) = absurd (b.0 (sym a.0))
     go (inr a) (inl b) = absurd (a.0 (sym b.0))
@@ -110,7 +110,7 @@ unfolding rows_from rising keys_in
 rows_from_lem low [] u = let z = count_none low in unfold lookup in omega arith
 rows_from_lem low (r ∷ rs) u =
     ap (λ (n : ℕ). length (rows_from low (r ∷ rs)) + n)
-    (sum_same low _ _ (λ k l. ap (λ (o : Option ℕ). if◌then◌else◌ (is_some o) 1 0) (as_update r rs k))
+    (sum_same low _ _ (λ k l. ap (λ (o : Option ℕ). if◌then◌otherwise◌ (is_some o) 1 0) (as_update r rs k))
     ∙ count_put low r.0 r.1 (λ (k : ℕ). lookup k rs) (rises_none r.0 rs u))
     ∙ go (ltb r.0 low) (rows_from_lem low rs (and_right (ahead r.0 (keys_in rs)) _ u))
   where
@@ -118,7 +118,7 @@ rows_from_lem low (r ∷ rs) u =
     old = count_below low (λ k. is_some (lookup k rs))
 
     go : (b : Bool) → length (rows_from low rs) + old ≡ length rs →
-        length (if◌then◌else◌ b (rows_from low rs) (r ∷ rows_from low rs)) + (if◌then◌else◌ b 1 0 + old) ≡ suc (length rs)
+        length (if◌then◌otherwise◌ b (rows_from low rs) (r ∷ rows_from low rs)) + (if◌then◌otherwise◌ b 1 0 + old) ≡ suc (length rs)
     go true rec = omega arith
     go false rec = omega arith
 

@@ -12,7 +12,7 @@ use borrow.Author.Tests.{eq-eqb, ne_eqb, eqb-true, eqb-false, lt-ltb, le-ltb, lt
 use lib.Dec.{eqb, ltb}
 use lib.ListN.{length, get_or, set, drop}
 use Rattle.words.specs.Words.{le, fields}
-use Rattle.questions.specs.Basics.{if◌then◌else◌}
+use Rattle.questions.specs.Basics.{if◌then◌otherwise◌}
 use Rattle.questions.proofs.Tests.{and_left, and_right, and_both}
 use Rattle.store.specs.Questions.{keys_apart, ahead, rising, keys_ok}
 use Rattle.store.specs.Rows.{Row, keys_in, pairs, lookup, row_place, index_of, rank_of, rank_in, set_value, insert_at, put_row, new_rows}
@@ -54,7 +54,7 @@ unfolding rank_of
 rank_within k [] = omega arith
 rank_within k (r ∷ rs) = go (ltb r.0 k) (rank_within k rs)
   where
-    go : (b : Bool) → rank_of k rs ≤ length rs → if◌then◌else◌ b (suc (rank_of k rs)) 0 ≤ suc (length rs)
+    go : (b : Bool) → rank_of k rs ≤ length rs → if◌then◌otherwise◌ b (suc (rank_of k rs)) 0 ≤ suc (length rs)
     go true h = omega arith
     go false h = omega arith
 
@@ -97,7 +97,7 @@ index_none k w xs o m e = rw e refl
 rank_keys : (k : ℕ) (rs : List Row) → rank_of k rs ≡ rank_in k (keys_in rs)
 unfolding rank_of rank_in keys_in
 rank_keys k [] = refl
-rank_keys k (r ∷ rs) = ap (λ (n : ℕ). if◌then◌else◌ (ltb r.0 k) (suc n) 0) (rank_keys k rs)
+rank_keys k (r ∷ rs) = ap (λ (n : ℕ). if◌then◌otherwise◌ (ltb r.0 k) (suc n) 0) (rank_keys k rs)
 
 pub rank_pairs : (k : ℕ) (ks vs : List ℕ) → length ks ≡ length vs → rank_of k (pairs ks vs) ≡ rank_in k ks
 rank_pairs k ks vs e = rank_keys k (pairs ks vs) ∙ ap (rank_in k) (keys_pairs ks vs e)
@@ -120,7 +120,7 @@ pub place_pairs : (k : ℕ) (ks vs : List ℕ) → length ks ≡ length vs → r
 unfolding pairs row_place index_of
 place_pairs k [] vs e = refl
 place_pairs k (x ∷ ks) [] e = absurd (omega arith)
-place_pairs k (x ∷ ks) (v ∷ vs) e = ap (λ (n : ℕ). if◌then◌else◌ (eqb x k) 0 (suc n)) (place_pairs k ks vs (omega arith))
+place_pairs k (x ∷ ks) (v ∷ vs) e = ap (λ (n : ℕ). if◌then◌otherwise◌ (eqb x k) 0 (suc n)) (place_pairs k ks vs (omega arith))
 
 pub get_or_pairs : (ks vs : List ℕ) (i : ℕ) → length ks ≡ length vs → i < length ks → get_or (pairs ks vs) i (0, 0) ≡ (get_or ks i 0, get_or vs i 0)
 unfolding pairs
@@ -212,7 +212,7 @@ lookup_put_other k v j (r ∷ rs) n = go (lookup_put_other k v j rs n) (eqb r.0 
         lookup j (put_row k v (r ∷ rs)) ≡ lookup j (r ∷ rs)
     go ih true e c f = let other : eqb r.0 j ≡ false = ne_eqb r.0 j (λ q. n (sym q ∙ eqb-true r.0 k e)) in rw (e, other) refl
     go ih false e true f = rw (e, f, ne_eqb k j (λ q. n (sym q))) refl
-    go ih false e false f = rw (e, f) (ap (λ (o : Option ℕ). if◌then◌else◌ (eqb r.0 j) (some r.1) o) ih)
+    go ih false e false f = rw (e, f) (ap (λ (o : Option ℕ). if◌then◌otherwise◌ (eqb r.0 j) (some r.1) o) ih)
 
 -- a smaller key ahead of rising keys
 pub rises_lower : (k x : ℕ) (rs : List Row) → k < x → rising (x ∷ keys_in rs) ≡ true → rising (k ∷ keys_in rs) ≡ true

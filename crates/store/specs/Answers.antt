@@ -1,7 +1,7 @@
 -- What a search for a key answers, by the keys that are searched.
 use Rattle.std.specs.Prelude.{true, List, [], ◌∷◌, ◌++◌, ◌≡◌, ℕ, ◌+◌, ◌<◌, ltb}
 use Rattle.std.proofs.Math.Option.{Option, none, some}
-use Rattle.questions.specs.Basics.{if◌then◌else◌}
+use Rattle.questions.specs.Basics.{if◌then◌otherwise◌}
 use Rattle.store.specs.Rows.{index_of}
 use Rattle.store.specs.Questions.{member, rising}
 use Rattle.store.specs.declared.rows.Found.{Found}
@@ -12,16 +12,16 @@ use Rattle.store.specs.declared.rows.Got.TheVariants.{Value, Absent}
 -- how many keys are smaller than k
 unfoldable pub smaller : (k : ℕ) → List ℕ → ℕ
 smaller k [] = 0
-smaller k (x ∷ ks) = (if ltb x k then 1 else 0) + smaller k ks
+smaller k (x ∷ ks) = (if ltb x k then 1 otherwise 0) + smaller k ks
 
 -- By a reading of all keys: the place of k, or the place where it belongs, behind all smaller ones.
 unfoldable pub found_in : (k : ℕ) → List ℕ → Found
-found_in k ks = if member k ks then At (index_of k ks) else Belongs (smaller k ks)
+found_in k ks = if member k ks then At (index_of k ks) otherwise Belongs (smaller k ks)
 
 -- what a search for k reads: the keys up to the first that isn't smaller, and none behind
 unfoldable pub up_to : (k : ℕ) → List ℕ → List ℕ
 up_to k [] = []
-up_to k (x ∷ ks) = if ltb x k then x ∷ up_to k ks else x ∷ []
+up_to k (x ∷ ks) = if ltb x k then x ∷ up_to k ks otherwise x ∷ []
 
 -- What a search for k among keys promises of its answer.
 pub record Searched (k : ℕ) (ks : List ℕ) (found : Found) : Type 0 where

@@ -2,7 +2,7 @@
 -- two parallel arrays: (P + 1) × C keys (8 each), as many values (4 each).
 use Rattle.std.specs.Prelude.{List, ℕ, ◌+◌, ◌*◌, ◌<◌, leb, get_or}
 use Rattle.words.specs.Words.{le}
-use Rattle.questions.specs.Basics.{if◌then◌else◌}
+use Rattle.questions.specs.Basics.{if◌then◌otherwise◌}
 
 -- each is a byte, as in every lent buffer
 abbrev pub AllBytes : List ℕ → Type 0
@@ -40,4 +40,4 @@ value_at store partition row = values_from (parts_of store) (cap_of store) + 4 *
 
 -- the used count of a partition: past P there is none
 unfoldable pub used_of : (store : List ℕ) (partition : ℕ) → ℕ
-used_of store partition = if leb partition (parts_of store) then le 2 store (used_at partition) else 0
+used_of store partition = if leb partition (parts_of store) then le 2 store (used_at partition) otherwise 0

@@ -11,7 +11,7 @@ use lib.Dec.{leb}
 use lib.ListN.{length, get_or}
 use Rattle.words.specs.Words.{le, fields}
 use Rattle.words.proofs.Laws.{length_fields, get_or_fields}
-use Rattle.questions.specs.Basics.{if◌then◌else◌}
+use Rattle.questions.specs.Basics.{if◌then◌otherwise◌}
 use Rattle.keys.specs.Keys.{booked_id, floor_key, is_floor_key, floor_at, is_form}
 use Rattle.keys.proofs.Keys.{floor_bounds}
 use Rattle.store.specs.Rows.{Row, pairs, keys_in, lookup, row_place, index_of}
@@ -91,7 +91,7 @@ module _ (xs : List ℕ) (ka va n : ℕ) where
 
   -- by its last key, where the keys rise
   module _ (g : keys_ok true keys ≡ true) (last : ℕ) (e : n ≡ suc last) (k : ℕ) (q : k ≡ le 8 xs (ka + 8 * last)) where
-    by_last : lookup floor_key rows ≡ (if is_floor_key k then some (le 4 xs (va + 4 * last)) else none)
+    by_last : lookup floor_key rows ≡ (if is_floor_key k then some (le 4 xs (va + 4 * last)) otherwise none)
     by_last =
         floor_last rows last (count ∙ e) (ap (all_in (is_form true)) their_keys ∙ forms keys g)
         (ap rising their_keys ∙ keys_rising true keys g)

@@ -10,7 +10,7 @@ use lib.ListN.{length, get_or}
 use Rattle.keys.specs.Keys.{is_form}
 use Rattle.words.specs.Words.{le, fields}
 use Rattle.words.proofs.Laws.{length_fields, get_or_fields}
-use Rattle.questions.specs.Basics.{if◌then◌else◌, each_from}
+use Rattle.questions.specs.Basics.{if◌then◌otherwise◌, each_from}
 use Rattle.questions.proofs.Each.{each_at}
 use Rattle.questions.proofs.Tests.{and_left, and_false}
 use Rattle.store.specs.Layout.{parts_of, cap_of, key_at, value_at, used_of}
@@ -52,7 +52,7 @@ member_place k [] = refl
 member_place k (x ∷ ks) = go (member_place k ks) (eqb x k) refl
   where
     go : member k ks ≡ ltb (index_of k ks) (length ks) → (b : Bool) → eqb x k ≡ b →
-        (eqb x k || member k ks) ≡ ltb (if◌then◌else◌ (eqb x k) 0 (suc (index_of k ks))) (suc (length ks))
+        (eqb x k || member k ks) ≡ ltb (if◌then◌otherwise◌ (eqb x k) 0 (suc (index_of k ks))) (suc (length ks))
     go ih true e = rw e (sym (lt-ltb 0 (suc (length ks)) (omega arith)))
     go ih false e = rw e (ih ∙ sym (leb-suc-suc (suc (index_of k ks)) (length ks)))
 

@@ -9,7 +9,7 @@ use native.Mathlib.Omega.{arith}
 use lib.ListN.{length, get_or, drop, length-drop}
 use Rattle.meaning.proofs.Tests.{workflow_below, booked_of_13}
 use Rattle.contents.specs.Contents.{contents_of, value_in, arguments_of, request_of, book_of, book_rows}
-use Rattle.questions.specs.Basics.{if◌then◌else◌}
+use Rattle.questions.specs.Basics.{if◌then◌otherwise◌}
 use Rattle.keys.specs.Keys.{book_key}
 use Rattle.rules.specs.Instructions.{Code, Place}
 use Rattle.rules.specs.Shapes.{outside}
@@ -45,7 +45,7 @@ through_short : (code : Code) → through_end code ≤ length code
 through_short [] = omega arith
 through_short (i ∷ rest) = go (is_end i) (through_short rest)
   where
-    go : (b : Bool) → through_end rest ≤ length rest → if◌then◌else◌ b 1 (suc (through_end rest)) ≤ suc (length rest)
+    go : (b : Bool) → through_end rest ≤ length rest → if◌then◌otherwise◌ b 1 (suc (through_end rest)) ≤ suc (length rest)
     go true l = omega arith
     go false l = omega arith
 

@@ -11,7 +11,7 @@ use borrow.Author.Tests.{lt-ltb, le-ltb, ltb-true}
 use lib.Dec.{eqb, ltb}
 use lib.ListN.{length, get_or, set, replicate, length-set}
 use lib.Seq.{ext_get_or, get_or-set_same, get_or-set_other}
-use Rattle.questions.specs.Basics.{if◌then◌else◌}
+use Rattle.questions.specs.Basics.{if◌then◌otherwise◌}
 use Rattle.rules.specs.Worklist as Rules
 use Rattle.worklist.specs.declared.Entry.{Entry}
 use Rattle.worklist.specs.declared.Worklist.{Worklist}
@@ -86,7 +86,7 @@ pub can_list_more : (l : Worklist) (id : ℕ) → l.count < 16 → Rules.can_lis
 unfolding Rules.can_list
 can_list_more l id h = rw (lt-ltb (length (worklist_of l)) 16 (omega (arith, length_worklist l))) (go (Rules.listed id (worklist_of l)))
   where
-    go : (b : Bool) → if◌then◌else◌ b true true ≡ true
+    go : (b : Bool) → if◌then◌otherwise◌ b true true ≡ true
     go true = refl
     go false = refl
 
@@ -95,7 +95,7 @@ pub can_list_full : (l : Worklist) (id : ℕ) → 16 ≤ l.count → Rules.can_l
 unfolding Rules.can_list
 can_list_full l id h = rw (le-ltb (length (worklist_of l)) 16 (omega (arith, length_worklist l))) (go (Rules.listed id (worklist_of l)))
   where
-    go : (b : Bool) → if◌then◌else◌ b true false ≡ b
+    go : (b : Bool) → if◌then◌otherwise◌ b true false ≡ b
     go true = refl
     go false = refl
 
@@ -138,7 +138,7 @@ module _ (l : Worklist) (id p : ℕ) (found : p ≡ first_from (has_id id) l.pla
   unfolding Rules.can_list
   room_for_new h e =
       let t : ltb (length (worklist_of l)) 16 ≡ true =
-      ap (λ b. if◌then◌else◌ b true (ltb (length (worklist_of l)) 16)) (sym (not_listed h)) ∙ e in
+      ap (λ b. if◌then◌otherwise◌ b true (ltb (length (worklist_of l)) 16)) (sym (not_listed h)) ∙ e in
       let u = ltb-true (length (worklist_of l)) 16 t in
       omega (arith, length_worklist l)
 

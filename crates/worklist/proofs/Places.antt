@@ -10,7 +10,7 @@ use native.Mathlib.Decide.{ℕ_discrete}
 use native.Mathlib.Omega.{arith}
 use lib.ListN.{length, set, length-set}
 use lib.Seq.{get_or-set_same, get_or-set_other}
-use Rattle.questions.specs.Basics.{if◌then◌else◌}
+use Rattle.questions.specs.Basics.{if◌then◌otherwise◌}
 use Rattle.worklist.specs.declared.Entry.{Entry}
 use Rattle.worklist.specs.Worklist.{place_at, first_from, moved_up, waiting_to}
 
@@ -34,7 +34,7 @@ module _ (f : Entry → Bool) (es : List Entry) where
   first_range (suc n) i = go (f (place_at es i)) (first_range n (i + 1))
     where
       go : (b : Bool) → (i + 1 ≤ first_from f es n (i + 1)) × (first_from f es n (i + 1) ≤ i + 1 + n) →
-          (i ≤ if◌then◌else◌ b i (first_from f es n (i + 1))) × (if◌then◌else◌ b i (first_from f es n (i + 1)) ≤ i + suc n)
+          (i ≤ if◌then◌otherwise◌ b i (first_from f es n (i + 1))) × (if◌then◌otherwise◌ b i (first_from f es n (i + 1)) ≤ i + suc n)
       go true r = (omega arith, omega arith)
       go false r = (omega arith, omega arith)
 
@@ -44,7 +44,7 @@ module _ (f : Entry → Bool) (es : List Entry) where
   first_before zero i k l h = absurd (omega arith)
   first_before (suc n) i k l h = go (f (place_at es i)) refl h (λ l' h'. first_before n (i + 1) k l' h')
     where
-      go : (b : Bool) → f (place_at es i) ≡ b → k < if◌then◌else◌ b i (first_from f es n (i + 1)) →
+      go : (b : Bool) → f (place_at es i) ≡ b → k < if◌then◌otherwise◌ b i (first_from f es n (i + 1)) →
           (i + 1 ≤ k → k < first_from f es n (i + 1) → f (place_at es k) ≡ false) → f (place_at es k) ≡ false
       go true e h ih = absurd (omega arith)
       go false e h ih =
@@ -56,9 +56,9 @@ module _ (f : Entry → Bool) (es : List Entry) where
   first_at zero i h = absurd (omega arith)
   first_at (suc n) i h = go (f (place_at es i)) refl h (λ h'. first_at n (i + 1) h')
     where
-      go : (b : Bool) → f (place_at es i) ≡ b → if◌then◌else◌ b i (first_from f es n (i + 1)) < i + suc n →
+      go : (b : Bool) → f (place_at es i) ≡ b → if◌then◌otherwise◌ b i (first_from f es n (i + 1)) < i + suc n →
           (first_from f es n (i + 1) < i + 1 + n → f (place_at es (first_from f es n (i + 1))) ≡ true) →
-          f (place_at es (if◌then◌else◌ b i (first_from f es n (i + 1)))) ≡ true
+          f (place_at es (if◌then◌otherwise◌ b i (first_from f es n (i + 1)))) ≡ true
       go true e h ih = e
       go false e h ih = ih (omega arith)
 

@@ -1,7 +1,7 @@
 -- What a worklist of sixteen places means as a worklist of the rules.
 use Rattle.std.specs.Prelude.{Bool, List, [], ◌∷◌, ◌≡◌, ℕ, zero, suc, ◌+◌, ◌≤◌, eqb, length, get_or, set, replicate}
 use Rattle.std.proofs.Math.Option.{Option, none, some}
-use Rattle.questions.specs.Basics.{if◌then◌else◌}
+use Rattle.questions.specs.Basics.{if◌then◌otherwise◌}
 use Rattle.rules.specs.Worklist as Rules
 use Rattle.worklist.specs.declared.Entry.{Entry}
 use Rattle.worklist.specs.declared.Worklist.{Worklist}
@@ -46,14 +46,14 @@ pub record Kept (before after : Worklist) (work : Rules.Worklist) : Type 0 where
 
 -- the id that a take found, if it did
 abbrev pub found_id : Took → Option ℕ
-found_id t = if t.found then some t.id else none
+found_id t = if t.found then some t.id otherwise none
 
 -- ── Places, as the code seeks and writes them ──
 
 -- the first of the n places from `from` on of which f holds, or the place behind them
 unfoldable pub first_from : (Entry → Bool) → (places : List Entry) (n from : ℕ) → ℕ
 first_from f es zero i = i
-first_from f es (suc n) i = if f (place_at es i) then i else first_from f es n (i + 1)
+first_from f es (suc n) i = if f (place_at es i) then i otherwise first_from f es n (i + 1)
 
 -- has the entry this id?
 abbrev pub has_id : (id : ℕ) → Entry → Bool

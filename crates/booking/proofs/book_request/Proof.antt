@@ -24,10 +24,10 @@ sounds : (c : tie.Start) → Sound c.args.store.now
 sounds c = (store_ok _ c.requires.0).0
 
 -- From a place of the proof back: to the answer of the search, where the row is found and where it is not, and to the start.
-abbrev hit : tie.After-partition_count-book → tie.In-At-2
+abbrev hit : tie.After-partition_count-book → tie.In-At
 hit pc = pc.before
 
-abbrev miss : tie.After-partition_count-book-in-Belongs → tie.In-Belongs-2
+abbrev miss : tie.After-partition_count-book-in-Belongs → tie.In-Belongs
 miss pc = pc.before
 
 abbrev counted : tie.After-used_count → tie.After-partition_count-book-in-Belongs

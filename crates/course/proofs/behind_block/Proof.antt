@@ -16,4 +16,4 @@ behind_block_spec =
     (λ c κs. search rules)
     (λ c ws.
     let s = c.args in
-    λ i. going (record { position = c.behind_end-position.ensures ws i; registers = set s.begin.registers 0 s.result })))
+    λ i. going (record { position = c.behind_end-position.ensures ws i; registers = set s.begin.registers 0 s.res })))

@@ -11,7 +11,7 @@ use Rattle.figures.proofs.figures.Tie as tie
 
 -- no question says no
 opens : (c : tie.In-Accepted) → let a = c.args in open_refusal a.pack.now a.workflow ≡ none
-opens c = accepted _ _ c.«open».ensures c.in-Accepted.is
+opens c = accepted _ _ c.open-verdict.ensures c.in-Accepted.is
 
 pub figures_spec : {M : Type 1} → statement M
 figures_spec =
@@ -31,4 +31,4 @@ figures_spec =
     let t = p.before.before.before.before in
     answered _ _ (opens t) _ _ p.operations_part-ops.ensures p.operands_part-operands.ensures _ t.in-Accepted.is
     c.most_rows-rows.ensures.0 c.most_of-turns.ensures c.most_rows-rows.ensures.1)
-    (λ c. refused _ _ _ _ _ _ c.«open».ensures c.in-Refused.is))
+    (λ c. refused _ _ _ _ _ _ c.open-verdict.ensures c.in-Refused.is))

@@ -8,7 +8,7 @@ use native.Mathlib.Omega.{arith}
 use native.Mathlib.Numerals.{add-one}
 use lib.Dec.{eqb}
 use lib.ListN.{length, drop, length-set}
-use Rattle.questions.specs.Basics.{if◌then◌else◌}
+use Rattle.questions.specs.Basics.{if◌then◌otherwise◌}
 use Rattle.rules.specs.Blocks.{through_end}
 use Rattle.operation.specs.Operations.{op_begin, op_end}
 use Rattle.code.specs.Meaning.{code_of}
@@ -62,7 +62,7 @@ side_known : (i : tie.After-inside_before-inside invariant-loop decreases-loop) 
 side_known i =
     let t = test_before i in
     i.inside_before-inside.ensures
-    ∙ ap (λ n. if◌then◌else◌ (eqb n op_end) true (if◌then◌else◌ (eqb n op_begin) false (l t).loop-index.inside))
+    ∙ ap (λ n. if◌then◌otherwise◌ (eqb n op_end) true (if◌then◌otherwise◌ (eqb n op_begin) false (l t).loop-index.inside))
     i.operation_of-op.ensures
     ∙ side_before _ _ (s t).requires.0 (k t) (in_code t) (l t).loop-index.inside
     ((l t).loop-index.invariant.1 ∙ ap (inside_at (s t).args.ops.now) (is_next t))
@@ -96,7 +96,7 @@ fill_spec =
       omega (arith, in_code t),
       side_known i,
       c.behind_before-behind.ensures
-          ∙ ap (λ n. if◌then◌else◌ (eqb n op_end) (k t + 1) (l t).loop-index.behind) i.operation_of-op.ensures
+          ∙ ap (λ n. if◌then◌otherwise◌ (eqb n op_end) (k t + 1) (l t).loop-index.behind) i.operation_of-op.ensures
           ∙ end_before _ _ (s t).requires.0 (k t) (in_code t) (l t).loop-index.behind (end_ahead t),
       simp length-set (l t).loop-index.invariant.3,
       one_filled _ _ _ (l t).loop-index.most (k t) _ (in_code t) (filled_ahead t) c.most_at-value.ensures,

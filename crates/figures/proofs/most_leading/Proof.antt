@@ -6,7 +6,7 @@ use Prim.Native.Nat.{◌+◌, ◌<◌}
 use native.Mathlib.Omega.{arith}
 use lib.Dec.{eqb}
 use lib.ListN.{length, get_or}
-use Rattle.questions.specs.Basics.{if◌then◌else◌}
+use Rattle.questions.specs.Basics.{if◌then◌otherwise◌}
 use Rattle.rules.proofs.Routes.{larger}
 use Rattle.operation.specs.Parts.{target_of}
 use Rattle.operation.specs.Operations.{op_put, operand_of}
@@ -31,10 +31,10 @@ start o = o.before.before.before.before.before.before
 -- what it counts, by its operation
 own_count : (o : tie.After-own_of-own) → let a = (start o).args in
     o.own_of-own.result
-    ≡ if◌then◌else◌ a.inside (if◌then◌else◌ (eqb (operation_at a.ops.now a.index) op_put) 1 0) (counting_of a.by).one
+    ≡ if◌then◌otherwise◌ a.inside (if◌then◌otherwise◌ (eqb (operation_at a.ops.now a.index) op_put) 1 0) (counting_of a.by).one
 own_count o =
     o.own_of-own.ensures
-    ∙ ap (λ n. if◌then◌else◌ (start o).args.inside (if◌then◌else◌ (eqb n op_put) 1 0) (counting_of (start o).args.by).one)
+    ∙ ap (λ n. if◌then◌otherwise◌ (start o).args.inside (if◌then◌otherwise◌ (eqb n op_put) 1 0) (counting_of (start o).args.by).one)
     o.operation_of.ensures
 
 -- ── a jump ──

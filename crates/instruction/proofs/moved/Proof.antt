@@ -45,6 +45,6 @@ moved_spec =
     (λ c.
     let m = c in
     let so = m in
-    let r = m.in_default.rest in
+    let r = m.in_default.in_default-own.rest in
     moved_same _ _ _ _ _ _ so.register_named-s.ensures.0 so.requires.3 _ m.target_of-target.ensures
     (omega (arith, so.requires.0, r.1, r.0.1, r.0.0.1, r.0.0.0.1, r.0.0.0.0.1)) c.jumped-in_default.ensures))

@@ -12,11 +12,11 @@ use Rattle.lent_check.proofs.sound.Statement.{statement}
 use Rattle.lent_check.proofs.sound.Tie as tie
 
 -- from the book's answer back to the start
-abbrev start : tie.In-Value-2 → tie.Start
+abbrev start : tie.In-Value → tie.Start
 start c = c.before.before.before.before
 
 -- the workflow that the book has is below m
-below : (c : tie.In-Value-2) → c.in-Value.workflow < count (start c).args.pack.now
+below : (c : tie.In-Value) → c.in-Value.workflow < count (start c).args.pack.now
 below c =
     let k = c in
     let s = k in
@@ -35,7 +35,7 @@ sound_spec =
     (λ c. search rules)
     (λ c.
     let o = c in
-    let g = o in
+    let g = o.before.before.before in
     let k = g in
     let s = k in
     sym (sound_long s.args.pack.now (book_rows s.args.store.now) s.args.a k.booked_workflow-booked.ensures.1
@@ -45,7 +45,7 @@ sound_spec =
     (λ c.
     let l = c in
     let o = l in
-    let g = o in
+    let g = o.before.before.before.before.before in
     let k = g in
     let s = k in
     sym (sound_inside s.args.pack.now (book_rows s.args.store.now) s.args.a k.booked_workflow-booked.ensures.1
@@ -56,7 +56,7 @@ sound_spec =
     (λ c.
     let l = c in
     let o = l in
-    let g = o in
+    let g = o.before.before.before.before.before.before in
     let k = g in
     let s = k in
     sym (sound_rest s.args.pack.now (book_rows s.args.store.now) s.args.a k.booked_workflow-booked.ensures.1

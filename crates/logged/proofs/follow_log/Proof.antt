@@ -61,7 +61,8 @@ follow_log_spec =
     let t = c in
     let m = t in
     let lp = m.before.before.before.before in (
-      stands_further _ _ _ (start lp).requires.0 lp.loop-moves.place _ lp.loop-moves.invariant.0 _ _ m.move_by_log-stage.result m.move_by_log-stage.ensures
+      stands_further _ _ _ (start lp).requires.0 lp.loop-moves.place _ lp.loop-moves.invariant.0
+          (contents_of (store_of lp.args.store.now)).log lp.args.id m.move_by_log-stage.result m.move_by_log-stage.ensures
           t.in-UnderWay.is,
       sym
           (still_sought _ _ _ (start lp).requires.0 lp.loop-moves.place _ lp.loop-moves.invariant.0 _ _ m.move_by_log-stage.result

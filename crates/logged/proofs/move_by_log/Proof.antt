@@ -1,6 +1,8 @@
 -- `logged::move_by_log` meets its contract.
 use borrow.Author.Rules.{rules}
 use mathlib.Core.Path.{◌∙◌}
+use Rattle.store.specs.Rows.{store_of}
+use Rattle.contents.specs.Contents.{contents_of}
 use Rattle.logged.proofs.Moves.{may_ask, goes_on, replies, may_seek, may_pass, passes}
 use Rattle.logged.proofs.move_by_log.Statement.{statement}
 use Rattle.logged.proofs.move_by_log.Tie as tie
@@ -30,16 +32,19 @@ move_by_log_spec =
     (λ c.
     let n = c.before.before in
     let s = start n in
-    goes_on _ _ _ s.requires.0 s.args.from _ s.requires.1 n.next_of-upcoming.result n.next_of-upcoming.ensures _ _ c.in-Goes.is)
+    goes_on _ _ _ s.requires.0 s.args.from _ s.requires.1 n.next_of-upcoming.result n.next_of-upcoming.ensures (contents_of (store_of s.args.store.now)).log s.args.id
+    c.in-Goes.is)
     (λ c.
     let l = c in
     let x = l in
     let n = x.before.before.before.before in
     let s = start n in
     c.pass_block.ensures s.args.operands.now _ l.log_row-row.ensures
-    ∙ passes _ _ _ s.requires.0 s.args.from _ s.requires.1 n.next_of-upcoming.result n.next_of-upcoming.ensures _ x.in-Does.is _ _)
+    ∙ passes _ _ _ s.requires.0 s.args.from _ s.requires.1 n.next_of-upcoming.result n.next_of-upcoming.ensures _ x.in-Does.is
+    (contents_of (store_of s.args.store.now)).log s.args.id)
     (λ c.
     let x = c in
     let n = x.before.before in
     let s = start n in
-    replies _ _ _ s.requires.0 s.args.from _ s.requires.1 n.next_of-upcoming.result n.next_of-upcoming.ensures _ _ _ x.in-Says.is))
+    replies _ _ _ s.requires.0 s.args.from _ s.requires.1 n.next_of-upcoming.result n.next_of-upcoming.ensures (contents_of (store_of s.args.store.now)).log s.args.id _
+    x.in-Says.is))

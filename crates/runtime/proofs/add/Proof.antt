@@ -13,7 +13,7 @@ use Rattle.agents.proofs.Answers.{accepted_none, refused_some}
 use Rattle.worklist.specs.Worklist.{worklist_of}
 use Rattle.meaning.specs.Questions.{list_refusal}
 use Rattle.meaning.proofs.Asked.{lent_store}
-use Rattle.meaning.proofs.Begun.{list_lent, list_right, add_stops}
+use Rattle.meaning.proofs.Begun.{list_lent, list_right_lem, add_stops}
 use Rattle.runtime.proofs.Listing.{is_unlisted, add_26, add_20, adds}
 use Rattle.runtime.proofs.add.Statement.{statement}
 use Rattle.runtime.proofs.add.Tie as tie
@@ -39,7 +39,7 @@ add_spec =
     (tie.spec
     (λ c κs. search rules)
     (λ c. search rules)
-    (λ c κs. list_right _ _ (begun c))
+    (λ c κs. list_right_lem _ _ (begun c))
     (λ c κs. search rules)
     (λ c.
     let k = c in
@@ -49,7 +49,7 @@ add_spec =
     (λ c. search rules)
     (λ c κs.
     let e = c.before.before in
-    (list_right _ _ (begun e.before.before), room e))
+    (list_right_lem _ _ (begun e.before.before), room e))
     (λ c. search rules)
     (λ c κs. search rules)
     (λ c. search rules)

@@ -11,7 +11,7 @@ use Rattle.agents.proofs.Answers.{accepted_none, refused_some}
 use Rattle.worklist.specs.Worklist.{worklist_of}
 use Rattle.meaning.specs.Questions.{list_refusal}
 use Rattle.meaning.proofs.Asked.{lent_pack, lent_store, lent_13}
-use Rattle.meaning.proofs.Begun.{list_lent, list_right, done_stops}
+use Rattle.meaning.proofs.Begun.{list_lent, list_right_lem, done_stops}
 use Rattle.runtime.proofs.Listing.{is_unlisted, done_not_taken, done_not_through, dones}
 use Rattle.runtime.proofs.Listing.{through_is, not_yet_is, unbooked_is, unbooked_not_through}
 use Rattle.runtime.proofs.done.Statement.{statement}
@@ -37,7 +37,7 @@ done_spec =
     (tie.spec
     (λ c κs. search rules)
     (λ c. search rules)
-    (λ c κs. list_right _ _ (begun c))
+    (λ c κs. list_right_lem _ _ (begun c))
     (λ c κs. search rules)
     (λ c.
     let k = c in
@@ -45,7 +45,7 @@ done_spec =
     (done_not_taken _ _ (begun k.before.before.before) _ (sym k.is_taken.ensures ∙ c.if-not-is_taken.true)) c.unlisted.ensures)
     (λ c κs. let l = list_lent _ _ (begun c.before.before) in (lent_pack _ _ l, lent_store _ _ l, lent_13 _ _ l))
     (λ c. search rules)
-    (λ c κs. list_right _ _ (begun c.before.before.before.before))
+    (λ c κs. list_right_lem _ _ (begun c.before.before.before.before))
     (λ c. search rules)
     (λ c κs. search rules)
     (λ c. search rules)

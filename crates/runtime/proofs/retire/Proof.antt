@@ -7,7 +7,7 @@ use Rattle.agents.proofs.Answers.{accepted_none, refused_some}
 use Rattle.meaning.specs.State.{state_of}
 use Rattle.meaning.specs.Questions.{list_refusal}
 use Rattle.meaning.proofs.Asked.{lent_pack, lent_store, lent_13}
-use Rattle.meaning.proofs.Begun.{list_lent, list_right, retire_stops}
+use Rattle.meaning.proofs.Begun.{list_lent, list_right_lem, retire_stops}
 use Rattle.runtime.proofs.Retiring.{is_no, retire_28, retire_29, retires}
 use Rattle.runtime.proofs.retire.Statement.{statement}
 use Rattle.runtime.proofs.retire.Tie as tie
@@ -36,7 +36,7 @@ retire_spec =
     (λ c κs.
     let b = begun c in
     let l = list_lent _ _ b in
-    (lent_pack _ _ l, lent_store _ _ l, lent_13 _ _ l, list_right _ _ b))
+    (lent_pack _ _ l, lent_store _ _ l, lent_13 _ _ l, list_right_lem _ _ b))
     (λ c κs. search rules)
     (λ c. search rules)
     (λ c.

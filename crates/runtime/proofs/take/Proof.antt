@@ -6,7 +6,7 @@ use mathlib.Core.Path.{◌≡◌, refl, sym, ◌∙◌, ap}
 use Rattle.agents.proofs.Answers.{accepted_none, refused_some}
 use Rattle.worklist.specs.Worklist.{found_id}
 use Rattle.meaning.specs.Questions.{list_refusal}
-use Rattle.meaning.proofs.Begun.{list_right, take_stops}
+use Rattle.meaning.proofs.Begun.{list_right_lem, take_stops}
 use Rattle.runtime.proofs.Listing.{is_unlisted, take_27, takes_one, found_some, found_none}
 use Rattle.runtime.proofs.take.Statement.{statement}
 use Rattle.runtime.proofs.take.Tie as tie
@@ -27,7 +27,7 @@ take_spec =
     (tie.spec
     (λ c κs. search rules)
     (λ c. search rules)
-    (λ c κs. list_right _ _ (begun c))
+    (λ c κs. list_right_lem _ _ (begun c))
     (λ c.
     let i = c in
     let k = i in

@@ -11,7 +11,7 @@ use Rattle.turn.proofs.Turns.{may_ask, replies, may_go, goes_on, may_run, may_le
 use Rattle.turn.proofs.turn_agent.Statement.{statement}
 use Rattle.turn.proofs.turn_agent.Tie as tie
 
-small : (c : tie.After-workflow-of-arg) → c.before.before.before.args.a.id < 2 ^ 32
+small : (c : tie.After-slice_known-1) → c.args.a.id < 2 ^ 32
 small c = omega arith
 
 -- the workflow is below m

@@ -35,7 +35,7 @@ run_in_spec =
     (λ c. search rules)
     (λ c. let r = c in
     let d = r.before.before.before.before.before.before.before in (
-      on_first _ _ _ _ _ _ (sized d) (r.run_on.auto.1.1.0 ∙ length-take-le _ _ (fits d) ∙ sized d) r.run_on.ensures.0,
+      on_first _ _ _ _ _ _ (sized d) (r.run_on.auto.store ∙ length-take-le _ _ (fits d) ∙ sized d) r.run_on.ensures.0,
       r.run_on.ensures.1,
       r.run_on.ensures.2,
     )))

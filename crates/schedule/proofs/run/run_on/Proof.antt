@@ -18,8 +18,8 @@ created c = c.before.before.before.before
 abbrev total : tie.After-run_events-written → tie.After-events_line-written
 total c = c.before.before.before.before.before
 
-abbrev went : tie.After-print-store-arg2 → tie.After-run_events-written
-went c = c.before.before.before.before.before.before
+abbrev went : tie.After-print_store-arg-1 → tie.After-run_events-written
+went c = c.before.before.before.before.before
 
 pub run_on_spec : {M : Type 1} → statement M
 run_on_spec =
@@ -53,7 +53,7 @@ run_on_spec =
     (λ c. search rules)
     (λ c. search rules)
     (λ c. let p = c in
-    let d = went p.before in
+    let d = went p.before.before.before in
     let t = total d in
     let x = t.events_line-written.ensures.0 in
     let w = d.run_events-written.ensures.0 in
