@@ -6,5 +6,6 @@
 #![tactic(auto)]
 
 pub mod call;
+pub mod input;
 pub mod parts;
 pub mod run;

@@ -1,14 +1,17 @@
-// A case is run and printed.
-ghost use Rattle.std.specs.Prelude.{◌≡◌, ◌≤◌, length};
+// A case is run and printed, by a writer that the caller lends. A call fails where the writer does. What else it was lent keeps its length
+// then too, and holds whatever the case left there so far.
+ghost use Rattle.std.specs.Prelude.{◌≡◌, ◌≤◌, length, IfOk};
 ghost use Rattle.cases.specs.Parts.{HasParts, HasCall};
 
 use crate::{call, parts};
 use case_print::print;
-use libc::STDOUT_FILENO;
+use std::io;
+use std::io::Write;
 
 // What goes with the answer of a call, behind it: of an opening the parts; of a call that may change them store, records and worklist, or
 // without its state the store's bytes and the worklist alone.
-fn print_left(
+fn print_left<W: Write>(
+    out: &mut W,
     pack: &[u8],
     store: &[u8],
     records: &[u8],
@@ -16,54 +19,60 @@ fn print_left(
     call: u8,
     words: [u32; 7],
     with_state: bool,
-)
+) -> io::Result<()>
     requires { (384 ≤ length records.now) × (132 ≤ length list.now) }
 {
     if call == 1 {
-        print::print_opened(pack, words[0]);
+        return print::print_opened(out, pack, words[0]);
     }
     if 1 < call {
-        print_after(store, records, list, with_state);
+        return print_after(out, store, records, list, with_state);
     }
+    Ok(())
 }
 
 // The store, the records and the worklist that a call left, or the store's bytes and the worklist alone.
-fn print_after(store: &[u8], records: &[u8], list: &[u8], with_state: bool)
+fn print_after<W: Write>(
+    out: &mut W,
+    store: &[u8],
+    records: &[u8],
+    list: &[u8],
+    with_state: bool,
+) -> io::Result<()>
     requires { (384 ≤ length records.now) × (132 ≤ length list.now) }
 {
     if with_state {
-        print::print_store(store);
-        print::print_slots(records);
+        print::print_store(out, store)?;
+        print::print_slots(out, records)?;
     } else {
-        print::print_bytes(store);
+        print::print_bytes(out, store)?;
     }
-    print::print_list(list);
+    print::print_list(out, list)
 }
 
 // The figures of a workflow, or the refusal, as a host is told them.
-fn print_figures(pack: &[u8], workflow: u32) {
+fn print_figures<W: Write>(out: &mut W, pack: &[u8], workflow: u32) -> io::Result<()> {
     let mut answer = [0u8; 48];
     let number = host::sarthule_figures(pack, workflow, &mut answer);
     if number == 0 {
-        print::print_figures(&answer[12..48]);
-        return;
+        return print::print_figures(out, &answer[12..48]);
     }
-    print::print_answer(answers::read_answer(number, &answer));
+    print::print_answer(out, answers::read_answer(number, &answer))
 }
 
 // The reply worked out from the log, that there is none yet, or the refusal, as a host is told it.
-fn print_reply(pack: &[u8], store: &[u8], id: u32) {
+fn print_reply<W: Write>(out: &mut W, pack: &[u8], store: &[u8], id: u32) -> io::Result<()> {
     let mut answer = [0u8; 12];
     let number = host::sarthule_reply(pack, store, id, &mut answer);
     if number == 5 {
-        print::print_not_yet();
-        return;
+        return print::print_not_yet(out);
     }
-    print::print_answer(answers::read_answer(number, &answer));
+    print::print_answer(out, answers::read_answer(number, &answer))
 }
 
 // The answer of a call, and what goes with it. Figures (8) and a reply (15) are all that is printed of theirs.
-fn print_outcome(
+fn print_outcome<W: Write>(
+    out: &mut W,
     pack: &[u8],
     store: &mut [u8],
     records: &mut [u8],
@@ -71,23 +80,29 @@ fn print_outcome(
     call: u8,
     words: [u32; 7],
     with_state: bool,
-)
+) -> io::Result<()>
     requires { (length records.old ≡ 384) × (132 ≤ length list.old) }
 {
     if call == 8 {
-        print_figures(pack, words[0]);
-        return;
+        return print_figures(out, pack, words[0]);
     }
     if call == 15 {
-        print_reply(pack, store, words[0]);
-        return;
+        return print_reply(out, pack, store, words[0]);
     }
-    print::print_answer(call::make_call(pack, store, records, list, call, words));
-    print_left(pack, store, records, list, call, words, with_state);
+    print::print_answer(
+        out,
+        call::make_call(pack, store, records, list, call, words),
+    )?;
+    print_left(out, pack, store, records, list, call, words, with_state)
 }
 
 // A call, on a copy of its store in `buffer`, a copy of its records and an empty worklist.
-fn print_call(c: &[u8], with_state: bool, buffer: &mut [u8])
+fn print_call<W: Write>(
+    out: &mut W,
+    c: &[u8],
+    with_state: bool,
+    buffer: &mut [u8],
+) -> io::Result<()>
     requires { HasCall c.now × (length c.now ≤ length buffer.old) }
 {
     let pack_end = parts::pack_end(c);
@@ -97,6 +112,7 @@ fn print_call(c: &[u8], with_state: bool, buffer: &mut [u8])
     text::append_bytes(&mut records, 0, &c[parts_end..parts_end + 384]);
     let mut list = [0u8; 132];
     print_outcome(
+        out,
         &c[9..pack_end],
         &mut buffer[..store_bytes],
         &mut records,
@@ -104,30 +120,40 @@ fn print_call(c: &[u8], with_state: bool, buffer: &mut [u8])
         c[parts_end + 384],
         parts::call_words(c),
         with_state,
-    );
+    )
 }
 
 // The answers of calls, 29 bytes each, each call on what the one before left.
-fn print_answers(pack: &[u8], store: &mut [u8], records: &mut [u8], list: &mut [u8], calls: &[u8])
+fn print_answers<W: Write>(
+    out: &mut W,
+    pack: &[u8],
+    store: &mut [u8],
+    records: &mut [u8],
+    list: &mut [u8],
+    calls: &[u8],
+) -> io::Result<()>
     requires { (length records.old ≡ 384) × (132 ≤ length list.old) }
 {
     let mut call_at = 0;
     while 29 <= calls.len() - call_at {
         let words = parts::words_at(calls, call_at + 1);
-        print::print_answer(call::make_call(pack, store, records, list, calls[call_at], words));
+        let answer = call::make_call(pack, store, records, list, calls[call_at], words);
+        print::print_answer(out, answer)?;
         call_at += 29;
     }
+    Ok(())
 }
 
 // A list of calls, on a copy of the store in `buffer`, a copy of the records and the worklist.
-fn print_list(
+fn print_list<W: Write>(
+    out: &mut W,
     pack: &[u8],
     store: &[u8],
     entries: &[u8],
     calls: &[u8],
     with_state: bool,
     buffer: &mut [u8],
-)
+) -> io::Result<()>
     requires { (385 ≤ length calls.now) × (length store.now ≤ length buffer.old) }
 {
     let store_bytes = text::append_bytes(buffer, 0, store);
@@ -136,24 +162,26 @@ fn print_list(
     let mut list = [0u8; 2044];
     parts::lend_list(&mut list, entries);
     print_answers(
+        out,
         pack,
         &mut buffer[0..store_bytes],
         &mut records,
         &mut list,
         &calls[385..],
-    );
-    print_after(&buffer[0..store_bytes], &records, &list, with_state);
+    )?;
+    print_after(out, &buffer[0..store_bytes], &records, &list, with_state)
 }
 
 // A call with a worklist, on a copy of the store in `buffer`, a copy of the records and the worklist.
-fn print_listed(
+fn print_listed<W: Write>(
+    out: &mut W,
     pack: &[u8],
     store: &[u8],
     entries: &[u8],
     call: &[u8],
     with_state: bool,
     buffer: &mut [u8],
-)
+) -> io::Result<()>
     requires { (413 ≤ length call.now) × (length store.now ≤ length buffer.old) }
 {
     let store_bytes = text::append_bytes(buffer, 0, store);
@@ -162,6 +190,7 @@ fn print_listed(
     let mut list = [0u8; 2044];
     parts::lend_list(&mut list, entries);
     print_outcome(
+        out,
         pack,
         &mut buffer[0..store_bytes],
         &mut records,
@@ -169,58 +198,73 @@ fn print_listed(
         call[384],
         parts::words_at(call, 385),
         with_state,
-    );
+    )
 }
 
 // A schedule: what the schedule program prints.
-fn print_schedule(pack: &[u8], schedule: &[u8]) {
+fn print_schedule<W: Write>(out: &mut W, pack: &[u8], schedule: &[u8]) -> io::Result<()> {
     let mut store = schedule::run::store_buffer();
     let mut text = schedule::run::text_buffer();
     let written = schedule::run::run(pack, schedule, &mut store, &mut text);
-    io::write_all(STDOUT_FILENO, &text[..written]);
+    out.write_all(&text[..written])
 }
 
 // A case of kind 1, a call.
-fn print_call_case(c: &[u8], title: &[u8], with_state: bool, buffer: &mut [u8]) -> usize
+fn print_call_case<W: Write>(
+    out: &mut W,
+    c: &[u8],
+    title: &[u8],
+    with_state: bool,
+    buffer: &mut [u8],
+) -> io::Result<usize>
     requires { HasParts c.now × (length c.now ≤ length buffer.old) }
-    ensures { result ≤ length c.now }
+    ensures { IfOk result (λ size. size ≤ length c.now) }
 {
     if parts::has_call(c) {
         let end = parts::call_end(c);
-        io::write_all(STDOUT_FILENO, title);
-        print_call(c, with_state, buffer);
-        return end;
+        out.write_all(title)?;
+        print_call(out, c, with_state, buffer)?;
+        return Ok(end);
     }
-    0
+    Ok(0)
 }
 
 // A case of kind 2, a call with a worklist, or of kind 3, a list of calls.
-fn print_listed_case(c: &[u8], title: &[u8], with_state: bool, buffer: &mut [u8]) -> usize
+fn print_listed_case<W: Write>(
+    out: &mut W,
+    c: &[u8],
+    title: &[u8],
+    with_state: bool,
+    buffer: &mut [u8],
+) -> io::Result<usize>
     requires { HasParts c.now × (length c.now ≤ length buffer.old) }
-    ensures { result ≤ length c.now }
+    ensures { IfOk result (λ size. size ≤ length c.now) }
 {
     if c.len() < 10 {
-        return 0;
+        return Ok(0);
     }
     let pack_end = parts::pack_end(c) + 1;
     let store_end = parts::parts_end(c) + 1;
     let list_end = store_end + 5 * parts::wide(c[9]);
     if c.len() < list_end {
-        return 0;
+        return Ok(0);
     }
     let rest = &c[list_end..];
     let pack = &c[10..pack_end];
     let store = &c[pack_end..store_end];
     let entries = &c[store_end..list_end];
-    let bytes = print_rest(c[0], pack, store, entries, rest, title, with_state, buffer);
+    let bytes = print_rest(
+        out, c[0], pack, store, entries, rest, title, with_state, buffer,
+    )?;
     if bytes == 0 {
-        return 0;
+        return Ok(0);
     }
-    list_end + bytes
+    Ok(list_end + bytes)
 }
 
 // What stands behind the worklist of such a case, the records and the call or the calls, by its kind. The answer is how many bytes it has.
-fn print_rest(
+fn print_rest<W: Write>(
+    out: &mut W,
     kind: u8,
     pack: &[u8],
     store: &[u8],
@@ -229,66 +273,94 @@ fn print_rest(
     title: &[u8],
     with_state: bool,
     buffer: &mut [u8],
-) -> usize
+) -> io::Result<usize>
     requires { length store.now ≤ length buffer.old }
-    ensures { result ≤ length rest.now }
+    ensures { IfOk result (λ size. size ≤ length rest.now) }
 {
     if kind == 2 {
         let bytes = parts::call_bytes(rest);
         if bytes < 413 {
-            return 0;
+            return Ok(0);
         }
-        io::write_all(STDOUT_FILENO, title);
-        print_listed(pack, store, entries, &rest[0..bytes], with_state, buffer);
-        return bytes;
+        out.write_all(title)?;
+        print_listed(
+            out,
+            pack,
+            store,
+            entries,
+            &rest[0..bytes],
+            with_state,
+            buffer,
+        )?;
+        return Ok(bytes);
     }
     let bytes = parts::list_bytes(rest);
     if bytes < 385 {
-        return 0;
+        return Ok(0);
     }
-    io::write_all(STDOUT_FILENO, title);
-    print_list(pack, store, entries, &rest[0..bytes], with_state, buffer);
-    bytes
+    out.write_all(title)?;
+    print_list(
+        out,
+        pack,
+        store,
+        entries,
+        &rest[0..bytes],
+        with_state,
+        buffer,
+    )?;
+    Ok(bytes)
 }
 
 // A case of kind 0, a schedule.
-fn print_schedule_case(c: &[u8], title: &[u8]) -> usize
+fn print_schedule_case<W: Write>(out: &mut W, c: &[u8], title: &[u8]) -> io::Result<usize>
     requires { HasParts c.now }
-    ensures { result ≤ length c.now }
+    ensures { IfOk result (λ size. size ≤ length c.now) }
 {
     let pack_end = parts::pack_end(c);
     let parts_end = parts::parts_end(c);
-    io::write_all(STDOUT_FILENO, title);
-    print_schedule(&c[9..pack_end], &c[pack_end..parts_end]);
-    parts_end
+    out.write_all(title)?;
+    print_schedule(out, &c[9..pack_end], &c[pack_end..parts_end])?;
+    Ok(parts_end)
 }
 
 // A case by its kind.
-fn print_kind(c: &[u8], title: &[u8], with_state: bool, buffer: &mut [u8]) -> usize
+fn print_kind<W: Write>(
+    out: &mut W,
+    c: &[u8],
+    title: &[u8],
+    with_state: bool,
+    buffer: &mut [u8],
+) -> io::Result<usize>
     requires { HasParts c.now × (length c.now ≤ length buffer.old) }
-    ensures { result ≤ length c.now }
+    ensures { IfOk result (λ size. size ≤ length c.now) }
 {
     let kind = c[0];
     if kind == 0 {
-        return print_schedule_case(c, title);
+        return print_schedule_case(out, c, title);
     }
     if kind == 1 {
-        return print_call_case(c, title, with_state, buffer);
+        return print_call_case(out, c, title, with_state, buffer);
     }
     if kind <= 3 {
-        return print_listed_case(c, title, with_state, buffer);
+        return print_listed_case(out, c, title, with_state, buffer);
     }
-    0
+    Ok(0)
 }
 
 // The case that `c` begins with is run, and printed behind its title. The answer is how many bytes it has; it is 0 for a malformed
 // case, of which nothing is printed.
-pub fn print_case(c: &[u8], title: &[u8], with_state: bool, buffer: &mut [u8]) -> usize
+pub fn print_case<W: Write>(
+    out: &mut W,
+    c: &[u8],
+    title: &[u8],
+    with_state: bool,
+    buffer: &mut [u8],
+) -> io::Result<usize>
     requires { length c.now ≤ length buffer.old }
-    ensures { result ≤ length c.now }
+    ensures { IfOk result (λ size. size ≤ length c.now) }
 {
     if parts::has_parts(c) {
-        return print_kind(c, title, with_state, buffer);
+        return print_kind(out, c, title, with_state, buffer);
     }
-    0
+    Ok(0)
 }

@@ -1,36 +1,46 @@
 // Reads cases from `cases.bin` in the current folder, at most 1 MiB, and prints what each comes to. A missing file has no cases.
 #![tactic(auto)]
 
-ghost use Rattle.std.specs.Prelude.{◌≡◌, ◌≤◌, length};
+ghost use Rattle.std.specs.Prelude.{◌≡◌, ◌≤◌, length, IfOk};
+
+use std::fs::File;
+use std::io;
+use std::io::Write;
 
 // The case that `c` begins with, behind `case NUMBER`. The answer is how many bytes it has, 0 if it is malformed.
-fn print_numbered(c: &[u8], number: u64, buffer: &mut [u8]) -> usize
+fn print_numbered<W: Write>(
+    out: &mut W,
+    c: &[u8],
+    number: u64,
+    buffer: &mut [u8],
+) -> io::Result<usize>
     requires { length c.now ≤ length buffer.old }
-    ensures { result ≤ length c.now }
+    ensures { IfOk result (λ size. size ≤ length c.now) }
 {
     let mut line = [0u8; 32];
     let written = case_print::case_lines::case_line(&mut line, number);
-    let size = cases::run::print_case(c, &line[..written], true, buffer);
+    let size = cases::run::print_case(out, c, &line[..written], true, buffer)?;
     if size == 0 {
-        case_print::print::print_malformed(number);
+        case_print::print::print_malformed(out, number)?;
     }
-    size
+    Ok(size)
 }
 
 // All cases of a file.
-fn print_cases(file: &[u8], buffer: &mut [u8])
+fn print_cases<W: Write>(out: &mut W, file: &[u8], buffer: &mut [u8]) -> io::Result<()>
     requires { length file.now ≤ length buffer.old }
 {
     let mut passed = 0;
     let mut number: u64 = 0;
     while passed < file.len() {
-        let bytes = print_numbered(&file[passed..], number, buffer);
+        let bytes = print_numbered(out, &file[passed..], number, buffer)?;
         if bytes == 0 {
-            return;
+            return Ok(());
         }
         passed += bytes;
         number += 1;
     }
+    Ok(())
 }
 
 // Room for a file, and for the store of a case in it.
@@ -40,14 +50,12 @@ fn large_buffer() -> [u8; 1_048_576]
     [0; 1_048_576]
 }
 
-fn main() {
-    let fd = os::open_read(b"cases.bin");
-    if fd < 0 {
-        return;
-    }
+fn main(rt: HostRuntime) -> io::Result<()> {
+    let Ok(mut input) = File::open(&rt, "cases.bin") else {
+        return Ok(());
+    };
     let mut file = large_buffer();
-    let read = io::read_full(fd, &mut file);
-    libc::close(fd);
+    let read = cases::input::read_full(&mut input, &mut file)?;
     let mut buffer = large_buffer();
-    print_cases(&file[..read], &mut buffer);
+    print_cases(&mut io::writer(&rt), &file[..read], &mut buffer)
 }

@@ -2,39 +2,44 @@
 // (1 byte), the words, and a case in the form that `cases` has. `edges.py` has them in readable form, each with its answer.
 #![tactic(auto)]
 
-ghost use Rattle.std.specs.Prelude.{◌≡◌, ◌≤◌, length};
+ghost use Rattle.std.specs.Prelude.{◌≡◌, ◌≤◌, length, IfOk};
+
+use std::io;
+use std::io::Write;
 
 // The edge that `edges` begin with. The answer is how many bytes it has, 0 if it is malformed.
-fn print_edge(edges: &[u8], buffer: &mut [u8]) -> usize
+fn print_edge<W: Write>(out: &mut W, edges: &[u8], buffer: &mut [u8]) -> io::Result<usize>
     requires { length edges.now ≤ length buffer.old }
-    ensures { result ≤ length edges.now }
+    ensures { IfOk result (λ size. size ≤ length edges.now) }
 {
     if edges.len() == 0 {
-        return 0;
+        return Ok(0);
     }
     let words_end = 1 + cases::parts::wide(edges[0]);
     if edges.len() < words_end {
-        return 0;
+        return Ok(0);
     }
-    let bytes = cases::run::print_case(&edges[words_end..], &edges[1..words_end], false, buffer);
+    let case = &edges[words_end..];
+    let bytes = cases::run::print_case(out, case, &edges[1..words_end], false, buffer)?;
     if bytes == 0 {
-        return 0;
+        return Ok(0);
     }
-    words_end + bytes
+    Ok(words_end + bytes)
 }
 
 // All edges.
-fn print_edges(edges: &[u8], buffer: &mut [u8])
+fn print_edges<W: Write>(out: &mut W, edges: &[u8], buffer: &mut [u8]) -> io::Result<()>
     requires { length edges.now ≤ length buffer.old }
 {
     let mut passed = 0;
     while passed < edges.len() {
-        let bytes = print_edge(&edges[passed..], buffer);
+        let bytes = print_edge(out, &edges[passed..], buffer)?;
         if bytes == 0 {
-            return;
+            return Ok(());
         }
         passed += bytes;
     }
+    Ok(())
 }
 
 // Room for all edges, and for the store of one.
@@ -44,9 +49,9 @@ fn large_buffer() -> [u8; 524_288]
     [0; 524_288]
 }
 
-fn main() {
+fn main(rt: HostRuntime) -> io::Result<()> {
     let mut edges = large_buffer();
-    let read = io::read_full(0, &mut edges);
+    let read = cases::input::read_full(&mut rt.stdin(), &mut edges)?;
     let mut buffer = large_buffer();
-    print_edges(&edges[..read], &mut buffer);
+    print_edges(&mut io::writer(&rt), &edges[..read], &mut buffer)
 }

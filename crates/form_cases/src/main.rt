@@ -8,68 +8,68 @@ ghost use Rattle.pack.specs.Refusal.{open_refusal};
 ghost use Rattle.lent.specs.Alone.{TurnedAlone};
 
 use agents::{Agent, Answer, Request};
-use libc::STDOUT_FILENO;
 use questions::Verdict;
 use reader::Instruction;
+use std::io;
+use std::io::{Read, Write};
 use turn::Turned;
 
-fn write_text(text: &[u8]) {
-    io::write_all(STDOUT_FILENO, text);
+// The longest pack that is read: more than any that is right has.
+const MOST: u64 = 65_536;
+
+fn write_text<W: Write>(out: &mut W, text: &[u8]) -> io::Result<()> {
+    out.write_all(text)
 }
 
 // A number behind a blank.
-fn write_number(n: u64) {
-    write_text(b" ");
-    io::print_decimal(STDOUT_FILENO, n);
+fn write_number<W: Write>(out: &mut W, n: u64) -> io::Result<()> {
+    write!(out, " {n}")
 }
 
-fn write_word(w: u32) {
-    write_number(w as u64);
+fn write_word<W: Write>(out: &mut W, w: u32) -> io::Result<()> {
+    write_number(out, w as u64)
 }
 
 // A byte in hex behind a blank.
-fn write_byte(b: u8) {
-    write_text(b" ");
-    io::print_hex(STDOUT_FILENO, b as u64, 2);
+fn write_byte<W: Write>(out: &mut W, b: u8) -> io::Result<()> {
+    write!(out, " {b:02x}")
 }
 
 // A line of bytes in hex.
-fn write_bytes(title: &[u8], s: &[u8]) {
-    write_text(title);
+fn write_bytes<W: Write>(out: &mut W, title: &[u8], s: &[u8]) -> io::Result<()> {
+    write_text(out, title)?;
     let mut i = 0;
     while i < s.len() {
-        write_byte(s[i]);
+        write_byte(out, s[i])?;
         i += 1;
     }
-    write_text(b"\n");
+    write_text(out, b"\n")
 }
 
-fn write_verdict(v: Verdict) {
+fn write_verdict<W: Write>(out: &mut W, v: Verdict) -> io::Result<()> {
     match v {
-        Verdict::Accepted => {
-            write_text(b"accepted\n");
-        }
+        Verdict::Accepted => write_text(out, b"accepted\n"),
         Verdict::Refused {
             question,
             workflow,
             instruction,
         } => {
-            write_text(b"refused");
-            write_number(question as u64);
-            write_number(workflow as u64);
-            write_number(instruction as u64);
-            write_text(b"\n");
+            write_text(out, b"refused")?;
+            write_number(out, question as u64)?;
+            write_number(out, workflow as u64)?;
+            write_number(out, instruction as u64)?;
+            write_text(out, b"\n")
         }
     }
 }
 
 // instruction INDEX BYTE WORD
-fn write_instruction(i: usize, x: Instruction) {
-    write_text(b"instruction");
-    write_number(i as u64);
-    write_byte(x.byte);
-    write_word(x.word);
-    write_text(b"\n");
+fn write_instruction<W: Write>(out: &mut W, i: usize, x: Instruction) -> io::Result<()> {
+    write_text(out, b"instruction")?;
+    write_number(out, i as u64)?;
+    write_byte(out, x.byte)?;
+    write_word(out, x.word)?;
+    write_text(out, b"\n")
 }
 
 // The verdict that a reader has of its opening.
@@ -81,34 +81,39 @@ fn verdict_of(pack: &[u8], workflow: u32) -> Verdict
 }
 
 // A reader's instructions, and what stands past the end.
-fn write_instructions(pack: &[u8], workflow: u32, size: usize) {
+fn write_instructions<W: Write>(
+    out: &mut W,
+    pack: &[u8],
+    workflow: u32,
+    size: usize,
+) -> io::Result<()> {
     let mut i = 0;
     while i < size {
-        write_instruction(i, reader::instruction_of(pack, workflow, i));
+        write_instruction(out, i, reader::instruction_of(pack, workflow, i))?;
         i += 1;
     }
-    write_instruction(size, reader::instruction_of(pack, workflow, size));
+    write_instruction(out, size, reader::instruction_of(pack, workflow, size))
 }
 
 // All that there is of one workflow: a reader's verdict, the parts, a reader's instructions.
-fn write_reader(title: &[u8], pack: &[u8], workflow: u32) {
-    write_text(title);
-    write_verdict(verdict_of(pack, workflow));
+fn write_reader<W: Write>(out: &mut W, title: &[u8], pack: &[u8], workflow: u32) -> io::Result<()> {
+    write_text(out, title)?;
+    write_verdict(out, verdict_of(pack, workflow))?;
     let operations = pack::operations(pack, workflow);
-    write_bytes(b"operations", operations);
-    write_bytes(b"operands", pack::operands(pack, workflow));
-    write_instructions(pack, workflow, operations.len());
+    write_bytes(out, b"operations", operations)?;
+    write_bytes(out, b"operands", pack::operands(pack, workflow))?;
+    write_instructions(out, pack, workflow, operations.len())
 }
 
 // A workflow, one that the pack does not have, and the pack cut short by a byte.
-fn write_readers(pack: &[u8]) {
-    write_reader(b"workflow 0: ", pack, 0);
-    write_reader(b"workflow 1: ", pack, 1);
+fn write_readers<W: Write>(out: &mut W, pack: &[u8]) -> io::Result<()> {
+    write_reader(out, b"workflow 0: ", pack, 0)?;
+    write_reader(out, b"workflow 1: ", pack, 1)?;
     if pack.len() == 0 {
-        return;
+        return Ok(());
     }
     let n = pack.len() - 1;
-    write_reader(b"a byte short: ", &pack[0..n], 0);
+    write_reader(out, b"a byte short: ", &pack[0..n], 0)
 }
 
 // A turn by value: the record is lent, and what the turn left of it is read back.
@@ -123,24 +128,25 @@ fn turned(pack: &[u8], store: &mut [u8], agent: Agent) -> Turned
     }
 }
 
-fn write_registers(registers: [u32; 8]) {
+fn write_registers<W: Write>(out: &mut W, registers: [u32; 8]) -> io::Result<()> {
     let mut i = 0;
     while i < 8 {
-        write_word(registers[i]);
+        write_word(out, registers[i])?;
         i += 1;
     }
+    Ok(())
 }
 
 // record IN_USE ID POSITION STEP R0 .. R7
-fn write_record(a: Agent) {
-    write_text(b"record");
-    write_number(a.in_use as u64);
-    write_word(a.id);
-    write_number(a.position as u64);
-    write_number(a.step as u64);
+fn write_record<W: Write>(out: &mut W, a: Agent) -> io::Result<()> {
+    write_text(out, b"record")?;
+    write_number(out, a.in_use as u64)?;
+    write_word(out, a.id)?;
+    write_number(out, a.position as u64)?;
+    write_number(out, a.step as u64)?;
     let registers = a.registers;
-    write_registers(registers);
-    write_text(b"\n");
+    write_registers(out, registers)?;
+    write_text(out, b"\n")
 }
 
 fn is_moved(answer: Answer) -> bool {
@@ -152,32 +158,38 @@ fn is_moved(answer: Answer) -> bool {
 }
 
 // A call's answer, and the record that it left.
-fn write_call(answer: Answer, a: Agent) {
-    case_print::print::print_answer(answer);
-    write_record(a);
+fn write_call<W: Write>(out: &mut W, answer: Answer, a: Agent) -> io::Result<()> {
+    case_print::print::print_answer(out, answer)?;
+    write_record(out, a)
 }
 
 // The turns of a record until one is no move, at most `n`. The answer is the record that they left.
-fn write_turns(pack: &[u8], store: &mut [u8], agent: Agent, n: usize) -> Agent {
+fn write_turns<W: Write>(
+    out: &mut W,
+    pack: &[u8],
+    store: &mut [u8],
+    agent: Agent,
+    n: usize,
+) -> io::Result<Agent> {
     let mut a = agent;
     let mut i = 0;
     while i < n {
         let t = turned(pack, store, a);
         let answer = t.answer;
         let left = t.agent;
-        write_call(answer, left);
+        write_call(out, answer, left)?;
         a = left;
         if is_moved(answer) {
             i += 1;
         } else {
-            return a;
+            return Ok(a);
         }
     }
-    a
+    Ok(a)
 }
 
 // The agent of request 7 in slot 0: what its arrival left there.
-fn started(pack: &[u8], store: &mut [u8]) -> Agent {
+fn started<W: Write>(out: &mut W, pack: &[u8], store: &mut [u8]) -> io::Result<Agent> {
     let q = Request {
         workflow: 0,
         a0: 100,
@@ -189,25 +201,26 @@ fn started(pack: &[u8], store: &mut [u8]) -> Agent {
     let slots = o.agents;
     let a = slots[0];
     let answer = o.answer;
-    write_call(answer, a);
-    a
+    write_call(out, answer, a)?;
+    Ok(a)
 }
 
 // That agent from its arrival to its reply, and one turn more, with the store after each of the two.
-fn write_agent(pack: &[u8], store: &mut [u8]) {
-    write_text(b"create: ");
-    write_verdict(store_write::create::create(store, 2, 5));
-    let a = started(pack, store);
-    let left = write_turns(pack, store, a, 12);
-    case_print::print::print_store(store);
-    write_turns(pack, store, left, 1);
-    case_print::print::print_store(store);
+fn write_agent<W: Write>(out: &mut W, pack: &[u8], store: &mut [u8]) -> io::Result<()> {
+    write_text(out, b"create: ")?;
+    write_verdict(out, store_write::create::create(store, 2, 5))?;
+    let a = started(out, pack, store)?;
+    let left = write_turns(out, pack, store, a, 12)?;
+    case_print::print::print_store(out, store)?;
+    write_turns(out, pack, store, left, 1)?;
+    case_print::print::print_store(out, store)
 }
 
-fn main() {
-    let mut buffer = io::large_buffer();
-    let n = io::read_full(0, &mut buffer);
+fn main(rt: HostRuntime) -> io::Result<()> {
+    let mut pack = Vec::new(rt.alloc());
+    rt.stdin().take(MOST).read_to_end(&mut pack)?;
     let mut store = [0u8; 189];
-    write_readers(&buffer[..n]);
-    write_agent(&buffer[..n], &mut store);
+    let mut out = io::writer(&rt);
+    write_readers(&mut out, &pack)?;
+    write_agent(&mut out, &pack, &mut store)
 }

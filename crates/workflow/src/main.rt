@@ -3,9 +3,12 @@
 #![tactic(auto)]
 
 ghost use Rattle.std.specs.Prelude.{◌≡◌, length};
-ghost use Rattle.io.specs.Counts.{IsPrefixLen};
+ghost use Rattle.std.specs.Io.{ReadsAtMost};
 
-use libc::STDOUT_FILENO;
+use std::fs::File;
+use std::io;
+use std::io::{Read, Write};
+use std::rt::Files;
 
 // One byte more than the longest pack, 1 + 2 × 16 + 5 × 2,048, so that the check sees the length of a longer file.
 fn pack_buffer() -> [u8; 10_274]
@@ -21,26 +24,38 @@ fn schedule_buffer() -> [u8; 3_591]
     [0; 3_591]
 }
 
-// Reads a file's first bytes, as many as `buf` has, and answers how many there were. A missing file counts as empty.
-fn read_file(path: &[u8], buf: &mut [u8]) -> usize
-    ensures { IsPrefixLen result buf.new }
+// The input's first bytes, as many as `buf` has; the answer is how many there were.
+fn read_full<R: Read>(input: &mut R, buf: &mut [u8]) -> io::Result<usize>
+    ensures { ReadsAtMost result buf.new }
 {
-    let fd = os::open_read(path);
-    if fd < 0 {
-        return 0;
+    let mut filled = 0;
+    while filled < buf.len() {
+        let count = input.read(&mut buf[filled..])?;
+        if count == 0 {
+            break;
+        }
+        filled += count;
     }
-    let n = io::read_full(fd, buf);
-    libc::close(fd);
-    n
+    Ok(filled)
 }
 
-fn main() {
+// Reads a file's first bytes, as many as `buf` has, and answers how many there were. A missing file counts as empty.
+fn read_file<R: Files>(files: &R, path: &str, buf: &mut [u8]) -> io::Result<usize>
+    ensures { ReadsAtMost result buf.new }
+{
+    match File::open(files, path) {
+        Ok(mut file) => read_full(&mut file, buf),
+        Err(_) => Ok(0),
+    }
+}
+
+fn main(rt: HostRuntime) -> io::Result<()> {
     let mut pack = pack_buffer();
     let mut schedule = schedule_buffer();
     let mut store = schedule::run::store_buffer();
     let mut text = schedule::run::text_buffer();
-    let p = read_file(b"pack.bin", &mut pack);
-    let s = read_file(b"schedule.bin", &mut schedule);
+    let p = read_file(&rt, "pack.bin", &mut pack)?;
+    let s = read_file(&rt, "schedule.bin", &mut schedule)?;
     let n = schedule::run::run(&pack[..p], &schedule[..s], &mut store, &mut text);
-    io::write_all(STDOUT_FILENO, &text[..n]);
+    io::writer(&rt).write_all(&text[..n])
 }

@@ -11,8 +11,8 @@ invariant-loop calls at₀ at = at ≤ length calls
 abbrev decreases-loop : tie.decreases-loop-call_at
 decreases-loop calls at₀ at = length calls - at
 
-pub calls-right-spec : {M : Type 1} → statement M
-calls-right-spec =
+pub calls_right_spec : {M : Type 1} → statement M
+calls_right_spec =
     tie.close
     (tie.spec
     invariant-loop
