@@ -1,4 +1,4 @@
-//! Links the proved library, which `rt staticlib host` writes to target/staticlib of the repository. SARTHULE_LIB names another
+//! Links the proved library, which `scripts/hosts.sh` puts into target/staticlib of the repository. SARTHULE_LIB names another
 //! folder that has a libhost.a.
 use std::path::PathBuf;
 
