@@ -2,11 +2,11 @@
 # compare.sh [FILES] [CASES] [FIRST SEED]: generates FILES files of CASES cases each (25 of 1,000, seeds from 1 on), runs each through the
 # proved program `conformance` and through the reference, and says how many cases were compared and which is the first that differs. What
 # they print has the bytes of each store that a call left, so rows in another order differ too.
-# Needed first: `rt check conformance`, and `cargo build --release --offline` in reference/.
+# Needed first: `rt run` in crates/conformance, and `cargo build --release --offline` in reference/.
 set -eu
 files=${1:-25} cases=${2:-1000} seed=${3:-1}
 top=$(cd "$(dirname "$0")/.." && pwd)
-proved=${CONFORMANCE:-$top/target/bin/conformance}
+proved=${CONFORMANCE:-$top/crates/conformance/out/conformance}
 reference=${REFERENCE:-$top/reference/target/release/reference}
 work=$(mktemp -d)
 trap 'rm -rf "$work"' EXIT
