@@ -282,32 +282,18 @@ fn print_rest<W: Write>(
         if bytes < 413 {
             return Ok(0);
         }
+        let call = &rest[0..bytes];
         out.write_all(title)?;
-        print_listed(
-            out,
-            pack,
-            store,
-            entries,
-            &rest[0..bytes],
-            with_state,
-            buffer,
-        )?;
+        print_listed(out, pack, store, entries, call, with_state, buffer)?;
         return Ok(bytes);
     }
     let bytes = parts::list_bytes(rest);
     if bytes < 385 {
         return Ok(0);
     }
+    let calls = &rest[0..bytes];
     out.write_all(title)?;
-    print_list(
-        out,
-        pack,
-        store,
-        entries,
-        &rest[0..bytes],
-        with_state,
-        buffer,
-    )?;
+    print_list(out, pack, store, entries, calls, with_state, buffer)?;
     Ok(bytes)
 }
 
