@@ -2,7 +2,7 @@
 // pack with the workflow that it has open, and the record of one agent, lent by `&mut` and moved on in place.
 #![tactic(auto)]
 
-ghost use Rattle.std.specs.Prelude.{◌≡◌};
+ghost use Rattle.std.specs.Prelude.{◌≡◌, length};
 ghost use Rattle.questions.specs.Verdicts.{verdict_of};
 ghost use Rattle.pack.specs.Refusal.{open_refusal};
 ghost use Rattle.lent.specs.Alone.{TurnedAlone};
@@ -11,11 +11,8 @@ use agents::{Agent, Answer, Request};
 use questions::Verdict;
 use reader::Instruction;
 use std::io;
-use std::io::{Read, Write};
+use std::io::Write;
 use turn::Turned;
-
-// The longest pack that is read: more than any that is right has.
-const MOST: u64 = 65_536;
 
 fn write_text<W: Write>(out: &mut W, text: &[u8]) -> io::Result<()> {
     out.write_all(text)
@@ -216,11 +213,19 @@ fn write_agent<W: Write>(out: &mut W, pack: &[u8], store: &mut [u8]) -> io::Resu
     case_print::print::print_store(out, store)
 }
 
+// Room for the pack that is read: for more bytes than any that is right has.
+fn pack_buffer() -> [u8; 65_536]
+    ensures { 65536 ≡ length result }
+{
+    [0; 65_536]
+}
+
 fn main(rt: HostRuntime) -> io::Result<()> {
-    let mut pack = Vec::new(rt.alloc());
-    rt.stdin().take(MOST).read_to_end(&mut pack)?;
+    let mut buffer = pack_buffer();
+    let read = cases::input::read_full(&mut rt.stdin(), &mut buffer)?;
+    let pack = &buffer[..read];
     let mut store = [0u8; 189];
     let mut out = io::writer(&rt);
-    write_readers(&mut out, &pack)?;
-    write_agent(&mut out, &pack, &mut store)
+    write_readers(&mut out, pack)?;
+    write_agent(&mut out, pack, &mut store)
 }
