@@ -10,10 +10,10 @@ A record has the fields of all records further out, so that a step needs no way 
 is given just that record: the count is that of today's places. A second run changes nothing.
 """
 
-import json
-import os
 import re
 import sys
+
+from respell_steps import rewrite_file, walks
 
 W = r"[^\W\d][\w'-]*[₀-₉]*"
 ATOM = re.compile(r"\s+(?:(" + W + r"(?:\.[^\s(){},;.]+)*)|\()")
@@ -250,23 +250,9 @@ def each_block(blocks, places, helpers, outer, outer_env):
 
 
 def main(argv):
-    folder, wanted = argv[0], argv[1:]
-    for crate in sorted(os.listdir(os.path.join(folder, "crates"))):
-        with open(os.path.join(folder, "crates", crate, "names.json"), encoding="utf-8") as f:
-            all_steps = json.load(f)
-        for key, steps in all_steps.items():
-            m = re.match(r"^Rattle-\w+-proofs\.(.*)\.Lts$", key)
-            if not m:
-                continue
-            path = os.path.join("crates", crate, "proofs", *m.group(1).split("."), "Proof.antt")
-            if not os.path.exists(path) or (wanted and crate not in wanted and path not in wanted):
-                continue
-            with open(path, encoding="utf-8") as f:
-                text = f.read()
-            new = turned(text, steps)
-            if new != text:
-                with open(path, "w", encoding="utf-8") as f:
-                    f.write(new)
+    for path, _, in_a_cycle, steps in walks(argv[0], argv[1:]):
+        if not in_a_cycle:
+            rewrite_file(path, lambda text: turned(text, steps))
 
 
 if __name__ == "__main__":

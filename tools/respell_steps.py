@@ -309,27 +309,32 @@ def chains(text, steps):
     return "\n".join(result)
 
 
-def main(argv):
-    folder, names = argv[0], argv[1:]
-    of = signatures("crates")
+def walks(folder, wanted=()):
+    """Each walk whose crate or path is wanted, or each, with its function's name and steps: what `rt names` listed in the folder."""
     for crate in sorted(os.listdir(os.path.join(folder, "crates"))):
-        if names and crate not in names:
-            continue
         with open(os.path.join(folder, "crates", crate, "names.json"), encoding="utf-8") as f:
             all_steps = json.load(f)
         for key, steps in all_steps.items():
             m = re.match(r"^Rattle-\w+-proofs\.(.*)\.Lts(-\S+)?$", key)
-            if not m:
-                continue
-            path = os.path.join("crates", crate, "proofs", *m.group(1).split("."), "Proof.antt")
-            if not os.path.exists(path):
-                continue
-            with open(path, encoding="utf-8") as f:
-                text = f.read()
-            new = turned(chains(text, steps), steps, of.get(m.group(1).split(".")[-1], ([], [])), of)
-            if new != text:
-                with open(path, "w", encoding="utf-8") as f:
-                    f.write(new)
+            path = os.path.join("crates", crate, "proofs", *m.group(1).split("."), "Proof.antt") if m else ""
+            if os.path.exists(path) and (not wanted or crate in wanted or path in wanted):
+                yield path, m.group(1), bool(m.group(2)), steps
+
+
+def rewrite_file(path, change):
+    with open(path, encoding="utf-8") as f:
+        text = f.read()
+    new = change(text)
+    if new != text:
+        with open(path, "w", encoding="utf-8") as f:
+            f.write(new)
+
+
+def main(argv):
+    of = signatures("crates")
+    for path, name, _, steps in walks(argv[0], argv[1:]):
+        own = of.get(name.split(".")[-1], ([], []))
+        rewrite_file(path, lambda text: turned(chains(text, steps), steps, own, of))
 
 
 if __name__ == "__main__":
