@@ -1,4 +1,5 @@
 // Bytes that a program reads, into a buffer that the caller lends.
+ghost use Rattle.std.specs.Prelude.{◌≡◌, length};
 ghost use Rattle.std.specs.Io.{ReadsAtMost};
 
 use std::io;
@@ -6,7 +7,8 @@ use std::io::Read;
 
 // The input's first bytes, as many as `buf` has; the answer is how many there were.
 pub fn read_full<R: Read>(input: &mut R, buf: &mut [u8]) -> io::Result<usize>
-    ensures { ReadsAtMost result buf.new }
+    ensures read { ReadsAtMost result buf.new }
+    ensures kept { length buf.new ≡ length buf.old }
 {
     let mut filled = 0;
     while filled < buf.len() {

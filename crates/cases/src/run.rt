@@ -218,7 +218,8 @@ fn print_call_case<W: Write>(
     buffer: &mut [u8],
 ) -> io::Result<usize>
     requires { HasParts c.now × (length c.now ≤ length buffer.old) }
-    ensures { IfOk result (λ size. size ≤ length c.now) }
+    ensures size { IfOk result (λ size. size ≤ length c.now) }
+    ensures kept { length buffer.new ≡ length buffer.old }
 {
     if parts::has_call(c) {
         let end = parts::call_end(c);
@@ -238,7 +239,8 @@ fn print_listed_case<W: Write>(
     buffer: &mut [u8],
 ) -> io::Result<usize>
     requires { HasParts c.now × (length c.now ≤ length buffer.old) }
-    ensures { IfOk result (λ size. size ≤ length c.now) }
+    ensures size { IfOk result (λ size. size ≤ length c.now) }
+    ensures kept { length buffer.new ≡ length buffer.old }
 {
     if c.len() < 10 {
         return Ok(0);
@@ -275,7 +277,8 @@ fn print_rest<W: Write>(
     buffer: &mut [u8],
 ) -> io::Result<usize>
     requires { length store.now ≤ length buffer.old }
-    ensures { IfOk result (λ size. size ≤ length rest.now) }
+    ensures size { IfOk result (λ size. size ≤ length rest.now) }
+    ensures kept { length buffer.new ≡ length buffer.old }
 {
     if kind == 2 {
         let bytes = parts::call_bytes(rest);
@@ -318,7 +321,8 @@ fn print_kind<W: Write>(
     buffer: &mut [u8],
 ) -> io::Result<usize>
     requires { HasParts c.now × (length c.now ≤ length buffer.old) }
-    ensures { IfOk result (λ size. size ≤ length c.now) }
+    ensures size { IfOk result (λ size. size ≤ length c.now) }
+    ensures kept { length buffer.new ≡ length buffer.old }
 {
     let kind = c[0];
     if kind == 0 {
@@ -343,7 +347,8 @@ pub fn print_case<W: Write>(
     buffer: &mut [u8],
 ) -> io::Result<usize>
     requires { length c.now ≤ length buffer.old }
-    ensures { IfOk result (λ size. size ≤ length c.now) }
+    ensures size { IfOk result (λ size. size ≤ length c.now) }
+    ensures kept { length buffer.new ≡ length buffer.old }
 {
     if parts::has_parts(c) {
         return print_kind(out, c, title, with_state, buffer);

@@ -15,7 +15,8 @@ fn print_numbered<W: Write>(
     buffer: &mut [u8],
 ) -> io::Result<usize>
     requires { length c.now ≤ length buffer.old }
-    ensures { IfOk result (λ size. size ≤ length c.now) }
+    ensures size { IfOk result (λ size. size ≤ length c.now) }
+    ensures kept { length buffer.new ≡ length buffer.old }
 {
     let mut line = [0u8; 32];
     let written = case_print::case_lines::case_line(&mut line, number);

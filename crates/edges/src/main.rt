@@ -10,7 +10,8 @@ use std::io::Write;
 // The edge that `edges` begin with. The answer is how many bytes it has, 0 if it is malformed.
 fn print_edge<W: Write>(out: &mut W, edges: &[u8], buffer: &mut [u8]) -> io::Result<usize>
     requires { length edges.now ≤ length buffer.old }
-    ensures { IfOk result (λ size. size ≤ length edges.now) }
+    ensures size { IfOk result (λ size. size ≤ length edges.now) }
+    ensures kept { length buffer.new ≡ length buffer.old }
 {
     if edges.len() == 0 {
         return Ok(0);

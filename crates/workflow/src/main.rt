@@ -26,7 +26,8 @@ fn schedule_buffer() -> [u8; 3_591]
 
 // The input's first bytes, as many as `buf` has; the answer is how many there were.
 fn read_full<R: Read>(input: &mut R, buf: &mut [u8]) -> io::Result<usize>
-    ensures { ReadsAtMost result buf.new }
+    ensures read { ReadsAtMost result buf.new }
+    ensures kept { length buf.new ≡ length buf.old }
 {
     let mut filled = 0;
     while filled < buf.len() {
@@ -41,7 +42,8 @@ fn read_full<R: Read>(input: &mut R, buf: &mut [u8]) -> io::Result<usize>
 
 // Reads a file's first bytes, as many as `buf` has, and answers how many there were. A missing file counts as empty.
 fn read_file<R: Files>(files: &R, path: &str, buf: &mut [u8]) -> io::Result<usize>
-    ensures { ReadsAtMost result buf.new }
+    ensures read { ReadsAtMost result buf.new }
+    ensures kept { length buf.new ≡ length buf.old }
 {
     match File::open(files, path) {
         Ok(mut file) => read_full(&mut file, buf),
