@@ -1,37 +1,38 @@
--- A record that is all zero, register by register.
-use mathlib.Core.Bool.{Bool, true, false}
-use mathlib.Core.List.{List}
-use mathlib.Core.Path.{◌≡◌, refl, sym}
-use Prim.Native.Nat.{ℕ, ◌+◌, ◌-◌, ◌≤◌, ◌<◌}
-use borrow.Author.Tests.{eq-eqb, ne_eqb}
+-- A record that is all zero: its registers, as the code compares them, against the specification, which asks of each of them.
+use mathlib.Core.Bool.{Bool, true, false, ◌&&◌}
+use mathlib.Core.List.{List, [], ◌∷◌}
+use mathlib.Core.Path.{◌≡◌, refl, sym, ◌∙◌, ap, subst}
+use Prim.Native.Nat.{ℕ, zero, suc, ◌+◌, ◌<◌}
+use native.Mathlib.Nat.{add-zero}
+use native.Mathlib.Omega.{arith}
 use lib.Dec.{eqb}
-use lib.ListN.{get_or}
-use Rattle.questions.specs.Basics.{each, each_from}
-use Rattle.questions.proofs.Each.{each_none, each_more, each_fails}
-use Rattle.agents.specs.declared.Agent.{Agent}
-use Rattle.agents.specs.Slots.{is_blank}
+use lib.ListN.{length, get_or, replicate}
+use Rattle.std.specs.Cmp.Lexicographic.{pointwise}
+use Rattle.std.specs.List.{list_all}
+use Rattle.questions.specs.Basics.{if◌then◌otherwise◌, each, each_from}
 
-pub blank_is : (a : Agent) → a.id ≡ 0 → a.position ≡ 0 → a.step ≡ 0 → is_blank a ≡ each 8 (λ i. eqb (get_or a.registers i 0) 0)
-unfolding is_blank
-blank_is a p q r = rw (eq-eqb a.id 0 p, eq-eqb a.position 0 q, eq-eqb a.step 0 r) refl
+both : (b c : Bool) → if◌then◌otherwise◌ b c false ≡ (b && c)
+both true c = refl
+both false c = refl
 
--- the registers of a record
-module _ (l : List ℕ) where
-  unfoldable pub zero_from : (i : ℕ) → Bool
-  zero_from i = each_from (λ k. eqb (get_or l k 0) 0) (8 - i) i
+-- What is asked of each number below a list's length is what is asked of each of its elements.
+module _ {A : Type 0} (p : A → Bool) (d : A) (f : ℕ → Bool) where
+  from : (xs : List A) (i : ℕ) → ((k : ℕ) → k < length xs → f (i + k) ≡ p (get_or xs k d)) → each_from f (length xs) i ≡ list_all p xs
+  unfolding each_from
+  from [] i h = refl
+  from (x ∷ xs) i h =
+      let here : f i ≡ p x = ap f (sym (add-zero i)) ∙ h zero (omega arith) in
+      let rest = from xs (i + 1) (λ k l. ap f (omega arith) ∙ h (suc k) (omega arith)) in
+      rw (here, rest) (both (p x) (list_all p xs))
 
-  pub zero_no_lem : (i : ℕ) → i < 8 → (get_or l i 0 ≡ 0 → ⊥) → zero_from i ≡ false
-  unfolding zero_from
-  zero_no_lem i h n = each_fails _ 8 i h (ne_eqb _ 0 n)
+  pub each_all : (n : ℕ) (xs : List A) → length xs ≡ n → ((k : ℕ) → f k ≡ p (get_or xs k d)) → each n f ≡ list_all p xs
+  each_all n xs e h = subst (λ m. each_from f m 0 ≡ list_all p xs) e (from xs 0 (λ k l. ap f (omega arith) ∙ h k))
 
-  pub zero_on : (i : ℕ) → i < 8 → get_or l i 0 ≡ 0 → zero_from i ≡ zero_from (i + 1)
-  unfolding zero_from
-  zero_on i h e = each_more _ 8 i h (eq-eqb _ 0 e)
+zeros : (xs : List ℕ) → pointwise eqb xs (replicate (length xs) 0) ≡ list_all (λ x. eqb x 0) xs
+zeros [] = refl
+zeros (x ∷ xs) = ap (λ b. eqb x 0 && b) (zeros xs)
 
-  pub zero_done : (i : ℕ) → 8 ≤ i → zero_from i ≡ true
-  unfolding zero_from
-  zero_done i h = each_none _ 8 i h
-
-pub blank_start : (a : Agent) → a.id ≡ 0 → a.position ≡ 0 → a.step ≡ 0 → zero_from a.registers 0 ≡ is_blank a
-unfolding zero_from
-blank_start a p q r = sym (blank_is a p q r)
+pub blank_registers : (xs : List ℕ) → length xs ≡ 8 → pointwise eqb xs (replicate 8 0) ≡ each 8 (λ i. eqb (get_or xs i 0) 0)
+blank_registers xs e =
+    subst (λ n. pointwise eqb xs (replicate n 0) ≡ list_all (λ x. eqb x 0) xs) e (zeros xs)
+    ∙ sym (each_all (λ x. eqb x 0) 0 (λ i. eqb (get_or xs i 0) 0) 8 xs e (λ k. refl))

@@ -1,14 +1,15 @@
 // Requests as they arrive; the records of agents, by value, eight in an array; the answers of the calls.
 #![tactic(auto)]
 
-ghost use Rattle.std.specs.Prelude.{◌≡◌, ◌<◌, set, replicate};
+ghost use Rattle.std.specs.Prelude.{ℕ, length, ◌≡◌, ◌<◌, set, replicate};
 ghost use Rattle.agents.specs.Requests.{asked};
 ghost use Rattle.rules.specs.Calls.{is_of, in_no_slot};
-ghost use Rattle.agents.specs.Slots.{no_agent, started_with, placed, is_blank, agent_of, slots_of};
-ghost use Rattle.agents.specs.Answers.{outcome};
+ghost use Rattle.agents.specs.Slots.{agent_at, no_agent, started_with, placed, is_blank, agent_of, slots_of};
+
+use questions::Refusal;
 
 // A request: the number of its workflow and its four arguments.
-#[derive(Clone, Copy)]
+#[derive(Clone, Copy, Debug, PartialEq, Eq)]
 pub struct Request {
     pub workflow: u32,
     pub a0: u32,
@@ -18,7 +19,7 @@ pub struct Request {
 }
 
 // An agent record: in use, id, position, step number, eight registers. An empty slot is all zero.
-#[derive(Clone, Copy)]
+#[derive(Clone, Copy, Debug, PartialEq, Eq)]
 pub struct Agent {
     pub in_use: bool,
     pub id: u32,
@@ -27,32 +28,17 @@ pub struct Agent {
     pub registers: [u32; 8],
 }
 
-// What a call answers; a take gives an id. A refusal has the question's number and, with 4 to 8, the workflow and the instruction,
-// otherwise 0 and 0.
-#[derive(Clone, Copy)]
-pub enum Answer {
+// What an accepted call answers: that it is done, that an agent moved on, a reply to an id, or the id that a take gives.
+#[derive(Clone, Copy, Debug, PartialEq, Eq)]
+pub enum Accepted {
     Done,
     Moved,
-    Reply {
-        id: u32,
-        value: u32,
-    },
-    Given {
-        id: u32,
-    },
-    Refused {
-        question: u8,
-        workflow: usize,
-        instruction: usize,
-    },
+    Reply { id: u32, value: u32 },
+    Given { id: u32 },
 }
 
-// What a call answers, and what it leaves in the slots.
-#[derive(Clone, Copy)]
-pub struct Outcome {
-    pub answer: Answer,
-    pub agents: [Agent; 8],
-}
+// What a call answers: it is accepted, or refused with the first no of its questions.
+pub type Answer = Result<Accepted, Refusal>;
 
 // An empty slot is all zero.
 pub fn no_agent() -> Agent
@@ -71,8 +57,7 @@ pub fn no_agent() -> Agent
 pub fn no_agents() -> [Agent; 8]
     ensures { result ≡ replicate 8 no_agent }
 {
-    let a = no_agent();
-    [a; 8]
+    [no_agent(); 8]
 }
 
 // A started agent: position 0, step 0, the arguments in registers 0 to 3, zero in 4 to 7.
@@ -102,84 +87,32 @@ pub fn placed(a: Agent, position: u16, registers: [u32; 8], step: u16) -> Agent
 }
 
 // Is a record that is not in use all zero?
+#[tactic(auto, unfolding(crate::specs::Slots::is_blank), using(crate::proofs::Blank::blank_registers))]
 pub fn is_blank(a: Agent) -> bool
     ensures { result ≡ is_blank a }
 {
-    if a.id != 0 {
-        return false;
-    }
-    if a.position != 0 {
-        return false;
-    }
-    if a.step != 0 {
-        return false;
-    }
-    let registers = a.registers;
-    let mut i = 0;
-    while i < 8 {
-        if registers[i] != 0 {
-            return false;
-        }
-        i += 1;
-    }
-    true
+    a.id == 0 && a.position == 0 && a.step == 0 && a.registers == [0; 8]
 }
 
 // Is it the record of an agent of this id? An empty record's id is 0, and no agent's.
-fn is_of(a: Agent, id: u32) -> bool
-    ensures { result ≡ is_of id (agent_of a) }
+#[tactic(auto, using(crate::proofs::InSlots::of_same, crate::proofs::InSlots::of_other))]
+fn is_of(a: &Agent, id: u32) -> bool
+    ensures { result ≡ is_of id (agent_of a.now) }
 {
-    if a.id == id {
-        return a.in_use;
-    }
-    false
+    a.id == id && a.in_use
 }
 
 // Is no agent of this id in a slot?
 pub fn in_no_slot(agents: [Agent; 8], id: u32) -> bool
     ensures { result ≡ in_no_slot (slots_of agents) id }
 {
-    let mut slot = 0;
-    while slot < 8 {
-        let a = agents[slot];
-        if is_of(a, id) {
-            return false;
-        }
-        slot += 1;
-    }
-    true
+    agents.iter().all(|a| !is_of(a, id))
 }
 
-// Another record in one slot.
-pub fn with_agent(agents: [Agent; 8], slot: usize, a: Agent) -> [Agent; 8]
-    requires { slot < 8 }
-    ensures { result ≡ set agents slot a }
+// Eight records by value have eight registers each: their type says so, and whoever holds them by reference learns it here. Nothing is
+// done.
+pub fn eight_registers(records: [Agent; 8])
+    ensures { (slot : ℕ) → slot < 8 → length (agent_at records slot).registers ≡ 8 }
 {
-    let mut next = agents;
-    next[slot] = a;
-    next
-}
-
-// A no, with the records as they were.
-pub fn refused(question: u8, workflow: usize, instruction: usize, agents: [Agent; 8]) -> Outcome
-    ensures { result ≡ outcome (Answer.Refused question workflow instruction) agents }
-{
-    Outcome {
-        answer: Answer::Refused {
-            question,
-            workflow,
-            instruction,
-        },
-        agents,
-    }
-}
-
-// Done, with these records.
-pub fn done(agents: [Agent; 8]) -> Outcome
-    ensures { result ≡ outcome Answer.Done agents }
-{
-    Outcome {
-        answer: Answer::Done,
-        agents,
-    }
+    let _records = records;
 }

@@ -12,8 +12,11 @@ use Rattle.questions.specs.Basics.{if◌then◌otherwise◌}
 use Rattle.questions.proofs.Updates.{none_some}
 use Rattle.questions.specs.Questions.{No, no}
 use Rattle.questions.specs.Verdicts.{verdict_of}
-use Rattle.questions.specs.declared.Verdict.{Verdict}
-use Rattle.questions.specs.declared.Verdict.TheVariants.{Accepted, Refused}
+use Rattle.questions.specs.Verdicts.{Verdict}
+use Rattle.std.specs.Prelude.{Ok, Err, is_ok}
+use Rattle.questions.specs.declared.Refusal.{Refusal}
+use Rattle.questions.proofs.Tests.{yes_no}
+use Rattle.rules.specs.Plain.{accepted}
 use Rattle.rules.specs.Blocks.{yields}
 use Rattle.rules.specs.Calls.{Answer, done, moved, reply, given, refused}
 use Rattle.words.specs.Words.{le, put}
@@ -22,7 +25,13 @@ use Rattle.slots.specs.Records.{puts}
 use Rattle.slots.specs.Records as Records
 use Rattle.slots.proofs.Words.{le_puts}
 use Rattle.agents.proofs.Answers.{accepted_none, refused_some}
-use Rattle.answers.specs.Answers.{with_words, heard, PlaceFits, judged}
+use Rattle.agents.specs.declared.Agent.{Agent}
+use Rattle.agents.specs.declared.Accepted.TheVariants.{Done, Moved, Reply, Given}
+use Rattle.agents.specs.Answers.{Answer as Said, answer_of}
+use Rattle.slots.specs.Records.{with_slots}
+use Rattle.worklist.specs.declared.Worklist.{Worklist}
+use Rattle.worklist.specs.Bytes.{with_list}
+use Rattle.answers.specs.Answers.{with_words, heard, PlaceFits, judged, slots_after, list_after}
 use Rattle.answers.specs.Answers as Answers
 
 -- only the low 4 bytes of a number are written
@@ -129,10 +138,55 @@ module _ (number : ℕ) (answer : List ℕ) (a : Answer) (h : heard number answe
           rw (low, s, t) same
 
 -- a verdict as an answer
-pub judged_accepted : (v : Verdict) (o : Option No) → v ≡ Accepted → v ≡ verdict_of o → judged o ≡ done
+pub judged_accepted : (v : Verdict) (o : Option No) → v ≡ Ok tt → v ≡ verdict_of o → judged o ≡ done
 unfolding judged
 judged_accepted v o a e = ap judged (accepted_none v o e a)
 
-pub judged_refused : (v : Verdict) (o : Option No) (q w i : ℕ) → v ≡ Refused q w i → v ≡ verdict_of o → judged o ≡ refused (no q w i)
+pub judged_refused : (v : Verdict) (o : Option No) (n : Refusal) → v ≡ Err n → v ≡ verdict_of o →
+    judged o ≡ refused (no n.question n.workflow n.instruction)
 unfolding judged
-judged_refused v o q w i a e = ap judged (refused_some v o q w i e a)
+judged_refused v o n a e = ap judged (refused_some v o n e a)
+
+-- what an accepted call left is written, and nothing after a refusal
+module _ (slots : List ℕ) (records : List Agent) where
+  pub slots_written : (a : Said) → is_ok a ≡ true → with_slots slots records ≡ slots_after (answer_of a) slots records
+  unfolding slots_after answer_of
+  slots_written (Ok Done) e = refl
+  slots_written (Ok Moved) e = refl
+  slots_written (Ok (Reply id value)) e = refl
+  slots_written (Ok (Given id)) e = refl
+  slots_written (Err n) e = yes_no (sym e)
+
+  pub slots_left : (a : Said) → is_ok a ≡ false → slots ≡ slots_after (answer_of a) slots records
+  unfolding slots_after answer_of
+  slots_left (Ok Done) e = yes_no e
+  slots_left (Ok Moved) e = yes_no e
+  slots_left (Ok (Reply id value)) e = yes_no e
+  slots_left (Ok (Given id)) e = yes_no e
+  slots_left (Err n) e = refl
+
+module _ (bytes : List ℕ) (list : Worklist) where
+  pub list_written : (a : Said) → is_ok a ≡ true → with_list bytes list ≡ list_after (answer_of a) bytes list
+  unfolding list_after answer_of
+  list_written (Ok Done) e = refl
+  list_written (Ok Moved) e = refl
+  list_written (Ok (Reply id value)) e = refl
+  list_written (Ok (Given id)) e = refl
+  list_written (Err n) e = yes_no (sym e)
+
+  pub list_left : (a : Said) → is_ok a ≡ false → bytes ≡ list_after (answer_of a) bytes list
+  unfolding list_after answer_of
+  list_left (Ok Done) e = yes_no e
+  list_left (Ok Moved) e = yes_no e
+  list_left (Ok (Reply id value)) e = yes_no e
+  list_left (Ok (Given id)) e = yes_no e
+  list_left (Err n) e = refl
+
+-- a refusal is not accepted
+pub not_accepted : (a : Said) → is_ok a ≡ false → {P : Type 0} → accepted (answer_of a) ≡ true → P
+unfolding answer_of
+not_accepted (Ok Done) e d = yes_no e
+not_accepted (Ok Moved) e d = yes_no e
+not_accepted (Ok (Reply id value)) e d = yes_no e
+not_accepted (Ok (Given id)) e d = yes_no e
+not_accepted (Err n) e d = yes_no (sym d)

@@ -2,7 +2,7 @@
 // their bytes.
 #![tactic(auto)]
 
-ghost use Rattle.std.specs.Prelude.{true, ◌≡◌, [], ◌∷◌, ◌%◌, ◌^◌, ◌≤◌, length};
+ghost use Rattle.std.specs.Prelude.{Ok, true, ◌≡◌, [], ◌∷◌, ◌%◌, ◌^◌, ◌≤◌, length};
 ghost use Rattle.std.proofs.Math.Option.{Option, some};
 ghost use Rattle.questions.specs.Questions.{No};
 ghost use Rattle.questions.specs.Verdicts.{verdict_of};
@@ -14,8 +14,8 @@ ghost use Rattle.answers.specs.Answers.{number_of, values_of, with_words, heard,
 ghost use Rattle.answers.specs.Answers.{slots_after, list_after};
 ghost use Rattle.worklist.specs.Bytes.{list_in};
 
-use agents::{Agent, Answer, Outcome};
-use questions::Verdict;
+use agents::{Accepted, Agent, Answer};
+use questions::{Refusal, Verdict};
 use worklist::Worklist;
 
 // The low 4 bytes of a number.
@@ -35,6 +35,33 @@ fn write_words(answer: &mut [u8], first: u32, second: u32, third: u32)
     words::write32(answer, 8, third);
 }
 
+// Writes the three words of an accepted call's answer, and gives its number.
+fn write_accepted(answer: &mut [u8], said: Accepted) -> u32
+    requires { 12 ≤ length answer.old }
+    ensures written { (result ≡ number_of (answer_of (Ok said)))
+        × (answer.new ≡ with_words answer.old (values_of (answer_of (Ok said)))) }
+    ensures heard { heard result answer.new ≡ some (answer_of (Ok said)) }
+{
+    match said {
+        Accepted::Done => {
+            write_words(answer, 0, 0, 0);
+            0
+        }
+        Accepted::Moved => {
+            write_words(answer, 0, 0, 0);
+            1
+        }
+        Accepted::Reply { id, value } => {
+            write_words(answer, id, value, 0);
+            2
+        }
+        Accepted::Given { id } => {
+            write_words(answer, id, 0, 0);
+            4
+        }
+    }
+}
+
 // Writes an answer's three words, and gives its number.
 pub fn write_answer(answer: &mut [u8], a: Answer) -> u32
     requires { 12 ≤ length answer.old }
@@ -43,28 +70,10 @@ pub fn write_answer(answer: &mut [u8], a: Answer) -> u32
     ensures heard { PlaceFits (answer_of a) → heard result answer.new ≡ some (answer_of a) }
 {
     match a {
-        Answer::Done => {
-            write_words(answer, 0, 0, 0);
-            0
-        }
-        Answer::Moved => {
-            write_words(answer, 0, 0, 0);
-            1
-        }
-        Answer::Reply { id, value } => {
-            write_words(answer, id, value, 0);
-            2
-        }
-        Answer::Given { id } => {
-            write_words(answer, id, 0, 0);
-            4
-        }
-        Answer::Refused {
-            question,
-            workflow,
-            instruction,
-        } => {
-            write_words(answer, question as u32, low(workflow), low(instruction));
+        Ok(said) => write_accepted(answer, said),
+        Err(no) => {
+            let question = no.question as u32;
+            write_words(answer, question, low(no.workflow), low(no.instruction));
             3
         }
     }
@@ -75,27 +84,21 @@ pub fn read_answer(number: u32, answer: &[u8]) -> Answer
     requires { 12 ≤ length answer.now }
     ensures { (a : Rules.Answer) → heard number answer.now ≡ some a → PlaceFits a → answer_of result ≡ a }
 {
-    if number == 0 {
-        return Answer::Done;
-    }
-    if number == 1 {
-        return Answer::Moved;
-    }
     let first = words::read32(answer, 0);
     let second = words::read32(answer, 4);
-    if number == 2 {
-        return Answer::Reply {
+    match number {
+        0 => Ok(Accepted::Done),
+        1 => Ok(Accepted::Moved),
+        2 => Ok(Accepted::Reply {
             id: first,
             value: second,
-        };
-    }
-    if number == 4 {
-        return Answer::Given { id: first };
-    }
-    Answer::Refused {
-        question: (first % 256) as u8,
-        workflow: second as usize,
-        instruction: words::read32(answer, 8) as usize,
+        }),
+        4 => Ok(Accepted::Given { id: first }),
+        _ => Err(Refusal::at(
+            (first % 256) as u8,
+            second as usize,
+            words::read32(answer, 8) as usize,
+        )),
     }
 }
 
@@ -123,18 +126,8 @@ pub fn write_figures(answer: &mut [u8], turns: u32, rows: [u32; 8])
 pub fn judge(v: Verdict) -> Answer
     ensures { (o : Option No) → v ≡ verdict_of o → answer_of result ≡ judged o }
 {
-    match v {
-        Verdict::Accepted => Answer::Done,
-        Verdict::Refused {
-            question,
-            workflow,
-            instruction,
-        } => Answer::Refused {
-            question,
-            workflow,
-            instruction,
-        },
-    }
+    v?;
+    Ok(Accepted::Done)
 }
 
 // The records that a call left go back to their bytes. A refused call has left them alone, and bytes that are no record stay so.
@@ -143,32 +136,22 @@ pub fn write_back(slots: &mut [u8], a: Answer, agents: [Agent; 8])
     ensures slots_after { slots.new ≡ slots_after (answer_of a) slots.old agents }
     ensures slots_read { accepted (answer_of a) ≡ true → slots_in slots.new ≡ agents }
 {
-    match a {
-        Answer::Done => slots::write_slots(slots, agents),
-        Answer::Moved => slots::write_slots(slots, agents),
-        Answer::Reply { id: _, value: _ } => slots::write_slots(slots, agents),
-        Answer::Given { id: _ } => slots::write_slots(slots, agents),
-        Answer::Refused {
-            question: _,
-            workflow: _,
-            instruction: _,
-        } => {}
+    if a.is_ok() {
+        slots::write_slots(slots, agents);
     }
 }
 
 // What a call left goes to the slots' bytes, and what it answered to the answer buffer.
-pub fn finish(slots: &mut [u8], answer: &mut [u8], o: Outcome) -> u32
+pub fn finish(slots: &mut [u8], answer: &mut [u8], said: Answer, agents: [Agent; 8]) -> u32
     requires { (length slots.old ≡ 384) × (12 ≤ length answer.old) }
-    ensures written { (result ≡ number_of (answer_of o.answer))
-        × (answer.new ≡ with_words answer.old (values_of (answer_of o.answer))) }
-    ensures heard { PlaceFits (answer_of o.answer) → heard result answer.new ≡ some (answer_of o.answer) }
-    ensures slots_after { slots.new ≡ slots_after (answer_of o.answer) slots.old o.agents }
-    ensures slots_read { accepted (answer_of o.answer) ≡ true → slots_in slots.new ≡ o.agents }
+    ensures written { (result ≡ number_of (answer_of said))
+        × (answer.new ≡ with_words answer.old (values_of (answer_of said))) }
+    ensures heard { PlaceFits (answer_of said) → heard result answer.new ≡ some (answer_of said) }
+    ensures slots_after { slots.new ≡ slots_after (answer_of said) slots.old agents }
+    ensures slots_read { accepted (answer_of said) ≡ true → slots_in slots.new ≡ agents }
 {
-    let a = o.answer;
-    let agents = o.agents;
-    write_back(slots, a, agents);
-    write_answer(answer, a)
+    write_back(slots, said, agents);
+    write_answer(answer, said)
 }
 
 // The worklist that a call left goes back to its bytes. A refused call has left it alone.
@@ -177,16 +160,8 @@ pub fn write_list_back(list: &mut [u8], a: Answer, left: Worklist)
     ensures list_after { list.new ≡ list_after (answer_of a) list.old left }
     ensures list_read { accepted (answer_of a) ≡ true → list_in list.new ≡ left }
 {
-    match a {
-        Answer::Done => worklist::write_list(list, left),
-        Answer::Moved => worklist::write_list(list, left),
-        Answer::Reply { id: _, value: _ } => worklist::write_list(list, left),
-        Answer::Given { id: _ } => worklist::write_list(list, left),
-        Answer::Refused {
-            question: _,
-            workflow: _,
-            instruction: _,
-        } => {}
+    if a.is_ok() {
+        worklist::write_list(list, left);
     }
 }
 

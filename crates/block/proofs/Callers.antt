@@ -25,9 +25,8 @@ use Rattle.questions.proofs.Updates.{update_same, update_other}
 use Rattle.store.specs.Rows.{rows_of, store_of}
 use Rattle.store.specs.Layout.{parts_of, cap_of}
 use Rattle.store.specs.Sound.{Sound}
-use Rattle.block.specs.declared.write.BlockOutcome.{BlockOutcome}
-use Rattle.block.specs.declared.write.BlockOutcome.TheVariants.{Result, NoRoom}
-use Rattle.block.specs.Through.{outcome_of, logged_value, has_room, Committed, Through, had_room}
+use Rattle.std.specs.Prelude.{Ok}
+use Rattle.block.specs.Through.{BlockOutcome, no_room, outcome_of, logged_value, has_room, Committed, Through, had_room}
 
 -- ---- the store
 
@@ -115,9 +114,9 @@ module _ (xs ys : List ℕ) (p id t : ℕ) (b : Block) (h : p < parts_of xs) (c 
 
 -- the three ways through a block
 data Came (xs ys : List ℕ) (p id t : ℕ) (b : Block) (r : BlockOutcome) (o : Option ℕ) : Type 0 where
-  found : (v : ℕ) → o ≡ some v → r ≡ Result v → ys ≡ xs → Came xs ys p id t b r o
+  found : (v : ℕ) → o ≡ some v → r ≡ Ok v → ys ≡ xs → Came xs ys p id t b r o
   wrote : o ≡ none → has_room xs p b ≡ true → r ≡ outcome_of b.result → Committed xs ys p id t b → Came xs ys p id t b r o
-  full : o ≡ none → has_room xs p b ≡ false → r ≡ NoRoom → ys ≡ xs → Came xs ys p id t b r o
+  full : o ≡ none → has_room xs p b ≡ false → r ≡ no_room → ys ≡ xs → Came xs ys p id t b r o
 
 came : (xs ys : List ℕ) (p id t : ℕ) (b : Block) (r : BlockOutcome) (o : Option ℕ) → Through xs ys p id t b r o → Came xs ys p id t b r o
 unfolding Through
@@ -125,23 +124,23 @@ came xs ys p id t b r (some v) (e, q) = found v refl e q
 came xs ys p id t b r none q = go (has_room xs p b) refl q
   where
     go : (m : Bool) → has_room xs p b ≡ m →
-        if◌then◌otherwise◌ m ((r ≡ outcome_of b.result) × Committed xs ys p id t b) ((r ≡ NoRoom) × (ys ≡ xs)) → Came xs ys p id t b r none
+        if◌then◌otherwise◌ m ((r ≡ outcome_of b.result) × Committed xs ys p id t b) ((r ≡ no_room) × (ys ≡ xs)) → Came xs ys p id t b r none
     go true m (e, c) = wrote refl m e c
     go false m (e, c) = full refl m e c
 
 had : (v : Blocks.Result) → had_room (outcome_of v) ≡ true
 had (yields v) = refl
 
-result_as : {v : ℕ} {r : BlockOutcome} (w : Blocks.Result) → r ≡ outcome_of w → r ≡ Result v → w ≡ yields v
+result_as : {v : ℕ} {r : BlockOutcome} (w : Blocks.Result) → r ≡ outcome_of w → r ≡ Ok v → w ≡ yields v
 result_as {v} {r} (yields w) e f = let q : w ≡ v = cc in ap yields q
 
-same_result : {v w : ℕ} {r : BlockOutcome} → r ≡ Result v → r ≡ Result w → v ≡ w
+same_result : {v w : ℕ} {r : BlockOutcome} → r ≡ Ok v → r ≡ Ok w → v ≡ w
 same_result {v} {w} {r} e f = cc
 
-never_both : {A : Type 0} {v : ℕ} {r : BlockOutcome} → r ≡ Result v → r ≡ NoRoom → A
+never_both : {A : Type 0} {v : ℕ} {r : BlockOutcome} → r ≡ Ok v → r ≡ no_room → A
 never_both {v} {r} e f = let z : ◌≡◌ {A = ℕ} 0 1 = cc in absurd (omega arith)
 
-never_wrote : {A : Type 0} {r : BlockOutcome} (v : Blocks.Result) → r ≡ outcome_of v → r ≡ NoRoom → A
+never_wrote : {A : Type 0} {r : BlockOutcome} (v : Blocks.Result) → r ≡ outcome_of v → r ≡ no_room → A
 never_wrote {r} (yields v) e f = never_both e f
 
 -- Agent a stands at BEGIN of a block of partition p: xs are the bytes before, ys those that the block leaves, r is what it comes to, o what
@@ -178,7 +177,7 @@ module _ (xs ys : List ℕ) (p : ℕ) (h : p < parts_of xs) (a : Agent) (code : 
       go (full e m f q) = ap (λ w. can_write (contents_of (store_of xs)) code from p (sought w)) e ∙ room_as ∙ m ∙ sym (ap had_room f)
 
   -- and then the rules pass the block with the code's result, in a state that holds the bytes left
-  pub passes_block : (others : State) (slot v : ℕ) → r ≡ Result v →
+  pub passes_block : (others : State) (slot v : ℕ) → r ≡ Ok v →
       through_block (holding others xs) slot a code from p onto (sought o) ≡ moves_to (holding others ys) slot a (onto (yields v))
       (suc a.step)
   unfolding Calls.through_block
@@ -200,7 +199,7 @@ module _ (xs ys : List ℕ) (p : ℕ) (h : p < parts_of xs) (a : Agent) (code : 
       go (full e m f q) = never_both z f
 
   -- a no to question 21 changes nothing
-  pub no_room_same : r ≡ NoRoom → ys ≡ xs
+  pub no_room_same : r ≡ no_room → ys ≡ xs
   no_room_same z = go way
     where
       go : Came xs ys p a.id a.step block r o → ys ≡ xs

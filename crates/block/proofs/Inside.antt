@@ -10,8 +10,6 @@ use borrow.Author.Tests.{eqb-false, not-true}
 use lib.Dec.{eqb}
 use lib.ListN.{length, get_or}
 use Rattle.questions.specs.Basics.{if◌then◌otherwise◌}
-use Rattle.questions.specs.Verdicts.{verdict_of}
-use Rattle.questions.specs.declared.Verdict.TheVariants.{Accepted}
 use Rattle.questions.proofs.Each.{each_at}
 use Rattle.operation.specs.declared.Operand.TheVariants.{Jump}
 use Rattle.operation.specs.Parts.{target_of}
@@ -19,7 +17,6 @@ use Rattle.operation.specs.Operations.{op_end, op_put, operand_of}
 use Rattle.code.specs.Layout.{operation_at, word_at}
 use Rattle.code.specs.Questions.{inside_at, puts_before, is_no_end}
 use Rattle.code.specs.Questions as Questions
-use Rattle.code.specs.Refusal.{instruction_no}
 use Rattle.code.proofs.Judged.{yes_7, lands_right, counted_put}
 use Rattle.code.proofs.Steps.{stays_inside, puts_next}
 use Rattle.code.proofs.Right.{yes_at, known_at, yes_6_at, no_begin, no_return}
@@ -31,21 +28,18 @@ use Rattle.instruction.specs.declared.Running.{Running}
 
 module _ (ops ws : List ℕ) (right : Right ops ws) where
   module _ (i : ℕ) (h : i < length ops) (s : inside_at ops i ≡ true) where
-    accepted : Accepted ≡ verdict_of (instruction_no right.workflow ops ws i)
-    accepted = ap verdict_of (sym (yes_at ops ws right i h))
-
     put_room : operation_at ops i ≡ op_put → puts_before ops i < 16
     put_room e = counted_put ops i e (yes_7 right.workflow ops ws i (yes_at ops ws right i h))
 
     module _ (n : operation_at ops i ≡ op_end → ⊥) where
       pub inside_next : inside_at ops (suc i) ≡ true
       inside_next = subst (λ (j : ℕ). inside_at ops j ≡ true) (add-one i)
-          (stays_inside right.workflow ops ws i Accepted accepted refl s n)
+          (stays_inside right.workflow ops ws i (yes_at ops ws right i h) s n)
 
       pub puts_behind : puts_before ops (suc i) ≡ puts_before ops i + puts_of (operation_at ops i)
       puts_behind =
           ap (puts_before ops) (sym (add-one i))
-          ∙ puts_next right.workflow ops ws i Accepted accepted refl (operation_at ops i) (puts_before ops i) _ refl refl refl s n
+          ∙ puts_next right.workflow ops ws i (yes_at ops ws right i h) s n
           ∙ go (eqb (operation_at ops i) op_put)
         where
           go : (t : Bool) → if◌then◌otherwise◌ t (puts_before ops i + 1) (puts_before ops i) ≡ puts_before ops i + if◌then◌otherwise◌ t 1 0

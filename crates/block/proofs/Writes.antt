@@ -20,7 +20,6 @@ use Rattle.store.specs.Layout.{parts_of, cap_of}
 use Rattle.store.specs.Questions.{ahead, rising, all_in, keys_ok}
 use Rattle.store.specs.Sound.{Stored, StoredIfRoom, Sound}
 use Rattle.store.specs.Answers.{found_in}
-use Rattle.store.specs.declared.rows.Found.TheVariants.{At, Belongs}
 use Rattle.store.specs.Sound as Sounds
 use Rattle.store.specs.Questions as Questions
 use Rattle.store.proofs.Lists.{lookup_put_same, lookup_put_other, rises_none}
@@ -28,11 +27,10 @@ use Rattle.store.proofs.Search.{at_lookup, no_lookup, changed_parts, changed_cap
 use Rattle.store.proofs.Sound.{length_put_all, log_form}
 use Rattle.instruction.specs.Pending.{over, seen, rows_in, new_in, Sized, Kept}
 use Rattle.block.specs.Run.{block_of}
-use Rattle.block.specs.Through.{has_room, Committed, Through}
+use Rattle.block.specs.Through.{BlockOutcome, no_room, has_room, Committed, Through}
 use Rattle.instruction.specs.declared.pending.Pending.{Pending}
 use Rattle.block.specs.declared.run.Ran.{Ran}
-use Rattle.block.specs.declared.write.BlockOutcome.{BlockOutcome}
-use Rattle.block.specs.declared.write.BlockOutcome.TheVariants.{Result, NoRoom}
+use Rattle.std.specs.Prelude.{Ok, Err}
 use Rattle.store.proofs.Order.{rising_unlike}
 use Rattle.instruction.proofs.Rows.{data_forms, keys_count, values_count, keys_here}
 
@@ -83,11 +81,11 @@ log_at : (rs : List Row) (id t : ℕ) → id < 2 ^ 32 → t < 65536 → log_of (
 log_at rs id t h g = rw (lt-ltb id (2 ^ 32) h, lt-ltb t 65536 g) refl
 
 -- the log row by the search for it
-pub log_none : (rs : List Row) (id t i : ℕ) → id < 2 ^ 32 → t < 65536 → found_in (log_key id t) (keys_in rs) ≡ Belongs i →
+pub log_none : (rs : List Row) (id t i : ℕ) → id < 2 ^ 32 → t < 65536 → found_in (log_key id t) (keys_in rs) ≡ Err i →
     log_of (value_in rs) id t ≡ none
 log_none rs id t i h g e = log_at rs id t h g ∙ no_lookup (log_key id t) rs i e
 
-pub log_some : (rs : List Row) (id t i : ℕ) → id < 2 ^ 32 → t < 65536 → found_in (log_key id t) (keys_in rs) ≡ At i →
+pub log_some : (rs : List Row) (id t i : ℕ) → id < 2 ^ 32 → t < 65536 → found_in (log_key id t) (keys_in rs) ≡ Ok i →
     log_of (value_in rs) id t ≡ some (get_or rs i (0, 0)).1
 log_some rs id t i h g e = log_at rs id t h g ∙ at_lookup (log_key id t) rs i e
 
@@ -205,7 +203,7 @@ module _ (xs ys : List ℕ) (p : ℕ) (r : Ran) (kept : Kept r.pending) (id t : 
 
 -- where a block needs more rows than are free, the answer is no, and nothing is changed
 pub too_full : (xs ys : List ℕ) (p id t : ℕ) (b : Block) → cap_of xs < length (rows_of xs p) + rows_needed b → ys ≡ xs →
-    Through xs ys p id t b NoRoom none
+    Through xs ys p id t b no_room none
 unfolding Through
 too_full xs ys p id t b l same = rw (lt-leb (length (rows_of xs p) + rows_needed b) (cap_of xs) l) (refl, same)
 
@@ -218,17 +216,17 @@ module _ (xs ys : List ℕ) (p : ℕ) (r : Ran) (kept : Kept r.pending) (id t : 
   count = length_out r kept id t r.result h g q sized e (rows_of xs p) good new
 
   pub written : StoredIfRoom xs ys p (put_all (pairs (take q.count q.keys) (take q.count q.values))) true →
-      Through xs ys p id t (block_of (rows_of xs p) r) (Result r.result) none
+      Through xs ys p id t (block_of (rows_of xs p) r) (Ok r.result) none
   unfolding Sounds.StoredIfRoom Through
   written s =
       let yes : has_room xs p (block_of (rows_of xs p) r) ≡ true =
       le-leb (length (rows_of xs p) + rows_needed (block_of (rows_of xs p) r)) (cap_of xs) (omega (arith, s.0, count)) in
       rw yes (refl, committed xs ys p r kept id t h g q sized e s.1 good new)
 
-  pub no_room : StoredIfRoom xs ys p (put_all (pairs (take q.count q.keys) (take q.count q.values))) false →
-      Through xs ys p id t (block_of (rows_of xs p) r) NoRoom none
+  pub left_alone : StoredIfRoom xs ys p (put_all (pairs (take q.count q.keys) (take q.count q.values))) false →
+      Through xs ys p id t (block_of (rows_of xs p) r) no_room none
   unfolding Sounds.StoredIfRoom
-  no_room s = too_full xs ys p id t (block_of (rows_of xs p) r) (omega (arith, s.0, count)) s.1
+  left_alone s = too_full xs ys p id t (block_of (rows_of xs p) r) (omega (arith, s.0, count)) s.1
 
 -- what is shown of the block that the code ran holds of the rules' block
 pub same_block : (xs ys : List ℕ) (p id t : ℕ) (b b' : Block) (r : BlockOutcome) → b ≡ b' → Through xs ys p id t b r none →
@@ -236,6 +234,6 @@ pub same_block : (xs ys : List ℕ) (p id t : ℕ) (b b' : Block) (r : BlockOutc
 same_block xs ys p id t b b' r e = subst (λ (a : Block). Through xs ys p id t a r none) e
 
 pub through_logged : (xs ys : List ℕ) (p id t : ℕ) (b : Block) (o : Option ℕ) (v : ℕ) → o ≡ some v → ys ≡ xs →
-    Through xs ys p id t b (Result v) o
+    Through xs ys p id t b (Ok v) o
 unfolding Through
 through_logged xs ys p id t b o v q c = rw q (refl, c)

@@ -1,5 +1,5 @@
 -- What a block comes to, and what it leaves of the store's bytes.
-use Rattle.std.specs.Prelude.{Bool, true, false, List, ◌≢◌, ◌≡◌, ℕ, ◌+◌, ◌<◌, leb, length}
+use Rattle.std.specs.Prelude.{Result, Ok, Err, Bool, true, false, List, ◌≢◌, ◌≡◌, ℕ, ◌+◌, ◌<◌, leb, length}
 use Rattle.std.proofs.Math.Option.{Option, none, some}
 use Rattle.contents.specs.Contents.{value_in}
 use Rattle.questions.specs.Basics.{if◌then◌otherwise◌, update}
@@ -12,13 +12,19 @@ use Rattle.store.specs.Sound.{Sound}
 use Rattle.operation.specs.Operations as Operations
 use Rattle.code.specs.Layout.{operation_at}
 use Rattle.code.specs.Meaning.{code_of}
-use Rattle.block.specs.declared.write.BlockOutcome.{BlockOutcome}
-use Rattle.block.specs.declared.write.BlockOutcome.TheVariants.{Result, NoRoom}
 use Rattle.code.specs.Right.{Right}
+use Rattle.block.specs.declared.write.NoRoom.{NoRoom}
+
+-- what a block comes to, as the code has it: its result, or a no to question 21
+abbrev pub BlockOutcome : Type 0
+BlockOutcome = Result ℕ NoRoom
+
+abbrev pub no_room : BlockOutcome
+no_room = Err (record {})
 
 -- what a block's result is to the code, and in its log row
 abbrev pub outcome_of : Rules.Result → BlockOutcome
-outcome_of (yields v) = Result v
+outcome_of (yields v) = Ok v
 
 abbrev pub logged_value : Rules.Result → ℕ
 logged_value (yields v) = v
@@ -54,11 +60,11 @@ pub record Committed (xs ys : List ℕ) (partition id step : ℕ) (b : Block) : 
 -- A block of the partition for a step of request id, by what its log row says: what it comes to, and the bytes ys that it leaves. If the
 -- row is found, no byte changes and the logged value is the result. If not, and question 21 says no, no byte changes either.
 unfoldable pub Through : (xs ys : List ℕ) (partition id step : ℕ) → Block → BlockOutcome → (log : Option ℕ) → Type 0
-Through xs ys partition id step b r (some v) = (r ≡ Result v) × (ys ≡ xs)
+Through xs ys partition id step b r (some v) = (r ≡ Ok v) × (ys ≡ xs)
 Through xs ys partition id step b r none =
-    if has_room xs partition b then ((r ≡ outcome_of b.result) × Committed xs ys partition id step b) otherwise ((r ≡ NoRoom) × (ys ≡ xs))
+    if has_room xs partition b then ((r ≡ outcome_of b.result) × Committed xs ys partition id step b) otherwise ((r ≡ no_room) × (ys ≡ xs))
 
 -- had the block room, by what it came to?
 abbrev pub had_room : BlockOutcome → Bool
-had_room (Result v) = true
-had_room NoRoom = false
+had_room (Ok v) = true
+had_room (Err e) = false

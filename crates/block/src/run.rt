@@ -26,6 +26,7 @@ fn run_on(ops: &[u8], operands: &[u8], store: &[u8], partition: usize, start: Ru
         ≡ run_of ops.now operands.now (rows_of store.now partition) start) }
 {
     let mut x = start;
+    // Stays so: the new form is no plainer. A jump moves on by more than one, so no `for` gives the positions.
     while x.place.position < ops.len() {
         let place = x.place;
         let position = place.position;
@@ -59,11 +60,12 @@ pub(crate) fn run(
         × (block_of (rows_of store.now partition) result
         ≡ block_at ops.now operands.now store.now partition begin registers) }
 {
-    let pending = no_pending();
-    let place = Spot {
-        position: begin + 1,
-        registers,
+    let start = Running {
+        place: Spot {
+            position: begin + 1,
+            registers,
+        },
+        pending: no_pending(),
     };
-    let start = Running { place, pending };
     run_on(ops, operands, store, partition, start)
 }

@@ -1,13 +1,12 @@
 // A block as a whole: its log row is sought, or it is run and its rows are written together.
 ghost use Rattle.std.proofs.Math.Option.{none};
-ghost use Rattle.std.specs.Prelude.{◌≡◌, ◌<◌};
+ghost use Rattle.std.specs.Prelude.{Err, ◌≡◌, ◌<◌};
 ghost use Rattle.contents.specs.Contents.{value_in};
 ghost use Rattle.keys.specs.Keys.{log_key, log_of};
 ghost use Rattle.store.specs.Layout.{parts_of};
 ghost use Rattle.store.specs.Rows.{rows_of, keys_in};
 ghost use Rattle.store.specs.Answers.{found_in};
 ghost use Rattle.store.specs.Sound.{Sound};
-ghost use Rattle.store.specs.declared.rows.Found.TheVariants.{Belongs};
 ghost use Rattle.instruction.specs.Pending.{Kept};
 ghost use Rattle.block.specs.Run.{block_of};
 ghost use Rattle.block.specs.Through.{Ready, block_at, Through};
@@ -15,14 +14,10 @@ ghost use Rattle.block.specs.Through.{Ready, block_at, Through};
 use crate::log::log_row;
 use crate::run::{Ran, run};
 use instruction::pending::insert_row;
-use store::rows::Found;
 
-// What a block comes to: its result, or a no to question 21.
-#[derive(Clone, Copy)]
-pub enum BlockOutcome {
-    Result(u32),
-    NoRoom,
-}
+// A no to question 21: the partition has fewer free rows than the block needs.
+#[derive(Clone, Copy, Debug, PartialEq, Eq)]
+pub struct NoRoom;
 
 // The log row of a block and behind it its PUTs, by rising key, written together if there is room for all: that is question 21. The log row
 // is new and belongs at row `place`, where the search for it ended.
@@ -33,9 +28,9 @@ fn commit(
     ran: Ran,
     id: u32,
     step: u16,
-) -> BlockOutcome
+) -> Result<u32, NoRoom>
     requires { Sound store.old × (partition < parts_of store.old) × Kept ran.pending
-        × (found_in (log_key id step) (keys_in (rows_of store.old partition)) ≡ Belongs place) }
+        × (found_in (log_key id step) (keys_in (rows_of store.old partition)) ≡ Err place) }
     ensures { Through store.old store.new partition id step
         (block_of (rows_of store.old partition) ran) result none }
 {
@@ -46,9 +41,9 @@ fn commit(
     let keys = rows.keys;
     let values = rows.values;
     if store_write::put_all(store, partition, place, &keys[..count], &values[..count]) {
-        return BlockOutcome::Result(ran.result);
+        return Ok(ran.result);
     }
-    BlockOutcome::NoRoom
+    Err(NoRoom)
 }
 
 // A block that isn't logged: it is run, and written if there is room. Its log row belongs at row `place`.
@@ -62,9 +57,9 @@ fn run_and_write(
     id: u32,
     step: u16,
     place: usize,
-) -> BlockOutcome
+) -> Result<u32, NoRoom>
     requires ready { Ready ops.now operands.now store.old partition begin }
-    requires belongs { found_in (log_key id step) (keys_in (rows_of store.old partition)) ≡ Belongs place }
+    requires belongs { found_in (log_key id step) (keys_in (rows_of store.old partition)) ≡ Err place }
     ensures { Through store.old store.new partition id step
         (block_at ops.now operands.now store.old partition begin registers) result none }
 {
@@ -82,22 +77,16 @@ pub fn through_block(
     registers: [u32; 8],
     id: u32,
     step: u16,
-) -> BlockOutcome
+) -> Result<u32, NoRoom>
     requires { Ready ops.now operands.now store.old partition begin }
     ensures { Through store.old store.new partition id step
         (block_at ops.now operands.now store.old partition begin registers) result
         (log_of (value_in (rows_of store.old partition)) id step) }
 {
-    let found = log_row(store, partition, id, step);
-    match found {
-        Found::At(row) => {
-            let value = store::rows::value_at(store, partition, row);
-            BlockOutcome::Result(value)
-        }
-        Found::Belongs(place) => {
-            run_and_write(
-                ops, operands, store, partition, begin, registers, id, step, place,
-            )
-        }
+    match log_row(store, partition, id, step) {
+        Ok(row) => Ok(store::rows::value_at(store, partition, row)),
+        Err(place) => run_and_write(
+            ops, operands, store, partition, begin, registers, id, step, place,
+        ),
     }
 }

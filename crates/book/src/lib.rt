@@ -11,7 +11,7 @@ ghost use Rattle.contents.specs.Contents.{book_rows, value_in, arguments_of};
 ghost use Rattle.book.specs.Book.{argument_of};
 
 use agents::Request;
-use store::rows::{Found, Got};
+use store::rows::Found;
 
 // Where the row stands that has an id's workflow, or where it belongs.
 pub fn booked_row(store: &[u8], id: u32) -> Found
@@ -24,7 +24,7 @@ pub fn booked_row(store: &[u8], id: u32) -> Found
 }
 
 // The workflow that the book has of an id, if it is booked.
-pub fn booked_workflow(store: &[u8], id: u32) -> Got
+pub fn booked_workflow(store: &[u8], id: u32) -> Option<u32>
     requires { Sound store.now }
     ensures { (result ≡ got_of (lookup (book_key id 0) (book_rows store.now))) × (id < 2 ^ 32) }
 {
@@ -40,11 +40,7 @@ fn argument(store: &[u8], id: u32, j: u64) -> u32
 {
     let book = store::head::partition_count(store);
     let key = keys::book_key(id, j);
-    let found = store::rows::get(store, book, key);
-    match found {
-        Got::Value(value) => value,
-        Got::Absent => 0,
-    }
+    store::rows::get(store, book, key).unwrap_or(0)
 }
 
 // The request of a booked id. Its workflow is known from the search for it; the arguments are read.
@@ -52,16 +48,12 @@ pub fn booked_request(store: &[u8], id: u32, workflow: u32) -> Request
     requires { Sound store.now }
     ensures { asked result ≡ record { workflow = workflow; arguments = arguments_of (value_in (book_rows store.now)) id } }
 {
-    let a0 = argument(store, id, 1);
-    let a1 = argument(store, id, 2);
-    let a2 = argument(store, id, 3);
-    let a3 = argument(store, id, 4);
     Request {
         workflow,
-        a0,
-        a1,
-        a2,
-        a3,
+        a0: argument(store, id, 1),
+        a1: argument(store, id, 2),
+        a2: argument(store, id, 3),
+        a3: argument(store, id, 4),
     }
 }
 

@@ -18,10 +18,10 @@ use Rattle.keys.specs.Keys.{book_key, is_form, book_keys, floor_key, is_floor_ke
 use Rattle.keys.proofs.Keys.{key_no_floor}
 use Rattle.questions.specs.Questions.{No, number}
 use Rattle.questions.specs.Questions as Questions
-use Rattle.questions.specs.Verdicts.{verdict_of}
-use Rattle.questions.specs.declared.Verdict.{Verdict}
+use Rattle.std.specs.Prelude.{Ok, Err}
+use Rattle.questions.specs.Verdicts.{Verdict, verdict_of}
+use Rattle.questions.specs.declared.Refusal.{Refusal}
 use Rattle.rules.specs.Store.{Request, Store, booked, same_arguments, same_request, with_book}
-use Rattle.rules.specs.Calls as Calls
 use Rattle.questions.proofs.Updates.{update_same, update_other, none_some, false_true}
 use Rattle.questions.proofs.Tests.{and_left, and_right}
 use Rattle.store.specs.Rows.{Row, lookup, pairs, put_all, new_rows, count_new, rows_of, store_of, keys_in}
@@ -30,13 +30,11 @@ use Rattle.store.specs.Questions.{member, unlike, ahead, rising, five, all_in, b
 use Rattle.store.specs.Sound as Sounds
 use Rattle.store.specs.Sound.{Sound, Stored, StoredIfRoom}
 use Rattle.store.specs.Answers.{found_in}
-use Rattle.store.specs.declared.rows.Found.TheVariants.{At, Belongs}
 use Rattle.store.specs.Questions as StoreQuestions
 use Rattle.store.proofs.Lists.{lookup_put_same, lookup_put_other}
 use Rattle.store.proofs.Sound.{key_five, key_above, all_five, all_above, book_parts, book_whole, twelve_parts}
 use Rattle.store.proofs.Sound.{length_put_all, book_form, store_ok, store_passes, five_all}
 use Rattle.store.proofs.Search.{at_lookup, no_lookup, changed_parts, changed_cap, changed_here}
-use Rattle.agents.specs.declared.Answer.TheVariants as Answers
 use Rattle.contents.proofs.Book.{book_row_lem}
 use Rattle.contents.proofs.Contents.{contents_book}
 use Rattle.store.proofs.Order.{rising_unlike, member_is}
@@ -223,8 +221,8 @@ module _ (xs : List ℕ) (p id : ℕ) (q : Request) (e : p ≡ parts_of xs) wher
   pub keys_right : id < 2 ^ 32 → all_in (is_form (eqb p (parts_of xs))) (book_keys id) ≡ true
   keys_right h = subst (λ (b : Bool). all_in (is_form b) (book_keys id) ≡ true) (sym (eq-eqb p (parts_of xs) e)) (keys_formed id h)
 
-  pub first_belongs : (i : ℕ) → found_in (book_key id 0) (keys_in (book_rows xs)) ≡ Belongs i →
-      found_in (book_key id 0) (keys_in (rows_of xs p)) ≡ Belongs i
+  pub first_belongs : (i : ℕ) → found_in (book_key id 0) (keys_in (book_rows xs)) ≡ Err i →
+      found_in (book_key id 0) (keys_in (rows_of xs p)) ≡ Err i
   first_belongs i f = ap (λ (p' : ℕ). found_in (book_key id 0) (keys_in (rows_of xs p'))) e ∙ f
 
   pub five_stored : (ks ys : List ℕ) (answer : Bool) → ks ≡ book_keys id → length (with_request id q (book_rows xs)) ≤ cap_of xs →
@@ -241,12 +239,12 @@ module _ (xs : List ℕ) (p id : ℕ) (q : Request) (e : p ≡ parts_of xs) wher
 -- ── what the book has of an id, by the search for its first row ──
 
 module _ (rows : List Row) (id i : ℕ) (h : id < 2 ^ 32) where
-  pub found_some : found_in (book_key id 0) (keys_in rows) ≡ At i →
+  pub found_some : found_in (book_key id 0) (keys_in rows) ≡ Ok i →
       book_of (value_in rows) id ≡ some (record { workflow = (get_or rows i (0, 0)).1; arguments = arguments_of (value_in rows) id })
   unfolding request_of
   found_some f = book_row_lem rows id h ∙ ap (λ o. request_of o (arguments_of (value_in rows) id)) (at_lookup (book_key id 0) rows i f)
 
-  pub found_none : found_in (book_key id 0) (keys_in rows) ≡ Belongs i → book_of (value_in rows) id ≡ none
+  pub found_none : found_in (book_key id 0) (keys_in rows) ≡ Err i → book_of (value_in rows) id ≡ none
   unfolding request_of
   found_none f = book_row_lem rows id h ∙ ap (λ o. request_of o (arguments_of (value_in rows) id)) (no_lookup (book_key id 0) rows i f)
 
@@ -301,10 +299,14 @@ module _ (store store' : List ℕ) (id w a0 a1 a2 a3 : ℕ) where
 
 -- ── question 18 ──
 
--- nothing is asked behind the last
-pub and_last : (b : Bool) → b ≡ (b && true)
-and_last true = refl
-and_last false = refl
+-- workflow and four arguments compared one by one
+pub same_fields : (w w' a a' b b' c c' d d' : ℕ) →
+    (eqb w w' && (eqb a a' && (eqb b b' && (eqb c c' && eqb d d')))) ≡ same_request (request w a b c d) (request w' a' b' c' d')
+same_fields w w' a a' b b' c c' d d' = ap (λ t. eqb w w' && (eqb a a' && (eqb b b' && (eqb c c' && t)))) (and_last (eqb d d'))
+  where
+    and_last : (t : Bool) → t ≡ (t && true)
+    and_last true = refl
+    and_last false = refl
 
 same_list : (xs ys : List ℕ) → same_arguments xs ys ≡ true → xs ≡ ys
 same_list [] [] e = refl
@@ -319,6 +321,25 @@ pub same_asked : (q r : Request) → same_request q r ≡ true → q ≡ r
 same_asked q r e =
     let l = same_list q.arguments r.arguments (and_right (eqb q.workflow r.workflow) _ e) in
     λ j. record { workflow = eqb-true q.workflow r.workflow (and_left (eqb q.workflow r.workflow) _ e) j; arguments = l j }
+
+-- ── one question's verdict ──
+
+module _ (n : ℕ) (yes : Bool) (v : Verdict) (e : v ≡ verdict_of (Questions.ask (number n) yes none)) where
+  pub said_yes : v ≡ Ok tt → yes ≡ true
+  unfolding Questions.ask
+  said_yes q = go yes e
+    where
+      go : (t : Bool) → v ≡ verdict_of (Questions.ask (number n) t none) → t ≡ true
+      go true p = refl
+      go false p = let z : ◌≡◌ {A = ℕ} 0 1 = cc in absurd (omega arith)
+
+  pub said_no : (r : Refusal) → v ≡ Err r → (yes ≡ false) × (v ≡ verdict_of (some (number n)))
+  unfolding Questions.ask
+  said_no r q = go yes e
+    where
+      go : (t : Bool) → v ≡ verdict_of (Questions.ask (number n) t none) → (t ≡ false) × (v ≡ verdict_of (some (number n)))
+      go true p = let z : ◌≡◌ {A = ℕ} 0 1 = cc in absurd (omega arith)
+      go false p = (refl, p)
 
 -- ── what the booking of a request comes to ──
 
@@ -350,19 +371,21 @@ module _ (store : List ℕ) (id : ℕ) (q : Request) where
   taken store' r e a w = record { answer = a ∙ ap verdict_of (sym e); kept = λ n p. none_some n e p; written = λ p. w }
 
   module _ (r : Verdict) where
-    pub booked_18 : (known : Request) → here.book id ≡ some known → same_request q known ≡ false → r ≡ verdict_of (some (number 18)) →
-        Booked store store id q r
-    booked_18 known b t a = kept_by (number 18) r (refused_18 known b t) a
+    -- a known id, by the answer to question 18
+    pub booked_known : (known : Request) → here.book id ≡ some known →
+        r ≡ verdict_of (Questions.ask (number 18) (same_request q known) none) → Booked store store id q r
+    unfolding ensured Questions.ask
+    booked_known known b a = go (same_request q known) refl a
+      where
+        go : (t : Bool) → same_request q known ≡ t → r ≡ verdict_of (Questions.ask (number 18) t none) → Booked store store id q r
+        go true t a =
+            taken store r (known_yes known b t) a
+            (subst (λ (o : Option Request). Wrote store store (ensured here id q o)) (sym b) (wrote_nothing store))
+        go false t a = kept_by (number 18) r (refused_18 known b t) a
 
+    -- a new one that question 19 refuses, and one that is booked
     pub booked_19 : here.book id ≡ none → here.room < here.book_used + 5 → r ≡ verdict_of (some (number 19)) → Booked store store id q r
     booked_19 b t a = kept_by (number 19) r (refused_19 b t) a
-
-    pub booked_known : (known : Request) → here.book id ≡ some known → same_request q known ≡ true → r ≡ verdict_of none →
-        Booked store store id q r
-    unfolding ensured
-    booked_known known b t a =
-        taken store r (known_yes known b t) a
-        (subst (λ (o : Option Request). Wrote store store (ensured here id q o)) (sym b) (wrote_nothing store))
 
     pub booked_new : (store' : List ℕ) → here.book id ≡ none → here.book_used + 5 ≤ here.room → Wrote store store' (booked here id q) →
         r ≡ verdict_of none →

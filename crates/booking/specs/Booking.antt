@@ -5,8 +5,7 @@ use Rattle.contents.specs.Wrote.{Wrote}
 use Rattle.contents.specs.Contents.{contents_of}
 use Rattle.keys.specs.Keys.{book_keys}
 use Rattle.questions.specs.Questions.{No, number, ask}
-use Rattle.questions.specs.Verdicts.{verdict_of}
-use Rattle.questions.specs.declared.Verdict.{Verdict}
+use Rattle.questions.specs.Verdicts.{Verdict, verdict_of}
 use Rattle.rules.specs.Store.{Request, Store, booked}
 use Rattle.rules.specs.Calls.{as_booked, can_book}
 use Rattle.store.specs.Rows.{Row, pairs, put_all, store_of}

@@ -31,16 +31,13 @@ fn append_answer(out: &mut [u8], written: usize, answer: Answer) -> usize
     ensures { result ≤ written + 89 }
 {
     let a = lines::append_answer(out, written, answer);
-    if let Answer::Refused {
-        question: _,
-        workflow,
-        instruction,
-    } = answer
-    {
-        let b = lines::append_field(out, a, workflow as u64);
-        return lines::append_field(out, b, instruction as u64);
+    match answer {
+        Err(no) => {
+            let b = lines::append_field(out, a, no.workflow as u64);
+            lines::append_field(out, b, no.instruction as u64)
+        }
+        Ok(_) => a,
     }
-    a
 }
 
 // answer ANSWER
@@ -70,10 +67,8 @@ fn append_words(out: &mut [u8], written: usize, bytes: &[u8], count: usize) -> u
     ensures { result ≤ written + 21 * count }
 {
     let mut reached = written;
-    let mut i = 0;
-    while i < count {
+    for i in 0..count {
         reached = lines::append_field(out, reached, words::read32(bytes, 4 * i) as u64);
-        i += 1;
     }
     reached
 }
@@ -133,10 +128,8 @@ pub fn append_hex(out: &mut [u8], written: usize, src: &[u8]) -> usize
     ensures { result ≤ written + 2 * length src.now }
 {
     let mut reached = written;
-    let mut i = 0;
-    while i < src.len() {
-        reached = append_pair(out, reached, src[i]);
-        i += 1;
+    for byte in src {
+        reached = append_pair(out, reached, *byte);
     }
     reached
 }

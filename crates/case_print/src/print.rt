@@ -77,14 +77,8 @@ pub fn print_list<W: Write>(out: &mut W, list: &[u8]) -> io::Result<()>
     requires { 132 ≤ length list.now }
 {
     let entries = words::read32(list, 0) as usize;
-    let places = (list.len() - 4) / 8;
-    let mut place = 0;
-    while place < places {
-        if entries <= place {
-            return Ok(());
-        }
-        print_entry(out, &list[4 + 8 * place..12 + 8 * place])?;
-        place += 1;
+    for entry in list[4..].chunks_exact(8).take(entries) {
+        print_entry(out, entry)?;
     }
     Ok(())
 }
@@ -98,24 +92,13 @@ fn print_piece<W: Write>(out: &mut W, src: &[u8]) -> io::Result<()>
     write_line(out, &piece, written)
 }
 
-// How many of the bytes that are left are printed at a time.
-fn piece_of(left: usize) -> usize
-    requires { 0 < left }
-    ensures { (0 < result) × (result ≤ left) × (result ≤ 512) }
-{
-    if left < 512 { left } else { 512 }
-}
-
 // Bytes in hex, and `-` where there are none.
 fn print_hex<W: Write>(out: &mut W, src: &[u8]) -> io::Result<()> {
-    if src.len() == 0 {
+    if src.is_empty() {
         return out.write_all(b"-");
     }
-    let mut printed = 0;
-    while printed < src.len() {
-        let count = piece_of(src.len() - printed);
-        print_piece(out, &src[printed..printed + count])?;
-        printed += count;
+    for piece in src.chunks(512) {
+        print_piece(out, piece)?;
     }
     Ok(())
 }
@@ -133,11 +116,8 @@ pub fn print_opened<W: Write>(out: &mut W, pack: &[u8], workflow: u32) -> io::Re
 fn print_counts<W: Write>(out: &mut W, store: &[u8]) -> io::Result<()>
     requires { Dimensions store.now }
 {
-    let parts = store::head::partition_count(store);
-    let mut partition = 0;
-    while partition <= parts {
+    for partition in 0..=store::head::partition_count(store) {
         print_used(out, partition, store::head::used_count(store, partition))?;
-        partition += 1;
     }
     Ok(())
 }
@@ -154,20 +134,13 @@ fn print_partition<W: Write>(
     requires { (keys + 8 * used ≤ length store.now) × (values + 4 * used ≤ length store.now) × (used ≤ 256) }
 {
     let mut printed = [0u8; 256];
-    let mut left = used;
-    while 0 < left {
-        let i = rows::next_row(store, keys, values, used, &printed);
-        if i == used {
+    for _ in 0..used {
+        let Some(i) = rows::next_row(store, keys, values, &printed[..used]) else {
             return Ok(());
-        }
-        print_row(
-            out,
-            partition,
-            words::read64(store, keys + 8 * i),
-            words::read32(store, values + 4 * i),
-        )?;
+        };
+        let (key, value) = rows::row(store, keys, values, i);
+        print_row(out, partition, key, value)?;
         printed[i] = 1;
-        left -= 1;
     }
     Ok(())
 }
@@ -186,11 +159,8 @@ fn print_rows_of<W: Write>(out: &mut W, store: &[u8], partition: usize) -> io::R
 fn print_rows<W: Write>(out: &mut W, store: &[u8]) -> io::Result<()>
     requires { Dimensions store.now }
 {
-    let parts = store::head::partition_count(store);
-    let mut partition = 0;
-    while partition <= parts {
+    for partition in 0..=store::head::partition_count(store) {
         print_rows_of(out, store, partition)?;
-        partition += 1;
     }
     Ok(())
 }
@@ -217,24 +187,15 @@ pub fn print_store<W: Write>(out: &mut W, store: &[u8]) -> io::Result<()> {
 
 // Is every byte zero?
 fn is_zero(bytes: &[u8]) -> bool {
-    let mut i = 0;
-    while i < bytes.len() {
-        if bytes[i] != 0 {
-            return false;
-        }
-        i += 1;
-    }
-    true
+    bytes.iter().all(|byte| *byte == 0)
 }
 
 // The records of the slots that are not all zero.
 pub fn print_slots<W: Write>(out: &mut W, records: &[u8]) -> io::Result<()>
     requires { 384 ≤ length records.now }
 {
-    let mut slot = 0;
-    while slot < 8 {
-        print_slot(out, slot, &records[48 * slot..48 * slot + 48])?;
-        slot += 1;
+    for (slot, agent) in records[..384].chunks_exact(48).enumerate() {
+        print_slot(out, slot, agent)?;
     }
     Ok(())
 }

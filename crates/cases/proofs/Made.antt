@@ -19,8 +19,9 @@ use Rattle.rules.specs.Calls as Rules
 use Rattle.pack.specs.Refusal.{pack_refusal, open_refusal}
 use Rattle.pack.proofs.Placed.{pack_placed, open_placed}
 use Rattle.store.specs.Questions.{create_refusal}
-use Rattle.agents.specs.declared.Answer.{Answer}
-use Rattle.agents.specs.declared.Answer.TheVariants.{Done}
+use Rattle.agents.specs.Answers.{Answer}
+use Rattle.std.specs.Prelude.{Ok}
+use Rattle.agents.specs.declared.Accepted.TheVariants.{Done}
 use Rattle.agents.specs.Answers.{answer_of}
 use Rattle.agents.specs.Answers as AgentAnswers
 use Rattle.meaning.specs.State.{Lent}
@@ -345,9 +346,9 @@ module _ (byte : ℕ) (ws pack store records list answer : List ℕ) (h : 12 ≤
   on_restart records' list' answer' lo n o x =
       let s = x.served right in
       record {
-        said = Done;
+        said = Ok Done;
         carried =
-            subst (λ (c : Call). Carried pack (lent_in store records list) c Done (lent_in store records' list')) (by_others byte ws lo n o)
+            subst (λ (c : Call). Carried pack (lent_in store records list) c (Ok Done) (lent_in store records' list')) (by_others byte ws lo n o)
             (s.0 pack store);
         bytes =
             record {

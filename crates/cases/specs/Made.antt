@@ -7,7 +7,7 @@ use Rattle.rules.specs.Calls.{Call, arrival, retry, turn, crash, restart, order,
 use Rattle.pack.specs.Refusal.{pack_refusal, open_refusal}
 use Rattle.store.specs.Questions.{create_refusal}
 use Rattle.store.specs.Created.{Created}
-use Rattle.agents.specs.declared.Answer.{Answer}
+use Rattle.agents.specs.Answers.{Answer}
 use Rattle.agents.specs.Answers.{answer_of}
 use Rattle.meaning.specs.Carried.{Carried}
 use Rattle.slots.specs.Records.{slots_in}

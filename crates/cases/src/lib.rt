@@ -6,6 +6,7 @@
 #![tactic(auto)]
 
 pub mod call;
-pub mod input;
 pub mod parts;
 pub mod run;
+
+pub use schedule::input;

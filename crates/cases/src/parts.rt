@@ -2,7 +2,7 @@
 // behind them eight agent records of twelve words, a call byte and seven words. With a worklist there are the number of its entries (1)
 // behind the lengths, and the entries behind the store, id (4) and mark (1) each. A list of calls has a worklist, and behind the records
 // how many calls there are (1), and for each its call byte and seven words.
-ghost use Rattle.std.specs.Prelude.{true, ◌≡◌, ◌+◌, ◌≤◌, ◌<◌, length};
+ghost use Rattle.std.specs.Prelude.{true, IfSome, ◌≡◌, ◌+◌, ◌≤◌, ◌<◌, length};
 ghost use Rattle.cases.specs.Parts.{pack_end, parts_end, call_end, HasParts, HasCall};
 
 // Where the pack ends; it begins at 9.
@@ -25,33 +25,18 @@ pub fn parts_end(c: &[u8]) -> usize
 pub fn has_parts(c: &[u8]) -> bool
     ensures { result ≡ true → HasParts c.now }
 {
-    if c.len() < 9 {
-        return false;
-    }
-    if c.len() < parts_end(c) {
-        return false;
-    }
-    true
+    9 <= c.len() && parts_end(c) <= c.len()
 }
 
 // Is a byte that of a call without a worklist, 0 to 9 or 15?
 fn is_call(byte: u8) -> bool {
-    if byte == 15 {
-        return true;
-    }
-    byte <= 9
+    matches!(byte, 0..=9 | 15)
 }
 
 // Is it that of one of the ten calls on a store, 3 to 7 and 9 to 13? Check, open, create, figures and reply, which are 0 to 2, 8 and 15,
 // are no such calls; 14 is none at all.
 fn is_on_store(byte: u8) -> bool {
-    if byte < 3 {
-        return false;
-    }
-    if byte == 8 {
-        return false;
-    }
-    byte <= 13
+    matches!(byte, 3..=7 | 9..=13)
 }
 
 // Is the rest of a call there, and its call byte in range? The records' words may be any: some make no record, which 14 is asked about.
@@ -60,10 +45,7 @@ pub fn has_call(c: &[u8]) -> bool
     ensures { result ≡ true → HasCall c.now }
 {
     let records_at = parts_end(c);
-    if c.len() - records_at < 413 {
-        return false;
-    }
-    is_call(c[records_at + 384])
+    413 <= c.len() - records_at && is_call(c[records_at + 384])
 }
 
 // Where a call ends.
@@ -81,66 +63,32 @@ pub fn call_words(c: &[u8]) -> [u32; 7]
     words_at(c, parts_end(c) + 385)
 }
 
-// A byte, as a count.
-pub fn wide(byte: u8) -> usize
-    ensures { (result ≡ byte) × (result < 256) }
-{
-    byte as usize
-}
-
 // Is each call byte, the first of 29, that of a call on a store?
 fn calls_right(calls: &[u8]) -> bool {
-    let mut call_at = 0;
-    while call_at < calls.len() {
-        if !is_on_store(calls[call_at]) {
-            return false;
-        }
-        if calls.len() - call_at < 29 {
-            return true;
-        }
-        call_at += 29;
-    }
-    true
+    calls.chunks(29).all(|call| is_on_store(call[0]))
 }
 
-// How many bytes the records and calls of a list have that stand behind its store; 0 if they are not there or a call byte is out of
+// How many bytes the records and calls of a list have that stand behind its store; none if they are not there or a call byte is out of
 // range.
-pub fn list_bytes(rest: &[u8]) -> usize
-    ensures { result ≤ length rest.now }
+pub fn list_bytes(rest: &[u8]) -> Option<usize>
+    ensures { IfSome result (λ bytes. (385 ≤ bytes) × (bytes ≤ length rest.now)) }
 {
-    if rest.len() < 385 {
-        return 0;
+    let bytes = 385 + 29 * usize::from(*rest.get(384)?);
+    if bytes <= rest.len() && calls_right(&rest[385..bytes]) {
+        return Some(bytes);
     }
-    let bytes = 385 + 29 * wide(rest[384]);
-    if rest.len() < bytes {
-        return 0;
-    }
-    if calls_right(&rest[385..bytes]) {
-        return bytes;
-    }
-    0
+    None
 }
 
-// How many bytes the records and the one call have that stand behind a worklist, 413; 0 if they are not there or the call byte is out of
-// range.
-pub fn call_bytes(rest: &[u8]) -> usize
-    ensures { result ≤ length rest.now }
+// How many bytes the records and the one call have that stand behind a worklist, 413; none if they are not there or the call byte is out
+// of range.
+pub fn call_bytes(rest: &[u8]) -> Option<usize>
+    ensures { IfSome result (λ bytes. (413 ≤ bytes) × (bytes ≤ length rest.now)) }
 {
-    if rest.len() < 413 {
-        return 0;
+    if 413 <= rest.len() && matches!(rest[384], 0..=13 | 15) {
+        return Some(413);
     }
-    if rest[384] <= 13 {
-        return 413;
-    }
-    if rest[384] == 15 {
-        return 413;
-    }
-    0
-}
-
-// The mark of an entry, as the word that the library reads.
-fn mark_of(byte: u8) -> u32 {
-    byte as u32
+    None
 }
 
 // The worklist in the layout that the library reads, made of the entries of a case, 5 bytes each.
@@ -152,11 +100,9 @@ pub fn lend_list(list: &mut [u8], entries: &[u8])
         return;
     }
     words::write32(list, 0, count as u32);
-    let mut i = 0;
-    while i < count {
-        words::write32(list, 4 + 8 * i, words::read32(entries, 5 * i));
-        words::write32(list, 8 + 8 * i, mark_of(entries[5 * i + 4]));
-        i += 1;
+    for (lent, entry) in list[4..].chunks_exact_mut(8).zip(entries.chunks_exact(5)) {
+        words::write32(lent, 0, words::read32(entry, 0));
+        words::write32(lent, 4, u32::from(entry[4]));
     }
 }
 

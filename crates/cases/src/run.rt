@@ -1,6 +1,6 @@
 // A case is run and printed, by a writer that the caller lends. A call fails where the writer does. What else it was lent keeps its length
 // then too, and holds whatever the case left there so far.
-ghost use Rattle.std.specs.Prelude.{◌≡◌, ◌≤◌, length, IfOk};
+ghost use Rattle.std.specs.Prelude.{◌≡◌, ◌≤◌, ◌<◌, length, IfOk, IfSome};
 ghost use Rattle.cases.specs.Parts.{HasParts, HasCall};
 
 use crate::{call, parts};
@@ -22,13 +22,11 @@ fn print_left<W: Write>(
 ) -> io::Result<()>
     requires { (384 ≤ length records.now) × (132 ≤ length list.now) }
 {
-    if call == 1 {
-        return print::print_opened(out, pack, words[0]);
+    match call {
+        0 => Ok(()),
+        1 => print::print_opened(out, pack, words[0]),
+        _ => print_after(out, store, records, list, with_state),
     }
-    if 1 < call {
-        return print_after(out, store, records, list, with_state);
-    }
-    Ok(())
 }
 
 // The store, the records and the worklist that a call left, or the store's bytes and the worklist alone.
@@ -83,17 +81,15 @@ fn print_outcome<W: Write>(
 ) -> io::Result<()>
     requires { (length records.old ≡ 384) × (132 ≤ length list.old) }
 {
-    if call == 8 {
-        return print_figures(out, pack, words[0]);
+    match call {
+        8 => print_figures(out, pack, words[0]),
+        15 => print_reply(out, pack, store, words[0]),
+        _ => {
+            let answer = call::make_call(pack, store, records, list, call, words);
+            print::print_answer(out, answer)?;
+            print_left(out, pack, store, records, list, call, words, with_state)
+        }
     }
-    if call == 15 {
-        return print_reply(out, pack, store, words[0]);
-    }
-    print::print_answer(
-        out,
-        call::make_call(pack, store, records, list, call, words),
-    )?;
-    print_left(out, pack, store, records, list, call, words, with_state)
 }
 
 // A call, on a copy of its store in `buffer`, a copy of its records and an empty worklist.
@@ -134,12 +130,10 @@ fn print_answers<W: Write>(
 ) -> io::Result<()>
     requires { (length records.old ≡ 384) × (132 ≤ length list.old) }
 {
-    let mut call_at = 0;
-    while 29 <= calls.len() - call_at {
-        let words = parts::words_at(calls, call_at + 1);
-        let answer = call::make_call(pack, store, records, list, calls[call_at], words);
+    for call in calls.chunks_exact(29) {
+        let words = parts::words_at(call, 1);
+        let answer = call::make_call(pack, store, records, list, call[0], words);
         print::print_answer(out, answer)?;
-        call_at += 29;
     }
     Ok(())
 }
@@ -203,71 +197,94 @@ fn print_listed<W: Write>(
 
 // A schedule: what the schedule program prints.
 fn print_schedule<W: Write>(out: &mut W, pack: &[u8], schedule: &[u8]) -> io::Result<()> {
-    let mut store = schedule::run::store_buffer();
-    let mut text = schedule::run::text_buffer();
+    let mut store = schedule::input::zeros::<27_669>();
+    let mut text = schedule::input::zeros::<524_288>();
     let written = schedule::run::run(pack, schedule, &mut store, &mut text);
     out.write_all(&text[..written])
 }
 
-// A case of kind 1, a call.
+// The kinds of cases.
+#[derive(Clone, Copy)]
+enum Kind {
+    Schedule,
+    Call,
+    // A call with a worklist.
+    Listed,
+    // A list of calls.
+    Calls,
+}
+
+// The kind that a byte stands for.
+fn kind_of(byte: u8) -> Option<Kind> {
+    match byte {
+        0 => Some(Kind::Schedule),
+        1 => Some(Kind::Call),
+        2 => Some(Kind::Listed),
+        3 => Some(Kind::Calls),
+        _ => None,
+    }
+}
+
+// A call.
 fn print_call_case<W: Write>(
     out: &mut W,
     c: &[u8],
     title: &[u8],
     with_state: bool,
     buffer: &mut [u8],
-) -> io::Result<usize>
+) -> io::Result<Option<usize>>
     requires { HasParts c.now × (length c.now ≤ length buffer.old) }
-    ensures size { IfOk result (λ size. size ≤ length c.now) }
+    ensures size { IfOk result (λ case. IfSome case (λ size. (0 < size) × (size ≤ length c.now))) }
     ensures kept { length buffer.new ≡ length buffer.old }
 {
-    if parts::has_call(c) {
-        let end = parts::call_end(c);
-        out.write_all(title)?;
-        print_call(out, c, with_state, buffer)?;
-        return Ok(end);
+    if !parts::has_call(c) {
+        return Ok(None);
     }
-    Ok(0)
+    let end = parts::call_end(c);
+    out.write_all(title)?;
+    print_call(out, c, with_state, buffer)?;
+    Ok(Some(end))
 }
 
-// A case of kind 2, a call with a worklist, or of kind 3, a list of calls.
+// A call with a worklist, or a list of calls.
 fn print_listed_case<W: Write>(
     out: &mut W,
+    kind: Kind,
     c: &[u8],
     title: &[u8],
     with_state: bool,
     buffer: &mut [u8],
-) -> io::Result<usize>
+) -> io::Result<Option<usize>>
     requires { HasParts c.now × (length c.now ≤ length buffer.old) }
-    ensures size { IfOk result (λ size. size ≤ length c.now) }
+    ensures size { IfOk result (λ case. IfSome case (λ size. (0 < size) × (size ≤ length c.now))) }
     ensures kept { length buffer.new ≡ length buffer.old }
 {
     if c.len() < 10 {
-        return Ok(0);
+        return Ok(None);
     }
     let pack_end = parts::pack_end(c) + 1;
     let store_end = parts::parts_end(c) + 1;
-    let list_end = store_end + 5 * parts::wide(c[9]);
+    let list_end = store_end + 5 * usize::from(c[9]);
     if c.len() < list_end {
-        return Ok(0);
+        return Ok(None);
     }
     let rest = &c[list_end..];
     let pack = &c[10..pack_end];
     let store = &c[pack_end..store_end];
     let entries = &c[store_end..list_end];
-    let bytes = print_rest(
-        out, c[0], pack, store, entries, rest, title, with_state, buffer,
-    )?;
-    if bytes == 0 {
-        return Ok(0);
-    }
-    Ok(list_end + bytes)
+    let Some(bytes) = print_rest(
+        out, kind, pack, store, entries, rest, title, with_state, buffer,
+    )?
+    else {
+        return Ok(None);
+    };
+    Ok(Some(list_end + bytes))
 }
 
 // What stands behind the worklist of such a case, the records and the call or the calls, by its kind. The answer is how many bytes it has.
 fn print_rest<W: Write>(
     out: &mut W,
-    kind: u8,
+    kind: Kind,
     pack: &[u8],
     store: &[u8],
     entries: &[u8],
@@ -275,69 +292,56 @@ fn print_rest<W: Write>(
     title: &[u8],
     with_state: bool,
     buffer: &mut [u8],
-) -> io::Result<usize>
+) -> io::Result<Option<usize>>
     requires { length store.now ≤ length buffer.old }
-    ensures size { IfOk result (λ size. size ≤ length rest.now) }
+    ensures size { IfOk result (λ case. IfSome case (λ size. size ≤ length rest.now)) }
     ensures kept { length buffer.new ≡ length buffer.old }
 {
-    if kind == 2 {
-        let bytes = parts::call_bytes(rest);
-        if bytes < 413 {
-            return Ok(0);
-        }
-        let call = &rest[0..bytes];
+    if let Kind::Listed = kind {
+        let Some(bytes) = parts::call_bytes(rest) else {
+            return Ok(None);
+        };
         out.write_all(title)?;
-        print_listed(out, pack, store, entries, call, with_state, buffer)?;
-        return Ok(bytes);
+        print_listed(
+            out,
+            pack,
+            store,
+            entries,
+            &rest[..bytes],
+            with_state,
+            buffer,
+        )?;
+        return Ok(Some(bytes));
     }
-    let bytes = parts::list_bytes(rest);
-    if bytes < 385 {
-        return Ok(0);
-    }
-    let calls = &rest[0..bytes];
+    let Some(bytes) = parts::list_bytes(rest) else {
+        return Ok(None);
+    };
     out.write_all(title)?;
-    print_list(out, pack, store, entries, calls, with_state, buffer)?;
-    Ok(bytes)
+    print_list(
+        out,
+        pack,
+        store,
+        entries,
+        &rest[..bytes],
+        with_state,
+        buffer,
+    )?;
+    Ok(Some(bytes))
 }
 
-// A case of kind 0, a schedule.
-fn print_schedule_case<W: Write>(out: &mut W, c: &[u8], title: &[u8]) -> io::Result<usize>
+// A schedule.
+fn print_schedule_case<W: Write>(out: &mut W, c: &[u8], title: &[u8]) -> io::Result<Option<usize>>
     requires { HasParts c.now }
-    ensures { IfOk result (λ size. size ≤ length c.now) }
+    ensures { IfOk result (λ case. IfSome case (λ size. (0 < size) × (size ≤ length c.now))) }
 {
     let pack_end = parts::pack_end(c);
     let parts_end = parts::parts_end(c);
     out.write_all(title)?;
     print_schedule(out, &c[9..pack_end], &c[pack_end..parts_end])?;
-    Ok(parts_end)
+    Ok(Some(parts_end))
 }
 
-// A case by its kind.
-fn print_kind<W: Write>(
-    out: &mut W,
-    c: &[u8],
-    title: &[u8],
-    with_state: bool,
-    buffer: &mut [u8],
-) -> io::Result<usize>
-    requires { HasParts c.now × (length c.now ≤ length buffer.old) }
-    ensures size { IfOk result (λ size. size ≤ length c.now) }
-    ensures kept { length buffer.new ≡ length buffer.old }
-{
-    let kind = c[0];
-    if kind == 0 {
-        return print_schedule_case(out, c, title);
-    }
-    if kind == 1 {
-        return print_call_case(out, c, title, with_state, buffer);
-    }
-    if kind <= 3 {
-        return print_listed_case(out, c, title, with_state, buffer);
-    }
-    Ok(0)
-}
-
-// The case that `c` begins with is run, and printed behind its title. The answer is how many bytes it has; it is 0 for a malformed
+// The case that `c` begins with is run, and printed behind its title. The answer is how many bytes it has; there is none for a malformed
 // case, of which nothing is printed.
 pub fn print_case<W: Write>(
     out: &mut W,
@@ -345,13 +349,18 @@ pub fn print_case<W: Write>(
     title: &[u8],
     with_state: bool,
     buffer: &mut [u8],
-) -> io::Result<usize>
+) -> io::Result<Option<usize>>
     requires { length c.now ≤ length buffer.old }
-    ensures size { IfOk result (λ size. size ≤ length c.now) }
+    ensures size { IfOk result (λ case. IfSome case (λ size. (0 < size) × (size ≤ length c.now))) }
     ensures kept { length buffer.new ≡ length buffer.old }
 {
-    if parts::has_parts(c) {
-        return print_kind(out, c, title, with_state, buffer);
+    if !parts::has_parts(c) {
+        return Ok(None);
     }
-    Ok(0)
+    match kind_of(c[0]) {
+        Some(Kind::Schedule) => print_schedule_case(out, c, title),
+        Some(Kind::Call) => print_call_case(out, c, title, with_state, buffer),
+        Some(kind) => print_listed_case(out, kind, c, title, with_state, buffer),
+        None => Ok(None),
+    }
 }

@@ -22,7 +22,7 @@ use Rattle.pack.proofs.Laws.{length_pack, length_workflow, accepted_checked}
 use Rattle.pack.specs.Meaning.{pack_of}
 use Rattle.store.specs.Rows.{store_of}
 use Rattle.agents.specs.declared.Agent.{Agent}
-use Rattle.agents.specs.declared.Answer.{Answer}
+use Rattle.agents.specs.Answers.{Answer}
 use Rattle.agents.specs.Slots.{slots_of}
 use Rattle.agents.specs.Answers.{answer_of}
 use Rattle.agents.proofs.Slots.{slots_none}

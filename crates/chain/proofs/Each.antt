@@ -12,7 +12,7 @@ use Rattle.rules.proofs.Calls.{rule_accepted}
 use Rattle.rules.proofs.States.{same_state}
 use Rattle.questions.proofs.Updates.{false_true}
 use Rattle.pack.specs.Meaning.{pack_of}
-use Rattle.agents.specs.declared.Answer.{Answer}
+use Rattle.agents.specs.Answers.{Answer}
 use Rattle.agents.specs.Answers.{answer_of}
 use Rattle.meaning.specs.State.{state_of, Lent}
 use Rattle.meaning.specs.Questions.{refusal_for}

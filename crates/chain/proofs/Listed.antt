@@ -30,7 +30,7 @@ use Rattle.pack.specs.Refusal.{pack_refusal}
 use Rattle.pack.proofs.Laws.{accepted_checked}
 use Rattle.store.specs.Layout.{parts_of}
 use Rattle.store.specs.Rows.{store_of}
-use Rattle.agents.specs.declared.Answer.{Answer}
+use Rattle.agents.specs.Answers.{Answer}
 use Rattle.agents.specs.Answers.{answer_of}
 use Rattle.worklist.specs.Worklist.{worklist_of}
 use Rattle.meaning.specs.State.{state_of, Lent, worked_out}

@@ -20,9 +20,9 @@ use Rattle.rules.proofs.Theorem.{invariant}
 use Rattle.questions.proofs.Questions.{or_else_none}
 use Rattle.pack.specs.Meaning.{pack_of}
 use Rattle.store.specs.Rows.{empty_store, lookup}
-use Rattle.questions.specs.declared.Verdict.TheVariants.{Accepted}
+use Rattle.std.specs.Prelude.{Ok}
 use Rattle.store.specs.Created.{Created}
-use Rattle.agents.specs.declared.Answer.{Answer}
+use Rattle.agents.specs.Answers.{Answer}
 use Rattle.agents.specs.Slots.{no_agent}
 use Rattle.agents.specs.Answers.{answer_of}
 use Rattle.agents.proofs.Slots.{slots_none}
@@ -91,7 +91,7 @@ module _ {pack : List ℕ} {C : ℕ} {events : List Event} {lent : Lent} (m : Mi
       after : State
       after = state_after (pack_of pack) C m.calls
 
-pub mirror_start : (pack buffer store : List ℕ) (P C : ℕ) → Created buffer store P C Accepted →
+pub mirror_start : (pack buffer store : List ℕ) (P C : ℕ) → Created buffer store P C (Ok tt) →
     Mirror pack C [] (record { store = store; records = replicate 8 no_agent; list = no_worklist })
 unfolding state_of state_after events_after entries_of
 mirror_start pack buffer store P C h =

@@ -11,7 +11,7 @@ use lib.Dec.{ltb}
 use lib.ListN.{length, get_or}
 use Rattle.questions.specs.Basics.{if◌then◌otherwise◌, is_some, update, each}
 use Rattle.questions.specs.Questions.{No}
-use Rattle.questions.specs.declared.Verdict.TheVariants.{Accepted}
+use Rattle.std.specs.Prelude.{Ok}
 use Rattle.questions.proofs.Tests.{no_yes}
 use Rattle.questions.proofs.Updates.{none_some, update_same, update_other}
 use Rattle.questions.proofs.Questions.{or_else_none}
@@ -38,7 +38,7 @@ use Rattle.store.specs.Layout.{parts_of}
 use Rattle.store.specs.Rows.{Store, lookup, rows_of, store_of}
 use Rattle.store.specs.Created.{Created}
 use Rattle.store.specs.Questions.{store_refusal}
-use Rattle.agents.specs.declared.Answer.{Answer}
+use Rattle.agents.specs.Answers.{Answer}
 use Rattle.agents.specs.Answers.{answer_of}
 use Rattle.meaning.specs.State.{state_of, Lent}
 use Rattle.meaning.specs.Questions.{refusal_for}
@@ -62,7 +62,7 @@ Small s = (id : ℕ) → amount_of (s.book id) < 2 ^ 32
 
 -- ── A fresh store ──
 
-fresh_adds_up : (buffer store : List ℕ) (P C : ℕ) → Created buffer store P C Accepted → AddsUp store
+fresh_adds_up : (buffer store : List ℕ) (P C : ℕ) → Created buffer store P C (Ok tt) → AddsUp store
 unfolding sum_over
 fresh_adds_up buffer store P C h =
     let no_row : (p : ℕ) → rows_of store p ≡ [] = λ p. ap (λ (st : Store). st.rows p) (h.made refl).1 in
@@ -72,7 +72,7 @@ fresh_adds_up buffer store P C h =
     omega (arith, no_data, no_amounts)
 
 -- and books nothing
-fresh_small : (buffer store : List ℕ) (P C : ℕ) → Created buffer store P C Accepted → Small (holds store)
+fresh_small : (buffer store : List ℕ) (P C : ℕ) → Created buffer store P C (Ok tt) → Small (holds store)
 fresh_small buffer store P C h id =
     let nothing = ap (λ (x : Rules.Store). x.book id) (ap contents_of (h.made refl).1 ∙ fresh_contents P C) in
     subst (λ (o : Option Request). amount_of o < 2 ^ 32) (sym nothing) (omega arith)

@@ -17,7 +17,7 @@ use Rattle.questions.proofs.Questions.{or_else_none}
 use Rattle.rules.proofs.RequestZero.{request_zero, rule_books_no_new, no_zero}
 use Rattle.pack.specs.Meaning.{pack_of}
 use Rattle.store.specs.Rows.{store_of}
-use Rattle.agents.specs.declared.Answer.{Answer}
+use Rattle.agents.specs.Answers.{Answer}
 use Rattle.agents.specs.Slots.{slots_of}
 use Rattle.agents.specs.Answers.{answer_of}
 use Rattle.meaning.specs.State.{state_of, Lent}

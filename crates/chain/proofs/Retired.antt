@@ -20,7 +20,7 @@ use Rattle.rules.proofs.Changes.{from_floor_lem}
 use Rattle.rules.proofs.NotBooked.{run_same, no_reply_to}
 use Rattle.rules.proofs.Retiring as RulesProofs
 use Rattle.pack.specs.Meaning.{pack_of}
-use Rattle.agents.specs.declared.Answer.{Answer}
+use Rattle.agents.specs.Answers.{Answer}
 use Rattle.agents.specs.Answers.{answer_of}
 use Rattle.worklist.specs.Worklist.{worklist_of}
 use Rattle.meaning.specs.State.{state_of, Lent}

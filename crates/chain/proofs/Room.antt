@@ -41,7 +41,7 @@ use Rattle.pack.proofs.Laws.{length_pack, length_workflow, accepted_checked}
 use Rattle.store.specs.Layout.{parts_of}
 use Rattle.store.specs.Questions.{store_refusal}
 use Rattle.agents.specs.declared.Agent.{Agent}
-use Rattle.agents.specs.declared.Answer.{Answer}
+use Rattle.agents.specs.Answers.{Answer}
 use Rattle.agents.specs.Slots.{agent_at, held, slots_of, records_of, records_from, agent_of}
 use Rattle.agents.specs.Answers.{answer_of}
 use Rattle.agents.proofs.Slots.{slots_past}

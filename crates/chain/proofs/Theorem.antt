@@ -24,12 +24,12 @@ use Rattle.pack.specs.Refusal.{pack_refusal}
 use Rattle.pack.proofs.Laws.{length_pack, length_workflow, accepted_checked}
 use Rattle.store.specs.Rows.{Store, lookup, rows_of, store_of, keys_in}
 use Rattle.store.specs.Layout.{parts_of, cap_of}
-use Rattle.questions.specs.declared.Verdict.TheVariants.{Accepted}
+use Rattle.std.specs.Prelude.{Ok}
 use Rattle.store.specs.Created.{Created}
 use Rattle.store.specs.Questions.{book_ok, all_in, store_refusal}
 use Rattle.store.specs.Questions as StoreQuestions
 use Rattle.store.proofs.Sound.{store_passes}
-use Rattle.agents.specs.declared.Answer.{Answer}
+use Rattle.agents.specs.Answers.{Answer}
 use Rattle.agents.specs.Answers.{answer_of}
 use Rattle.meaning.specs.State.{state_of, Lent}
 use Rattle.meaning.specs.Questions.{lent_for, refusal_for}
@@ -51,7 +51,7 @@ no_book : (xs : List ℕ) → rows_of xs (parts_of xs) ≡ [] → StoreQuestions
 unfolding StoreQuestions.question12 StoreQuestions.book_right StoreQuestions.book_ok StoreQuestions.from_floor keys_in StoreQuestions.all_in
 no_book xs e = rw e refl
 
-sized_start : (buffer store : List ℕ) (P C : ℕ) → Created buffer store P C Accepted → Passing P C store
+sized_start : (buffer store : List ℕ) (P C : ℕ) → Created buffer store P C (Ok tt) → Passing P C store
 sized_start buffer store P C h =
     let m = h.made refl in
     record {

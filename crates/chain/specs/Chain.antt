@@ -3,9 +3,9 @@ use Rattle.std.specs.Prelude.{List, [], ◌∷◌, ℕ, replicate}
 use Rattle.meaning.specs.State.{Lent}
 use Rattle.rules.specs.Calls.{Call}
 use Rattle.rules.specs.Plain.{Event}
-use Rattle.questions.specs.declared.Verdict.TheVariants.{Accepted}
+use Rattle.std.specs.Prelude.{Ok}
 use Rattle.store.specs.Created.{Created}
-use Rattle.agents.specs.declared.Answer.{Answer}
+use Rattle.agents.specs.Answers.{Answer}
 use Rattle.agents.specs.Slots.{no_agent}
 use Rattle.agents.specs.Answers.{answer_of}
 use Rattle.worklist.specs.Worklist.{no_worklist}
@@ -15,7 +15,7 @@ use Rattle.meaning.specs.Carried.{Carried}
 -- the store that an accepted create leaves, all slots empty, nothing on the worklist; each call gets what the one before left; all get
 -- the same pack.
 pub data Chain (pack : List ℕ) (P C : ℕ) : List Event → Lent → Type 0 where
-  begins : (buffer store : List ℕ) → Created buffer store P C Accepted →
+  begins : (buffer store : List ℕ) → Created buffer store P C (Ok tt) →
       Chain pack P C [] (record { store = store; records = replicate 8 no_agent; list = no_worklist })
   goes_on : (events : List Event) (lent : Lent) (c : Call) (answer : Answer) (lent' : Lent) →
       Chain pack P C events lent → Carried pack lent c answer lent' →

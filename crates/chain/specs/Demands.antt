@@ -15,7 +15,7 @@ use Rattle.pack.specs.Meaning.{pack_of}
 use Rattle.pack.specs.Refusal.{pack_refusal}
 use Rattle.store.specs.Rows.{lookup, rows_of, store_of}
 use Rattle.agents.specs.declared.Agent.{Agent}
-use Rattle.agents.specs.declared.Answer.{Answer}
+use Rattle.agents.specs.Answers.{Answer}
 use Rattle.agents.specs.Slots.{slots_of}
 use Rattle.agents.specs.Answers.{answer_of}
 use Rattle.meaning.specs.State.{state_of, Lent}

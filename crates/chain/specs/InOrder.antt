@@ -6,7 +6,7 @@ use Rattle.rules.specs.Calls.{order}
 use Rattle.rules.specs.Plain.{Event, accepted}
 use Rattle.store.specs.Layout.{AllBytes}
 use Rattle.store.specs.Rows.{store_of}
-use Rattle.agents.specs.declared.Answer.{Answer}
+use Rattle.agents.specs.Answers.{Answer}
 use Rattle.agents.specs.Answers.{answer_of}
 use Rattle.meaning.specs.Carried.{Carried}
 use Rattle.chain.specs.Chain.{Chain}

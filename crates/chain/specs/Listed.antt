@@ -10,7 +10,7 @@ use Rattle.rules.specs.Calls.{restart, list_done}
 use Rattle.rules.specs.Calls as Calls
 use Rattle.rules.specs.Plain.{Reply, Event, replies_of}
 use Rattle.store.specs.Rows.{store_of}
-use Rattle.agents.specs.declared.Answer.{Answer}
+use Rattle.agents.specs.Answers.{Answer}
 use Rattle.agents.specs.Answers.{answer_of}
 use Rattle.worklist.specs.Worklist.{worklist_of}
 use Rattle.meaning.specs.State.{Lent, worked_out}

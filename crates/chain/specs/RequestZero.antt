@@ -13,7 +13,7 @@ use Rattle.rules.specs.Plain.{Reply, Event, accepted, machine_of, replies_of}
 use Rattle.rules.specs.RequestZero.{zero_no}
 use Rattle.pack.specs.Meaning.{pack_of}
 use Rattle.store.specs.Rows.{store_of}
-use Rattle.agents.specs.declared.Answer.{Answer}
+use Rattle.agents.specs.Answers.{Answer}
 use Rattle.agents.specs.Slots.{no_agent, slots_of}
 use Rattle.agents.specs.Answers.{answer_of}
 use Rattle.worklist.specs.declared.Worklist.{Worklist}

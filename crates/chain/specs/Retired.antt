@@ -10,7 +10,7 @@ use Rattle.rules.specs.Calls as Calls
 use Rattle.rules.specs.Plain.{Reply, Event, accepted, machine_of, replies_of}
 use Rattle.pack.specs.Meaning.{pack_of}
 use Rattle.store.specs.Rows.{store_of}
-use Rattle.agents.specs.declared.Answer.{Answer}
+use Rattle.agents.specs.Answers.{Answer}
 use Rattle.agents.specs.Slots.{slots_of}
 use Rattle.agents.specs.Answers.{answer_of}
 use Rattle.worklist.specs.Worklist.{worklist_of}

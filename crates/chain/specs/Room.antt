@@ -12,7 +12,7 @@ use Rattle.rules.specs.Plain.{Event, accepted}
 use Rattle.pack.specs.Layout.{size_of}
 use Rattle.pack.specs.Meaning.{pack_of}
 use Rattle.store.specs.Layout.{parts_of}
-use Rattle.agents.specs.declared.Answer.{Answer}
+use Rattle.agents.specs.Answers.{Answer}
 use Rattle.agents.specs.Slots.{slots_of}
 use Rattle.agents.specs.Answers.{answer_of}
 use Rattle.meaning.specs.State.{state_of, Lent}

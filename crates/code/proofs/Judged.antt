@@ -4,19 +4,23 @@ use mathlib.Core.Bool.{Bool, true, false, ◌&&◌}
 use mathlib.Core.List.{List}
 use mathlib.Core.Option.{none}
 use Prim.Native.Nat.{ℕ, ◌<◌}
-use borrow.Author.Tests.{ltb-true, eqb-true, eq-eqb, ne_eqb}
-use lib.Dec.{ltb, eqb}
+use borrow.Author.Tests.{ltb-true, eq-eqb, ne_eqb}
+use lib.Dec.{ltb}
 use lib.ListN.{length}
+use Rattle.std.specs.Prelude.{Err}
+use Rattle.questions.specs.declared.Refusal.{Refusal}
 use Rattle.questions.specs.Questions.{no, ask}
+use Rattle.questions.specs.Verdicts.{Verdict, verdict_of}
+use Rattle.code.proofs.Asked.{asked_no}
 use Rattle.questions.proofs.Questions.{ask_none}
 use Rattle.questions.proofs.Tests.{no_yes, and_left, and_right}
 use Rattle.operation.specs.declared.Operand.{Operand}
 use Rattle.operation.specs.declared.Operand.TheVariants.{Jump}
 use Rattle.operation.specs.declared.Entry.{Entry}
 use Rattle.operation.specs.Parts.{source_of, target_of}
-use Rattle.operation.specs.Operations.{op_end, op_put, side_of, operand_of, entry_of}
+use Rattle.operation.specs.Operations.{op_put, side_of, operand_of, entry_of}
 use Rattle.code.specs.Layout.{operation_at, register_at, word_at}
-use Rattle.code.specs.Questions.{in_range, register_right, is_no_end, stands, lands, counted, inside_at, puts_before, question4}
+use Rattle.code.specs.Questions.{in_range, register_right, stands, lands, counted, inside_at, puts_before, question4}
 use Rattle.code.specs.Questions.{question5, question6, question7}
 use Rattle.code.specs.Refusal.{instruction_no}
 
@@ -32,22 +36,28 @@ module _ (o : Operand) (size i w : ℕ) (e : o ≡ Jump) (h : in_range o size i 
   pub target_below : target_of w < size
   target_below = ltb-true (target_of w) size (and_right (ltb (source_of w) 8 && ltb i (target_of w)) _ in_jump)
 
--- whether an instruction is END, the operation being known
-pub end_here : (ops : List ℕ) (i : ℕ) → operation_at ops i ≡ op_end → is_no_end ops i ≡ false
-unfolding is_no_end
-end_here ops i e = rw (eq-eqb (operation_at ops i) op_end e)
+-- the verdict on a question is that on the row, where those before it were answered yes
+module _ (workflow : ℕ) (ops ws : List ℕ) (i : ℕ) (v : Verdict) where
+  abbrev Judges : Type 0
+  Judges = v ≡ verdict_of (instruction_no workflow ops ws i)
 
-pub no_end_here : (ops : List ℕ) (i : ℕ) → (operation_at ops i ≡ op_end → ⊥) → is_no_end ops i ≡ true
-unfolding is_no_end
-no_end_here ops i n = rw (ne_eqb (operation_at ops i) op_end n)
+  pub stops_4 : (t : Bool) (m : Refusal) → question4 ops i ≡ t → v ≡ verdict_of (ask (no 4 workflow i) t none) → v ≡ Err m → Judges
+  unfolding instruction_no
+  stops_4 t m p e r = rw p (asked_no v _ t _ m e r)
 
--- the answers in order
-pub judged : (workflow : ℕ) (ops ws : List ℕ) (i : ℕ) (a b c d : Bool) → question4 ops i ≡ a → question5 ops ws i ≡ b →
-    question6 ops ws i ≡ c → question7 ops i ≡ d →
-    instruction_no workflow ops ws i
-    ≡ ask (no 4 workflow i) a (ask (no 5 workflow i) b (ask (no 6 workflow i) c (ask (no 7 workflow i) d none)))
-unfolding instruction_no
-judged workflow ops ws i a b c d p q r s = rw (p, q, r, s)
+  module _ (p4 : question4 ops i ≡ true) where
+    pub stops_5 : (t : Bool) (m : Refusal) → question5 ops ws i ≡ t → v ≡ verdict_of (ask (no 5 workflow i) t none) → v ≡ Err m → Judges
+    unfolding instruction_no ask
+    stops_5 t m p e r = rw (p4, p) (asked_no v _ t _ m e r)
+
+    module _ (p5 : question5 ops ws i ≡ true) where
+      pub stops_6 : (t : Bool) (m : Refusal) → question6 ops ws i ≡ t → v ≡ verdict_of (ask (no 6 workflow i) t none) → v ≡ Err m → Judges
+      unfolding instruction_no ask
+      stops_6 t m p e r = rw (p4, p5, p) (asked_no v _ t _ m e r)
+
+      pub comes_to_7 : (t : Bool) → question6 ops ws i ≡ true → question7 ops i ≡ t → v ≡ verdict_of (ask (no 7 workflow i) t none) → Judges
+      unfolding instruction_no ask
+      comes_to_7 t p6 p e = rw (p4, p5, p6, p) e
 
 -- 5 and 6 by an entry of the table
 module _ (ops ws : List ℕ) (i w : ℕ) (entry : Entry) (e : w ≡ word_at ws i) (f : entry ≡ entry_of (operation_at ops i)) where
@@ -108,19 +118,18 @@ module _ (ops ws : List ℕ) (i : ℕ) where
       stands (side_of op) inside ≡ true
   stood op inside e s h = rw (← e, ← s) (stands_right h)
 
-  -- outside a block no PUT stands, and 7 has nothing to ask
-  pub outside_7 : inside_at ops i ≡ false → question6 ops ws i ≡ true → question7 ops i ≡ true
-  unfolding question7 counted side_of stands
-  outside_7 s h = go (eqb (operation_at ops i) op_put) refl
-    where
-      go : (t : Bool) → eqb (operation_at ops i) op_put ≡ t → counted (operation_at ops i) (puts_before ops i) ≡ true
-      go true e = no_yes (stood op_put false (eqb-true (operation_at ops i) op_put e) s h)
-      go false e = rw e
+-- outside a block no PUT stands
+pub no_put : (ops ws : List ℕ) (i : ℕ) (inside : Bool) → inside_at ops i ≡ inside → question6 ops ws i ≡ true →
+    inside ≡ false → operation_at ops i ≡ op_put → ⊥
+unfolding side_of stands
+no_put ops ws i inside s h f e = no_yes (stood ops ws i op_put false e (s ∙ f) h)
 
--- inside, 7 goes by the block's PUTs in hand
-pub inside_7 : (ops : List ℕ) (i puts : ℕ) (t : Bool) → puts_before ops i ≡ puts → t ≡ counted (operation_at ops i) puts → question7 ops i ≡ t
-unfolding question7
-inside_7 ops i puts t e f = rw e (sym f)
+-- 7 goes by the block's PUTs in hand; outside a block there is no PUT to count
+pub asked_7 : (ops : List ℕ) (i puts : ℕ) (inside t : Bool) → (inside ≡ true → puts_before ops i ≡ puts) →
+    (inside ≡ false → operation_at ops i ≡ op_put → ⊥) → t ≡ counted (operation_at ops i) puts → question7 ops i ≡ t
+unfolding question7 counted
+asked_7 ops i puts true t e n f = rw (e refl) (sym f)
+asked_7 ops i puts false t e n f = rw (ne_eqb (operation_at ops i) op_put (n refl)) (sym (rw (ne_eqb (operation_at ops i) op_put (n refl)) at f))
 
 -- a PUT is behind fewer than 16
 pub counted_put : (ops : List ℕ) (i : ℕ) → operation_at ops i ≡ op_put → question7 ops i ≡ true → puts_before ops i < 16

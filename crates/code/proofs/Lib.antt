@@ -1,3 +1,5 @@
+pub mod Parts
+pub mod Asked
 pub mod Judged
 pub mod Steps
 pub mod Walked

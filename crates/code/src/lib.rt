@@ -3,30 +3,28 @@
 
 ghost use Rattle.std.specs.Prelude.{◌≡◌, true, false, ◌&&◌, ◌+◌, ◌-◌, ◌*◌, ◌≤◌, ◌<◌, length, eqb};
 ghost use Rattle.questions.specs.Basics.{if◌then◌otherwise◌, each_from};
+ghost use Rattle.operation.specs.Operations.{op_put};
 ghost use Rattle.questions.specs.Questions.{first_no};
 ghost use Rattle.questions.specs.Verdicts.{verdict_of};
 ghost use Rattle.operation.specs.Parts.{operation_of, register_of, target_of};
-ghost use Rattle.operation.specs.Operations.{op_put};
 ghost use Rattle.code.specs.Layout.{word_at};
-ghost use Rattle.code.specs.Questions.{legal, in_range, register_right, inside_behind, inside_at, stands, is_no_end, lands};
+ghost use Rattle.code.specs.Questions.{legal, in_range, register_right, inside_behind, inside_at, stands, is_no_end, lands_from, lands};
 ghost use Rattle.code.specs.Questions.{puts_before, counted};
 ghost use Rattle.code.specs.Refusal.{instruction_no, code_no};
 
 use operation::{Entry, Operand, Side};
-use questions::Verdict;
+use questions::{Verdict, ask_at};
 
 // Is the operation 0 to B, and bit 3 clear?
+#[tactic(auto, unfolding(crate::specs::Questions::legal))]
 fn is_legal(byte: u8) -> bool
     ensures { result ≡ legal byte }
 {
-    if operation::operation_of(byte) <= 11 {
-        operation::bit3_clear(byte)
-    } else {
-        false
-    }
+    operation::operation_of(byte) <= 11 && operation::bit3_clear(byte)
 }
 
 // Is an operand in its range?
+#[tactic(auto, unfolding(crate::specs::Questions::in_range))]
 fn operand_in_range(operand: Operand, size: usize, index: usize, word: u32) -> bool
     ensures { result ≡ in_range operand size index word }
 {
@@ -35,33 +33,23 @@ fn operand_in_range(operand: Operand, size: usize, index: usize, word: u32) -> b
         Operand::Below8 => word < 8,
         Operand::Jump => {
             let target = operation::target_of(word) as usize;
-            if 8 <= operation::source_of(word) {
-                return false;
-            }
-            if target <= index {
-                return false;
-            }
-            target < size
+            operation::source_of(word) < 8 && index < target && target < size
         }
         Operand::Zero => word == 0,
     }
 }
 
 // Are the operand, and the register where it is fixed, in range?
+#[tactic(auto, unfolding(crate::specs::Questions::register_right))]
 fn is_ranged(entry: Entry, byte: u8, size: usize, index: usize, word: u32) -> bool
     ensures { result ≡ in_range entry.operand size index word && register_right entry.fixed (register_of byte) }
 {
-    let operand = entry.operand;
-    if operand_in_range(operand, size, index, word) {
-        if entry.fixed {
-            return operation::register_of(byte) == 0;
-        }
-        return true;
-    }
-    false
+    operand_in_range(entry.operand, size, index, word)
+        && (!entry.fixed || operation::register_of(byte) == 0)
 }
 
 // May an operation of this side stand here?
+#[tactic(auto, unfolding(crate::specs::Questions::stands))]
 fn stands_on(side: Side, inside: bool) -> bool
     ensures { result ≡ stands side inside }
 {
@@ -76,14 +64,11 @@ fn stands_on(side: Side, inside: bool) -> bool
 fn inside_behind(byte: u8, inside: bool) -> bool
     ensures { result ≡ inside_behind (operation_of byte) inside }
 {
-    let op = operation::operation_of(byte);
-    if op == operation::BEGIN {
-        return true;
+    match operation::operation_of(byte) {
+        operation::BEGIN => true,
+        operation::END => false,
+        _ => inside,
     }
-    if op == operation::END {
-        return false;
-    }
-    inside
 }
 
 // Is the instruction at `index` inside a block? Seen from one that is outside, at `start`.
@@ -93,135 +78,93 @@ pub fn is_inside(ops: &[u8], start: usize, index: usize) -> bool
     ensures { result ≡ inside_at ops.now index }
 {
     let mut inside = false;
-    let mut i = start;
-    while i < index {
-        inside = inside_behind(ops[i], inside);
-        i += 1;
+    for byte in &ops[start..index] {
+        inside = inside_behind(*byte, inside);
     }
     inside
 }
 
 // Is there no END among the instructions from `first` up to, but not including, `end`?
 fn has_no_end(ops: &[u8], first: usize, end: usize) -> bool
-    requires { end ≤ length ops.now }
+    requires { (first ≤ end) × (end ≤ length ops.now) }
     ensures { result ≡ each_from (is_no_end ops.now) (end - first) first }
 {
-    let mut i = first;
-    while i < end {
-        if operation::operation_of(ops[i]) == operation::END {
-            return false;
-        }
-        i += 1;
-    }
-    true
+    ops[first..end]
+        .iter()
+        .all(|byte| operation::operation_of(*byte) != operation::END)
 }
 
-// Does an instruction that is outside stand, and its jump land, on the right side?
-fn is_sided_outside(entry: Entry, ops: &[u8], index: usize, word: u32) -> bool
-    requires outside { inside_at ops.now index ≡ false }
-    requires in_range { in_range entry.operand (length ops.now) index word ≡ true }
-    ensures { result ≡ stands entry.side false && lands entry.operand false ops.now index (target_of word) }
+// Does a jump from `index` to a `target` ahead land on the right side? From outside a block it lands outside; from inside it passes no END.
+#[tactic(auto, unfolding(crate::specs::Questions::lands_from))]
+fn lands_right<const INSIDE: bool>(ops: &[u8], index: usize, target: usize) -> bool
+    requires side { inside_at ops.now index ≡ INSIDE }
+    requires ahead { (index < target) × (target ≤ length ops.now) }
+    ensures { result ≡ lands_from INSIDE ops.now index target }
 {
-    let side = entry.side;
-    let operand = entry.operand;
-    if stands_on(side, false) {
-        match operand {
-            Operand::Any => true,
-            Operand::Below8 => true,
-            Operand::Jump => !is_inside(ops, index, operation::target_of(word) as usize),
-            Operand::Zero => true,
-        }
+    if INSIDE {
+        has_no_end(ops, index + 1, target)
     } else {
-        false
+        !is_inside(ops, index, target)
     }
 }
 
-// The same of one that is inside.
-fn is_sided_inside(entry: Entry, ops: &[u8], index: usize, word: u32) -> bool
-    requires inside { inside_at ops.now index ≡ true }
+// Does an instruction stand, and its jump land, on the right side?
+#[tactic(auto, unfolding(crate::specs::Questions::lands), using(crate::proofs::Judged::target_ahead, crate::proofs::Judged::target_below))]
+fn is_sided<const INSIDE: bool>(entry: Entry, ops: &[u8], index: usize, word: u32) -> bool
+    requires side { inside_at ops.now index ≡ INSIDE }
     requires in_range { in_range entry.operand (length ops.now) index word ≡ true }
-    ensures { result ≡ stands entry.side true && lands entry.operand true ops.now index (target_of word) }
+    ensures { result ≡ stands entry.side INSIDE && lands entry.operand INSIDE ops.now index (target_of word) }
 {
-    let side = entry.side;
-    let operand = entry.operand;
-    if stands_on(side, true) {
-        match operand {
-            Operand::Any => true,
-            Operand::Below8 => true,
-            Operand::Jump => has_no_end(ops, index + 1, operation::target_of(word) as usize),
-            Operand::Zero => true,
+    stands_on(entry.side, INSIDE)
+        && match entry.operand {
+            Operand::Jump => lands_right::<INSIDE>(ops, index, operation::target_of(word) as usize),
+            _ => true,
         }
-    } else {
-        false
-    }
 }
 
-// Is it no PUT, or one behind fewer than 16?
-fn is_counted(byte: u8, puts: usize) -> bool
+// Is it no PUT, or one behind fewer than 16? Outside a block there is no PUT: it would stand on the wrong side.
+#[tactic(auto, unfolding(crate::specs::Questions::counted))]
+fn is_counted<const INSIDE: bool>(byte: u8, puts: usize) -> bool
+    requires { INSIDE ≡ false → operation_of byte ≡ op_put → ⊥ }
     ensures { result ≡ counted (operation_of byte) puts }
 {
-    if operation::operation_of(byte) == operation::PUT {
-        return puts < 16;
-    }
-    true
+    !INSIDE || operation::operation_of(byte) != operation::PUT || puts < 16
 }
 
-// The PUTs of a block behind an instruction inside it that is not END.
+// The PUTs of a block behind an instruction that is neither BEGIN nor END.
 fn puts_behind(op: u8, puts: usize) -> usize
     requires { puts ≤ 16 }
     ensures { result ≡ (if eqb op op_put then puts + 1 otherwise puts) }
 {
-    if op == operation::PUT {
-        return puts + 1;
-    }
-    puts
+    if op == operation::PUT { puts + 1 } else { puts }
 }
 
-// Questions 4 to 7 on an instruction that is outside a block. The seventh is not asked: a PUT there fails the sixth.
-fn judge_outside(ops: &[u8], operands: &[u8], workflow: usize, index: usize) -> Verdict
+// Questions 4 to 7 on an instruction: is it inside a block, and how many of the block's PUTs are before it? Outside `puts` does not count.
+// `INSIDE` is a constant, so that the side is not looked at for each instruction.
+fn judge<const INSIDE: bool>(
+    ops: &[u8],
+    operands: &[u8],
+    workflow: usize,
+    index: usize,
+    puts: usize,
+) -> Verdict
     requires in_code { (index < length ops.now) × (length operands.now ≡ 4 * length ops.now) }
-    requires outside { inside_at ops.now index ≡ false }
+    requires side { inside_at ops.now index ≡ INSIDE }
+    requires counted { INSIDE ≡ true → puts_before ops.now index ≡ puts }
     ensures { result ≡ verdict_of (instruction_no workflow ops.now operands.now index) }
 {
     let byte = ops[index];
-    let word = words::read32(operands, 4 * index);
-    if !is_legal(byte) {
-        return questions::refused(4, workflow, index);
-    }
+    let word = word_in(operands, index);
+    ask_at(4, workflow, index, is_legal(byte))?;
     let entry = operation::entry_of(byte);
-    if !is_ranged(entry, byte, ops.len(), index, word) {
-        return questions::refused(5, workflow, index);
-    }
-    if !is_sided_outside(entry, ops, index, word) {
-        return questions::refused(6, workflow, index);
-    }
-    Verdict::Accepted
+    let ranged = is_ranged(entry, byte, ops.len(), index, word);
+    ask_at(5, workflow, index, ranged)?;
+    let sided = is_sided::<INSIDE>(entry, ops, index, word);
+    ask_at(6, workflow, index, sided)?;
+    ask_at(7, workflow, index, is_counted::<INSIDE>(byte, puts))
 }
 
-// Questions 4 to 7 on an instruction that is inside a block, `puts` being the block's PUTs before it.
-fn judge_inside(ops: &[u8], operands: &[u8], workflow: usize, index: usize, puts: usize) -> Verdict
-    requires in_code { (index < length ops.now) × (length operands.now ≡ 4 * length ops.now) }
-    requires inside { (inside_at ops.now index ≡ true) × (puts_before ops.now index ≡ puts) }
-    ensures { result ≡ verdict_of (instruction_no workflow ops.now operands.now index) }
-{
-    let byte = ops[index];
-    let word = words::read32(operands, 4 * index);
-    if !is_legal(byte) {
-        return questions::refused(4, workflow, index);
-    }
-    let entry = operation::entry_of(byte);
-    if !is_ranged(entry, byte, ops.len(), index, word) {
-        return questions::refused(5, workflow, index);
-    }
-    if !is_sided_inside(entry, ops, index, word) {
-        return questions::refused(6, workflow, index);
-    }
-    if !is_counted(byte, puts) {
-        return questions::refused(7, workflow, index);
-    }
-    Verdict::Accepted
-}
-
+// Two functions that call each other: the requirement names this form. Each hands on fewer instructions than it was given.
 // Outside a block, from instruction `first` on, until BEGIN.
 #[cycle(walk_inside_walk_outside)]
 fn walk_outside(ops: &[u8], operands: &[u8], workflow: usize, first: usize) -> Verdict
@@ -230,23 +173,13 @@ fn walk_outside(ops: &[u8], operands: &[u8], workflow: usize, first: usize) -> V
     ensures { result ≡ verdict_of (first_no (instruction_no workflow ops.now operands.now)
         (length ops.now - first) first) }
 {
-    let mut i = first;
-    while i < ops.len() {
-        let v = judge_outside(ops, operands, workflow, i);
-        if let Verdict::Refused {
-            question: _,
-            workflow: _,
-            instruction: _,
-        } = v
-        {
-            return v;
-        }
+    for i in first..ops.len() {
+        judge::<false>(ops, operands, workflow, i, 0)?;
         if operation::operation_of(ops[i]) == operation::BEGIN {
             return walk_inside(ops, operands, workflow, i + 1);
         }
-        i += 1;
     }
-    Verdict::Accepted
+    Ok(())
 }
 
 // Inside a block, from its first instruction on, until END.
@@ -257,26 +190,16 @@ fn walk_inside(ops: &[u8], operands: &[u8], workflow: usize, first: usize) -> Ve
     ensures { result ≡ verdict_of (first_no (instruction_no workflow ops.now operands.now)
         (length ops.now - first) first) }
 {
-    let mut puts: usize = 0;
-    let mut i = first;
-    while i < ops.len() {
-        let v = judge_inside(ops, operands, workflow, i, puts);
-        if let Verdict::Refused {
-            question: _,
-            workflow: _,
-            instruction: _,
-        } = v
-        {
-            return v;
-        }
+    let mut puts = 0;
+    for i in first..ops.len() {
+        judge::<true>(ops, operands, workflow, i, puts)?;
         let op = operation::operation_of(ops[i]);
         if op == operation::END {
             return walk_outside(ops, operands, workflow, i + 1);
         }
         puts = puts_behind(op, puts);
-        i += 1;
     }
-    Verdict::Accepted
+    Ok(())
 }
 
 // Questions 4 to 8 on one workflow.
@@ -284,22 +207,10 @@ pub fn check_workflow(ops: &[u8], operands: &[u8], workflow: usize) -> Verdict
     requires { (1 ≤ length ops.now) × (length operands.now ≡ 4 * length ops.now) }
     ensures { result ≡ verdict_of (code_no workflow ops.now operands.now) }
 {
-    let v = walk_outside(ops, operands, workflow, 0);
-    match v {
-        Verdict::Accepted => {
-            let last = ops.len() - 1;
-            if operation::operation_of(ops[last]) == operation::RETURN {
-                Verdict::Accepted
-            } else {
-                questions::refused(8, workflow, last)
-            }
-        }
-        Verdict::Refused {
-            question: _,
-            workflow: _,
-            instruction: _,
-        } => v,
-    }
+    walk_outside(ops, operands, workflow, 0)?;
+    let last = ops.len() - 1;
+    let returns = operation::operation_of(ops[last]) == operation::RETURN;
+    ask_at(8, workflow, last, returns)
 }
 
 // The operand word of an instruction, from the workflow's own operand bytes.

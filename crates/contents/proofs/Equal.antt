@@ -26,7 +26,6 @@ use Rattle.store.specs.Layout.{AllBytes, parts_of}
 use Rattle.store.specs.Ordered.{InOrder}
 use Rattle.store.specs.Rows.{Row, keys_in, lookup, rows_of, store_of}
 use Rattle.store.specs.Questions.{member, keys_apart, keys_ok, book_ok, question12, store_refusal}
-use Rattle.store.specs.Questions as Questions
 use Rattle.store.specs.Sound.{Sound}
 use Rattle.store.specs.Sound as Sounds
 use Rattle.store.proofs.Bytes.{past_rows}

@@ -1,7 +1,9 @@
 // What an agent does next: one function says it, and whoever moves an agent on acts on its answer.
 #![tactic(auto)]
 
-ghost use Rattle.std.specs.Prelude.{List, ◌≡◌, ℕ, ◌<◌, length};
+ghost use Rattle.std.specs.Prelude.{List, ◌≡◌, ◌==◌, ℕ, ◌<◌, length, position};
+ghost use Rattle.operation.specs.Operations.{op_end};
+ghost use Rattle.operation.specs.Parts.{operation_of};
 ghost use Rattle.rules.specs.Blocks.{yields, behind_end};
 ghost use Rattle.rules.specs.Courses.{going, passed, next_of};
 ghost use Rattle.code.specs.Meaning.{code_of};
@@ -36,9 +38,8 @@ pub fn next_of(ops: &[u8], operands: &[u8], from: Spot) -> Upcoming
     let op = operation::operation_of(byte);
     let d = operation::register_of(byte) as usize;
     if op == operation::RETURN {
-        let value = from.registers[d];
         return Upcoming {
-            next: Next::Says(value),
+            next: Next::Says(from.registers[d]),
             place: from,
         };
     }
@@ -49,11 +50,19 @@ pub fn next_of(ops: &[u8], operands: &[u8], from: Spot) -> Upcoming
             place: from,
         };
     }
-    let place = instruction::moved(from, op, d, word);
     Upcoming {
         next: Next::Goes,
-        place,
+        place: instruction::moved(from, op, d, word),
     }
+}
+
+// Where the first END of these bytes is.
+fn first_end(bytes: &[u8]) -> Option<usize>
+    ensures { result ≡ position (λ byte. operation_of byte == op_end) bytes.now }
+{
+    bytes
+        .iter()
+        .position(|byte| operation::operation_of(*byte) == operation::END)
 }
 
 // The position behind the END of the block that BEGIN at `begin` opens.
@@ -61,14 +70,11 @@ fn behind_end(ops: &[u8], begin: usize) -> usize
     requires { begin < length ops.now }
     ensures { (ws : List ℕ) → result ≡ behind_end (code_of ops.now ws) begin }
 {
-    let mut position = begin + 1;
-    while position < ops.len() {
-        if operation::operation_of(ops[position]) == operation::END {
-            return position + 1;
-        }
-        position += 1;
+    let first = begin + 1;
+    match first_end(&ops[first..]) {
+        Some(end) => first + end + 1,
+        None => ops.len(),
     }
-    position
 }
 
 // Where the agent stands behind the block that opens at `begin`, with the block's result.

@@ -13,7 +13,7 @@ use Rattle.rules.specs.Calls as Calls
 use Rattle.rules.specs.Plain.{Event, accepted}
 use Rattle.rules.proofs.Calls.{rule_accepted}
 use Rattle.pack.specs.Meaning.{pack_of}
-use Rattle.agents.specs.declared.Answer.{Answer as Said}
+use Rattle.agents.specs.Answers.{Answer as Said}
 use Rattle.agents.specs.Answers.{answer_of}
 use Rattle.meaning.specs.State.{state_of, Lent}
 use Rattle.meaning.specs.Questions.{refusal_for}

@@ -13,8 +13,9 @@ use Rattle.rules.specs.Blocks.{Result, yields}
 use Rattle.rules.specs.Worklist.{listed}
 use Rattle.rules.specs.Calls.{Call, Answer}
 use Rattle.rules.specs.Plain.{Reply, Event, replies_of}
-use Rattle.agents.specs.declared.Answer.{Answer as Said}
-use Rattle.agents.specs.declared.Answer.TheVariants.{Done}
+use Rattle.agents.specs.Answers.{Answer as Said}
+use Rattle.std.specs.Prelude.{Ok}
+use Rattle.agents.specs.declared.Accepted.TheVariants.{Done}
 use Rattle.agents.specs.Answers.{answer_of}
 use Rattle.worklist.specs.Worklist.{worklist_of}
 use Rattle.worklist.specs.Bytes.{list_in}
@@ -222,7 +223,7 @@ module _ (pack : List ℕ) (P C : ℕ) (events : List Event) (store slots list :
       Restarted slots list answer number slots' list' answer' → AllWait list number list'
   restarted answer number slots' list' answer' h x =
       let s = x.served (right_buffers answer h) in
-      let k = listing.restarts Done (lent_in store slots' list') (s.0 pack store) in
+      let k = listing.restarts (Ok Done) (lent_in store slots' list') (s.0 pack store) in
       record { is_done = s.3; waits = k.waits; same_ids = k.same_ids }
 
   pub listing_on : Listing pack events store slots list

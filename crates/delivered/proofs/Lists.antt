@@ -14,12 +14,13 @@ use Rattle.questions.specs.Basics.{if◌then◌otherwise◌}
 use Rattle.questions.specs.Questions.{No}
 use Rattle.questions.proofs.Updates.{none_some}
 use Rattle.questions.specs.Verdicts.{verdict_of}
-use Rattle.questions.specs.declared.Verdict.TheVariants.{Accepted}
+use Rattle.std.specs.Prelude.{Ok}
 use Rattle.rules.specs.Calls.{Call, Answer, restart, order}
 use Rattle.rules.specs.Calls as Calls
 use Rattle.rules.specs.Plain.{Event}
-use Rattle.agents.specs.declared.Answer.{Answer as Said}
-use Rattle.agents.specs.declared.Answer.TheVariants.{Done}
+use Rattle.agents.specs.Answers.{Answer as Said}
+use Rattle.std.specs.Prelude.{Ok}
+use Rattle.agents.specs.declared.Accepted.TheVariants.{Done}
 use Rattle.agents.specs.Answers.{answer_of}
 use Rattle.agents.specs.Answers as Agents
 use Rattle.store.specs.Questions.{create_refusal}
@@ -149,7 +150,7 @@ module _ (buffer answer : List ℕ) (P C number : ℕ) (store answer' : List ℕ
   no_question : create_refusal P C (length buffer) ≡ none
   no_question = zero_yes (create_refusal P C (length buffer)) (sym (made.told.told was_long).0 ∙ zero)
 
-  accepted_create : Created buffer store P C Accepted
+  accepted_create : Created buffer store P C (Ok tt)
   accepted_create =
       subst (Created buffer store P C) (ap verdict_of no_question) (made.created was_long)
 
@@ -237,7 +238,7 @@ module _ (pack store slots list : List ℕ) where
           unread (ap (λ m. heard m answer') w.0 ∙ list_unheard answer slots list n answer' e) refl w.1 w.2
       go none e =
           let s = x.served e in
-          answered Done (ap (λ m. heard m answer') s.3 ∙ unfold Answers.heard in unfold Agents.answer_of in refl) (s.0 pack store)
+          answered (Ok Done) (ap (λ m. heard m answer') s.3 ∙ unfold Answers.heard in unfold Agents.answer_of in refl) (s.0 pack store)
           (ap length s.1 ∙ length_records slots (slots_in slots') 8) (ap length s.2 ∙ length_list list (list_in list'))
 
   restart_mislent : (slots₁ list₁ answer : List ℕ) (number : ℕ) (slots₂ list₂ answer' : List ℕ) → OtherLent slots₁ list₁ →

@@ -10,7 +10,7 @@ use Rattle.rules.specs.Calls.{Call, Answer, arrival, retry}
 use Rattle.rules.specs.Calls as Calls
 use Rattle.rules.specs.Plain.{Event, accepted}
 use Rattle.agents.specs.declared.Agent.{Agent as Held}
-use Rattle.agents.specs.declared.Answer.{Answer as Said}
+use Rattle.agents.specs.Answers.{Answer as Said}
 use Rattle.agents.specs.Answers.{answer_of}
 use Rattle.slots.specs.Records.{slots_in}
 use Rattle.worklist.specs.Bytes.{list_in}

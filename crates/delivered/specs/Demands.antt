@@ -7,7 +7,7 @@ use Rattle.rules.specs.Calls.{Call, turn, restart, done, refused, rule}
 use Rattle.rules.specs.Plain.{Event, accepted}
 use Rattle.pack.specs.Meaning.{pack_of}
 use Rattle.pack.specs.Refusal.{pack_refusal}
-use Rattle.agents.specs.declared.Answer.{Answer}
+use Rattle.agents.specs.Answers.{Answer}
 use Rattle.agents.specs.Answers.{answer_of}
 use Rattle.worklist.specs.declared.Worklist.{Worklist}
 use Rattle.worklist.specs.Worklist.{worklist_of}

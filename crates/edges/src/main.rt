@@ -2,30 +2,30 @@
 // (1 byte), the words, and a case in the form that `cases` has. `edges.py` has them in readable form, each with its answer.
 #![tactic(auto)]
 
-ghost use Rattle.std.specs.Prelude.{◌≡◌, ◌≤◌, length, IfOk};
+ghost use Rattle.std.specs.Prelude.{◌≡◌, ◌≤◌, ◌<◌, length, IfOk, IfSome};
 
+use cases::input::{read_full, zeros};
 use std::io;
 use std::io::Write;
 
-// The edge that `edges` begin with. The answer is how many bytes it has, 0 if it is malformed.
-fn print_edge<W: Write>(out: &mut W, edges: &[u8], buffer: &mut [u8]) -> io::Result<usize>
+// The edge that `edges` begin with. The answer is how many bytes it has; there is none for a malformed one.
+fn print_edge<W: Write>(out: &mut W, edges: &[u8], buffer: &mut [u8]) -> io::Result<Option<usize>>
     requires { length edges.now ≤ length buffer.old }
-    ensures size { IfOk result (λ size. size ≤ length edges.now) }
+    ensures size { IfOk result (λ edge. IfSome edge (λ size. (0 < size) × (size ≤ length edges.now))) }
     ensures kept { length buffer.new ≡ length buffer.old }
 {
-    if edges.len() == 0 {
-        return Ok(0);
+    if edges.is_empty() {
+        return Ok(None);
     }
-    let words_end = 1 + cases::parts::wide(edges[0]);
+    let words_end = 1 + usize::from(edges[0]);
     if edges.len() < words_end {
-        return Ok(0);
+        return Ok(None);
     }
     let case = &edges[words_end..];
-    let bytes = cases::run::print_case(out, case, &edges[1..words_end], false, buffer)?;
-    if bytes == 0 {
-        return Ok(0);
-    }
-    Ok(words_end + bytes)
+    let Some(bytes) = cases::run::print_case(out, case, &edges[1..words_end], false, buffer)? else {
+        return Ok(None);
+    };
+    Ok(Some(words_end + bytes))
 }
 
 // All edges.
@@ -34,25 +34,18 @@ fn print_edges<W: Write>(out: &mut W, edges: &[u8], buffer: &mut [u8]) -> io::Re
 {
     let mut passed = 0;
     while passed < edges.len() {
-        let bytes = print_edge(out, &edges[passed..], buffer)?;
-        if bytes == 0 {
+        let Some(bytes) = print_edge(out, &edges[passed..], buffer)? else {
             return Ok(());
-        }
+        };
         passed += bytes;
     }
     Ok(())
 }
 
-// Room for all edges, and for the store of one.
-fn large_buffer() -> [u8; 524_288]
-    ensures { 524288 ≡ length result }
-{
-    [0; 524_288]
-}
-
 fn main(rt: HostRuntime) -> io::Result<()> {
-    let mut edges = large_buffer();
-    let read = cases::input::read_full(&mut rt.stdin(), &mut edges)?;
-    let mut buffer = large_buffer();
+    let mut edges = zeros::<524_288>();
+    let read = read_full(&mut rt.stdin(), &mut edges)?;
+    // Room for the store of an edge.
+    let mut buffer = zeros::<524_288>();
     print_edges(&mut io::writer(&rt), &edges[..read], &mut buffer)
 }

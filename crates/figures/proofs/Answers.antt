@@ -4,10 +4,10 @@ use mathlib.Core.Option.{none}
 use mathlib.Core.Path.{◌≡◌, refl, sym, ap, ◌∙◌, subst}
 use Prim.Native.Nat.{ℕ, ◌<◌}
 use native.Mathlib.Omega.{arith}
-use lib.ListN.{length, get_or, replicate}
-use Rattle.questions.specs.declared.Verdict.{Verdict}
-use Rattle.questions.specs.declared.Verdict.TheVariants.{Refused}
-use Rattle.questions.specs.Verdicts.{verdict_of}
+use lib.ListN.{length, get_or}
+use Rattle.std.specs.Prelude.{Ok, Err}
+use Rattle.questions.specs.declared.Refusal.{Refusal}
+use Rattle.questions.specs.Verdicts.{Verdict, verdict_of}
 use Rattle.questions.proofs.Questions.{or_else_none}
 use Rattle.questions.proofs.Updates.{none_some}
 use Rattle.rules.specs.Instructions.{Code}
@@ -42,13 +42,12 @@ module _ (pack : List ℕ) (w : ℕ) (e : open_refusal pack w ≡ none) where
         few = omega (arith, l, z.1);
       }))
 
-  pub answered : (ops ws : List ℕ) → ops ≡ operations_of pack w → ws ≡ operands_of pack w → (r : Figured) → r.verdict ≡ verdict_of none →
-      length r.rows ≡ 8 → MostOf by_turns (code_of ops ws) r.turns →
+  pub answered : (ops ws : List ℕ) → ops ≡ operations_of pack w → ws ≡ operands_of pack w → (r : Figured) → length r.rows ≡ 8 → MostOf by_turns (code_of ops ws) r.turns →
       ((p : ℕ) → p < 8 → MostOf (by_rows p) (code_of ops ws) (get_or r.rows p 0)) →
-      Answered pack w r
-  answered ops ws o p r v eight turns rows =
+      Answered pack w (Ok r)
+  answered ops ws o p r eight turns rows =
       record {
-        verdict = v ∙ ap verdict_of (sym e);
+        verdict = ap verdict_of (sym e);
         eight = eight;
         figures =
             λ _.
@@ -61,10 +60,9 @@ module _ (pack : List ℕ) (w : ℕ) (e : open_refusal pack w ≡ none) where
       is = workflow_at pack w (open_below pack w e) ∙ (λ i. code_of (sym o i) (sym p i))
 
 -- a refusal: the first no, and no figures
-pub refused : (pack : List ℕ) (w : ℕ) (v : Verdict) (q w' i : ℕ) → v ≡ verdict_of (open_refusal pack w) → v ≡ Refused q w' i →
-    Answered pack w (record { verdict = v; turns = 0; rows = replicate 8 0 })
-refused pack w v q w' i e r =
-    record { verdict = e; eight = refl; figures = λ f. absurd (clash f); none_given = λ n f. (refl, refl) }
+pub refused : (pack : List ℕ) (w : ℕ) (v : Verdict) (m : Refusal) → v ≡ verdict_of (open_refusal pack w) → v ≡ Err m → Answered pack w (Err m)
+refused pack w v m e r =
+    record { verdict = sym r ∙ e; eight = refl; figures = λ f. absurd (clash f); none_given = λ n f. (refl, refl) }
   where
     clash : open_refusal pack w ≡ none → ⊥
-    clash f = let g : verdict_of none ≡ Refused q w' i = sym (ap verdict_of f) ∙ sym e ∙ r in let z : ◌≡◌ {A = ℕ} 0 1 = cc in omega arith
+    clash f = let g : verdict_of none ≡ Err m = sym (ap verdict_of f) ∙ sym e ∙ r in let z : ◌≡◌ {A = ℕ} 0 1 = cc in omega arith

@@ -10,7 +10,7 @@ use lib.Dec.{eqb}
 use lib.ListN.{length, get_or, set, drop, length-set, drop_of_length-le}
 use lib.Seq.{drop-cons, get_or-set_same, get_or-set_other}
 use Rattle.questions.specs.Basics.{if◌then◌otherwise◌}
-use Rattle.rules.specs.Instructions.{Code, END, RETURN, instruction_at}
+use Rattle.rules.specs.Instructions.{Code, RETURN, instruction_at}
 use Rattle.rules.specs.Shapes.{outside, inside, shape}
 use Rattle.rules.specs.Blocks.{is_end, through_end}
 use Rattle.rules.specs.Checked.{side_behind, side_at, Checked}

@@ -7,7 +7,8 @@ ghost use Rattle.questions.specs.Verdicts.{verdict_of};
 ghost use Rattle.pack.specs.Refusal.{open_refusal};
 ghost use Rattle.lent.specs.Alone.{TurnedAlone};
 
-use agents::{Agent, Answer, Request};
+use agents::{Accepted, Agent, Answer, Request};
+use cases::input::{read_full, zeros};
 use questions::Verdict;
 use reader::Instruction;
 use std::io;
@@ -35,26 +36,20 @@ fn write_byte<W: Write>(out: &mut W, b: u8) -> io::Result<()> {
 // A line of bytes in hex.
 fn write_bytes<W: Write>(out: &mut W, title: &[u8], s: &[u8]) -> io::Result<()> {
     write_text(out, title)?;
-    let mut i = 0;
-    while i < s.len() {
-        write_byte(out, s[i])?;
-        i += 1;
+    for byte in s {
+        write_byte(out, *byte)?;
     }
     write_text(out, b"\n")
 }
 
 fn write_verdict<W: Write>(out: &mut W, v: Verdict) -> io::Result<()> {
     match v {
-        Verdict::Accepted => write_text(out, b"accepted\n"),
-        Verdict::Refused {
-            question,
-            workflow,
-            instruction,
-        } => {
+        Ok(()) => write_text(out, b"accepted\n"),
+        Err(no) => {
             write_text(out, b"refused")?;
-            write_number(out, question as u64)?;
-            write_number(out, workflow as u64)?;
-            write_number(out, instruction as u64)?;
+            write_number(out, no.question as u64)?;
+            write_number(out, no.workflow as u64)?;
+            write_number(out, no.instruction as u64)?;
             write_text(out, b"\n")
         }
     }
@@ -84,12 +79,10 @@ fn write_instructions<W: Write>(
     workflow: u32,
     size: usize,
 ) -> io::Result<()> {
-    let mut i = 0;
-    while i < size {
+    for i in 0..=size {
         write_instruction(out, i, reader::instruction_of(pack, workflow, i))?;
-        i += 1;
     }
-    write_instruction(out, size, reader::instruction_of(pack, workflow, size))
+    Ok(())
 }
 
 // All that there is of one workflow: a reader's verdict, the parts, a reader's instructions.
@@ -106,11 +99,10 @@ fn write_reader<W: Write>(out: &mut W, title: &[u8], pack: &[u8], workflow: u32)
 fn write_readers<W: Write>(out: &mut W, pack: &[u8]) -> io::Result<()> {
     write_reader(out, b"workflow 0: ", pack, 0)?;
     write_reader(out, b"workflow 1: ", pack, 1)?;
-    if pack.len() == 0 {
-        return Ok(());
+    match pack {
+        [shorter @ .., _] => write_reader(out, b"a byte short: ", shorter, 0),
+        [] => Ok(()),
     }
-    let n = pack.len() - 1;
-    write_reader(out, b"a byte short: ", &pack[0..n], 0)
 }
 
 // A turn by value: the record is lent, and what the turn left of it is read back.
@@ -126,10 +118,8 @@ fn turned(pack: &[u8], store: &mut [u8], agent: Agent) -> Turned
 }
 
 fn write_registers<W: Write>(out: &mut W, registers: [u32; 8]) -> io::Result<()> {
-    let mut i = 0;
-    while i < 8 {
-        write_word(out, registers[i])?;
-        i += 1;
+    for register in registers {
+        write_word(out, register)?;
     }
     Ok(())
 }
@@ -146,14 +136,6 @@ fn write_record<W: Write>(out: &mut W, a: Agent) -> io::Result<()> {
     write_text(out, b"\n")
 }
 
-fn is_moved(answer: Answer) -> bool {
-    if let Answer::Moved = answer {
-        true
-    } else {
-        false
-    }
-}
-
 // A call's answer, and the record that it left.
 fn write_call<W: Write>(out: &mut W, answer: Answer, a: Agent) -> io::Result<()> {
     case_print::print::print_answer(out, answer)?;
@@ -168,21 +150,16 @@ fn write_turns<W: Write>(
     agent: Agent,
     n: usize,
 ) -> io::Result<Agent> {
-    let mut a = agent;
-    let mut i = 0;
-    while i < n {
-        let t = turned(pack, store, a);
-        let answer = t.answer;
-        let left = t.agent;
-        write_call(out, answer, left)?;
-        a = left;
-        if is_moved(answer) {
-            i += 1;
-        } else {
-            return Ok(a);
+    let mut left = agent;
+    for _ in 0..n {
+        let turned = turned(pack, store, left);
+        left = turned.agent;
+        write_call(out, turned.answer, left)?;
+        if !matches!(turned.answer, Ok(Accepted::Moved)) {
+            break;
         }
     }
-    Ok(a)
+    Ok(left)
 }
 
 // The agent of request 7 in slot 0: what its arrival left there.
@@ -194,12 +171,10 @@ fn started<W: Write>(out: &mut W, pack: &[u8], store: &mut [u8]) -> io::Result<A
         a2: 30,
         a3: 0,
     };
-    let o = runtime::arrival(pack, store, agents::no_agents(), 0, 7, q);
-    let slots = o.agents;
-    let a = slots[0];
-    let answer = o.answer;
-    write_call(out, answer, a)?;
-    Ok(a)
+    let mut agents = agents::no_agents();
+    let answer = runtime::arrival(pack, store, &mut agents, 0, 7, q);
+    write_call(out, answer, agents[0])?;
+    Ok(agents[0])
 }
 
 // That agent from its arrival to its reply, and one turn more, with the store after each of the two.
@@ -213,16 +188,10 @@ fn write_agent<W: Write>(out: &mut W, pack: &[u8], store: &mut [u8]) -> io::Resu
     case_print::print::print_store(out, store)
 }
 
-// Room for the pack that is read: for more bytes than any that is right has.
-fn pack_buffer() -> [u8; 65_536]
-    ensures { 65536 ≡ length result }
-{
-    [0; 65_536]
-}
-
 fn main(rt: HostRuntime) -> io::Result<()> {
-    let mut buffer = pack_buffer();
-    let read = cases::input::read_full(&mut rt.stdin(), &mut buffer)?;
+    // More bytes than any pack that is right has.
+    let mut buffer = zeros::<65_536>();
+    let read = read_full(&mut rt.stdin(), &mut buffer)?;
     let pack = &buffer[..read];
     let mut store = [0u8; 189];
     let mut out = io::writer(&rt);

@@ -14,20 +14,20 @@ use Rattle.rules.proofs.Calls.{rule_accepted}
 use Rattle.questions.proofs.Tests.{yes_no, no_yes}
 use Rattle.pack.specs.Meaning.{pack_of}
 use Rattle.agents.specs.declared.Agent.{Agent}
-use Rattle.agents.specs.declared.Outcome.{Outcome}
 use Rattle.agents.specs.Answers.{answer_of}
 use Rattle.meaning.specs.State.{state_of, Lent}
 use Rattle.meaning.specs.Questions.{refusal_for}
 use Rattle.meaning.specs.Carried.{Carried}
 use Rattle.meaning.proofs.Placed.{FromHost, refusal_placed}
 use Rattle.slots.specs.Records.{slots_in, with_slots}
-use Rattle.agents.specs.declared.Answer.TheVariants.{Done}
+use Rattle.std.specs.Prelude.{Ok}
+use Rattle.agents.specs.declared.Accepted.TheVariants.{Done}
 use Rattle.worklist.specs.declared.Worklist.{Worklist}
 use Rattle.worklist.specs.Worklist.{no_worklist}
 use Rattle.worklist.specs.Bytes.{list_in, with_list}
 use Rattle.answers.specs.Answers.{number_of, values_of, with_words, heard, PlaceFits, slots_after, list_after}
 use Rattle.answers.specs.Answers as Answers
-use Rattle.agents.specs.declared.Answer.{Answer}
+use Rattle.agents.specs.Answers.{Answer}
 use Rattle.store.specs.Ordered.{InOrder}
 use Rattle.host.specs.Told.{answer_short}
 use Rattle.host.specs.Exports.{buffers_wrong, list_wrong, lent_with, lent_in}
@@ -74,14 +74,14 @@ module _ (pack store slots answer : List ℕ) (c : Call) where
       let e : buffers_wrong answer slots ≡ some 101 = rw (le-leb 12 (length answer) h, ne_eqb (length slots) 384 d) refl in
       record { wrong = λ n q. (same (sym e ∙ q), refl, refl, refl); served = λ q. absurd (missing (sym q ∙ e)) }
 
-  module _ (records : List Agent) (o : Outcome) (store' slots' answer' : List ℕ) (number : ℕ) where
+  module _ (records : List Agent) (said : Answer) (agents' : List Agent) (store' slots' answer' : List ℕ) (number : ℕ) where
     -- a refused call leaves the records that it was given
-    kept : (l : Worklist) → Carried pack (record { store = store; records = records; list = l }) c o.answer
-        (record { store = store'; records = o.agents; list = l }) → accepted (answer_of o.answer) ≡ false → o.agents ≡ records
-    kept l p e = ap (λ (x : Lent). x.records) (left_alone pack (record { store = store; records = records; list = l }) c o.answer _ p e)
+    kept : (l : Worklist) → Carried pack (record { store = store; records = records; list = l }) c said
+        (record { store = store'; records = agents'; list = l }) → accepted (answer_of said) ≡ false → agents' ≡ records
+    kept l p e = ap (λ (x : Lent). x.records) (left_alone pack (record { store = store; records = records; list = l }) c said _ p e)
 
     -- and no byte of them is written
-    untouched : (a : Rules.Answer) → accepted a ≡ false → slots_after a slots o.agents ≡ slots
+    untouched : (a : Rules.Answer) → accepted a ≡ false → slots_after a slots agents' ≡ slots
     unfolding Answers.slots_after
     untouched Rules.done e = yes_no e
     untouched Rules.moved e = yes_no e
@@ -90,12 +90,12 @@ module _ (pack store slots answer : List ℕ) (c : Call) where
     untouched (Rules.refused n) e = refl
 
     pub exported : 12 ≤ length answer → length slots ≡ 384 → records ≡ slots_in slots
-        → ((l : Worklist) → Carried pack (record { store = store; records = records; list = l }) c o.answer
-        (record { store = store'; records = o.agents; list = l }))
-        → FromHost c → (number ≡ number_of (answer_of o.answer)) × (answer' ≡ with_words answer (values_of (answer_of o.answer)))
-        → (PlaceFits (answer_of o.answer) → heard number answer' ≡ some (answer_of o.answer))
-        → slots' ≡ slots_after (answer_of o.answer) slots o.agents
-        → (accepted (answer_of o.answer) ≡ true → slots_in slots' ≡ o.agents)
+        → ((l : Worklist) → Carried pack (record { store = store; records = records; list = l }) c said
+        (record { store = store'; records = agents'; list = l }))
+        → FromHost c → (number ≡ number_of (answer_of said)) × (answer' ≡ with_words answer (values_of (answer_of said)))
+        → (PlaceFits (answer_of said) → heard number answer' ≡ some (answer_of said))
+        → slots' ≡ slots_after (answer_of said) slots agents'
+        → (accepted (answer_of said) ≡ true → slots_in slots' ≡ agents')
         → Exported pack store slots answer c number store' slots' answer'
     unfolding buffers_wrong
     exported h l r p m t u w b =
@@ -103,28 +103,28 @@ module _ (pack store slots answer : List ℕ) (c : Call) where
         record {
           wrong = λ n q. absurd (missing (sym e ∙ q));
           served = λ q. record {
-            said = o.answer;
+            said = said;
             carried = carried;
-            bytes = w ∙ ap (slots_after (answer_of o.answer) slots) (sym back);
+            bytes = w ∙ ap (slots_after (answer_of said) slots) (sym back);
             given = t.0;
             words = t.1;
-            read = u (answer_placed pack _ c o.answer _ m (p no_worklist));
+            read = u (answer_placed pack _ c said _ m (p no_worklist));
           };
         }
       where
-        left : (t : Bool) → accepted (answer_of o.answer) ≡ t → slots_in slots' ≡ o.agents
+        left : (t : Bool) → accepted (answer_of said) ≡ t → slots_in slots' ≡ agents'
         left true e = b e
-        left false e = ap slots_in (w ∙ untouched (answer_of o.answer) e) ∙ sym r ∙ sym (kept no_worklist (p no_worklist) e)
+        left false e = ap slots_in (w ∙ untouched (answer_of said) e) ∙ sym r ∙ sym (kept no_worklist (p no_worklist) e)
 
-        back : slots_in slots' ≡ o.agents
-        back = left (accepted (answer_of o.answer)) refl
+        back : slots_in slots' ≡ agents'
+        back = left (accepted (answer_of said)) refl
 
-        carried : (l : Worklist) → Carried pack (lent_with store slots l) c o.answer (lent_with store' slots' l)
+        carried : (l : Worklist) → Carried pack (lent_with store slots l) c said (lent_with store' slots' l)
         carried l =
-            subst (λ (rs : List Agent). Carried pack (lent_with store slots l) c o.answer
+            subst (λ (rs : List Agent). Carried pack (lent_with store slots l) c said
             (record { store = store'; records = rs; list = l })) (sym back)
-            (subst (λ (rs : List Agent). Carried pack (record { store = store; records = rs; list = l }) c o.answer
-            (record { store = store'; records = o.agents; list = l })) r (p l))
+            (subst (λ (rs : List Agent). Carried pack (record { store = store; records = rs; list = l }) c said
+            (record { store = store'; records = agents'; list = l })) r (p l))
 
 -- ---- add, take and done
 
@@ -238,7 +238,7 @@ module _ (slots list answer : List ℕ) where
   pub restarted_all : (l left : Worklist) (records' : List Agent) (slots' list' answer' : List ℕ) (number : ℕ) →
       list_wrong answer slots list ≡ none → l ≡ list_in list →
       ((pack store : List ℕ) (records : List Agent) → Carried pack
-      (record { store = store; records = records; list = l }) Rules.restart Done
+      (record { store = store; records = records; list = l }) Rules.restart (Ok Done)
       (record { store = store; records = records'; list = left })) →
       (slots' ≡ with_slots slots records') × (slots_in slots' ≡ records') → (list' ≡ with_list list left) × (list_in list' ≡ left) →
       (number ≡ 0) × (answer' ≡ with_words answer (0 ∷ 0 ∷ 0 ∷ [])) → Restarted slots list answer number slots' list' answer'
@@ -254,11 +254,11 @@ module _ (slots list answer : List ℕ) where
         );
       }
     where
-      carried : (pack store : List ℕ) → Carried pack (lent_in store slots list) Rules.restart Done (lent_in store slots' list')
+      carried : (pack store : List ℕ) → Carried pack (lent_in store slots list) Rules.restart (Ok Done) (lent_in store slots' list')
       carried pack store =
-          subst (λ (x : Worklist). Carried pack (lent_in store slots list) Rules.restart Done (lent_with store slots' x)) (sym w.1)
-          (subst (λ (x : Worklist). Carried pack (lent_with store slots x) Rules.restart Done (lent_with store slots' left)) i
-          (subst (λ (rs : List Agent). Carried pack (record { store = store; records = slots_in slots; list = l }) Rules.restart Done
+          subst (λ (x : Worklist). Carried pack (lent_in store slots list) Rules.restart (Ok Done) (lent_with store slots' x)) (sym w.1)
+          (subst (λ (x : Worklist). Carried pack (lent_with store slots x) Rules.restart (Ok Done) (lent_with store slots' left)) i
+          (subst (λ (rs : List Agent). Carried pack (record { store = store; records = slots_in slots; list = l }) Rules.restart (Ok Done)
           (record { store = store; records = rs; list = left })) (sym s.1) (p pack store (slots_in slots))))
 
 -- ---- order

@@ -13,7 +13,7 @@ use Rattle.questions.specs.Questions as Questions
 use Rattle.questions.proofs.Every.{Every}
 use Rattle.rules.specs.Blocks.{Result, yields}
 use Rattle.rules.specs.Calls.{Answer, done, moved, reply, given, refused}
-use Rattle.questions.specs.declared.Verdict.{Verdict}
+use Rattle.questions.specs.Verdicts.{Verdict}
 use Rattle.pack.specs.Layout.{count, size_of, operations_at, operands_at}
 use Rattle.pack.specs.Laid.{Laid}
 use Rattle.pack.proofs.Placed.{open_placed}
@@ -22,9 +22,10 @@ use Rattle.pack.proofs.Workflows.{open_laid, open_below}
 use Rattle.meaning.specs.State.{worked_out}
 use Rattle.meaning.specs.Questions.{reply_refusal}
 use Rattle.meaning.proofs.Placed.{create_placed, reply_placed}
-use Rattle.runtime.specs.declared.Known.{Known}
-use Rattle.runtime.specs.declared.Known.TheVariants.{NotYet, Reply, Refused}
-use Rattle.runtime.specs.Known.{known, known_in}
+use Rattle.std.specs.Prelude as code
+use Rattle.std.specs.Prelude.{Ok, Err, Some, None}
+use Rattle.questions.specs.declared.Refusal.{Refusal}
+use Rattle.runtime.specs.Known.{Known, known, known_in}
 use Rattle.pack.specs.Refusal.{open_refusal}
 use Rattle.questions.proofs.Questions.{or_else_none}
 use Rattle.rules.specs.Routes.{Counting, by_turns, by_rows, MostOf}
@@ -33,7 +34,7 @@ use Rattle.rules.proofs.Routes as Routes
 use Rattle.pack.specs.Meaning.{pack_of}
 use Rattle.pack.proofs.Laws.{length_pack, length_workflow, accepted_checked}
 use Rattle.figures.specs.declared.Figured.{Figured}
-use Rattle.figures.specs.Answered.{Answered}
+use Rattle.figures.specs.Answered.{Answered, shown}
 use Rattle.words.specs.Words.{fields}
 use Rattle.slots.specs.Records.{puts}
 use Rattle.slots.specs.Records as Records
@@ -195,7 +196,7 @@ twelve_words answer (given id) turns rows e = rw e refl
 twelve_words answer (refused n) turns rows e = rw e refl
 
 -- each has 32 bits: no figure is above 256
-module _ (pack : List ℕ) (w : ℕ) (r : Figured) (a : Answered pack w r) where
+module _ (pack : List ℕ) (w : ℕ) (r : code.Result Figured Refusal) (a : Answered pack w r) where
   few : open_refusal pack w ≡ none → (c : Counting) → Routes.Small c → (n : ℕ) → MostOf c (get_or (pack_of pack) w []) n → n ≤ 256
   unfolding open_refusal
   few e c s n m =
@@ -204,25 +205,25 @@ module _ (pack : List ℕ) (w : ℕ) (r : Figured) (a : Answered pack w r) where
       let k = accepted_checked pack p w (omega (arith, length_pack pack, b)) in
       omega (arith, most_within _ k c s n m, length_workflow pack p w b, ((open_laid pack w e).sizes w b).1)
 
-  nine_small : Small (r.turns ∷ r.rows)
+  nine_small : Small ((shown r).turns ∷ (shown r).rows)
   nine_small = go (open_refusal pack w) refl
     where
-      past : (j : ℕ) → 8 ≤ j → get_or r.rows j 0 < 256 ^ 4
-      past j l = omega (arith, get_or-eq_default r.rows 0 {n = j} (omega (arith, a.eight)))
+      past : (j : ℕ) → 8 ≤ j → get_or (shown r).rows j 0 < 256 ^ 4
+      past j l = omega (arith, get_or-eq_default (shown r).rows 0 {n = j} (omega (arith, a.eight)))
 
-      zeros : (j : ℕ) → r.rows ≡ replicate 8 0 → get_or r.rows j 0 < 256 ^ 4
+      zeros : (j : ℕ) → (shown r).rows ≡ replicate 8 0 → get_or (shown r).rows j 0 < 256 ^ 4
       zeros j e = within (dec_lt j 8)
         where
-          within : Dec (j < 8) → get_or r.rows j 0 < 256 ^ 4
+          within : Dec (j < 8) → get_or (shown r).rows j 0 < 256 ^ 4
           within (yes l) = omega (arith, ap (λ l. get_or l j 0) e, get_or-replicate {A = ℕ} 8 j 0 0 l)
           within (no l) = past j (omega arith)
 
-      go : (o : Option No) → open_refusal pack w ≡ o → Small (r.turns ∷ r.rows)
-      go none e zero = let n = few e by_turns turns_small r.turns (a.figures e).of_turns in omega arith
+      go : (o : Option No) → open_refusal pack w ≡ o → Small ((shown r).turns ∷ (shown r).rows)
+      go none e zero = let n = few e by_turns turns_small (shown r).turns (a.figures e).of_turns in omega arith
       go none e (suc j) = within (dec_lt j 8)
         where
-          within : Dec (j < 8) → get_or r.rows j 0 < 256 ^ 4
-          within (yes l) = let n = few e (by_rows j) (rows_small j) (get_or r.rows j 0) ((a.figures e).of_rows j l) in omega arith
+          within : Dec (j < 8) → get_or (shown r).rows j 0 < 256 ^ 4
+          within (yes l) = let n = few e (by_rows j) (rows_small j) (get_or (shown r).rows j 0) ((a.figures e).of_rows j l) in omega arith
           within (no l) = past j (omega arith)
       go (some n) e zero = omega (arith, (a.none_given n e).0)
       go (some n) e (suc j) = zeros j (a.none_given n e).1
@@ -235,9 +236,9 @@ figures_short pack answer w h =
     record { short = λ n q. (same (sym e ∙ q), refl); told = λ q. absurd (missing (sym q ∙ e)) }
 
 -- figures: the answer b was written, and then the nine words
-pub told_figures : (answer pack : List ℕ) (w : ℕ) (r : Figured) (b : Answer) (number : ℕ) (between answer' : List ℕ) →
+pub told_figures : (answer pack : List ℕ) (w : ℕ) (r : code.Result Figured Refusal) (b : Answer) (number : ℕ) (between answer' : List ℕ) →
     48 ≤ length answer → Answered pack w r → b ≡ judged (open_refusal pack w) →
-    (number ≡ number_of b) × (between ≡ with_words answer (values_of b)) → answer' ≡ puts 4 between 12 (r.turns ∷ r.rows) 9 →
+    (number ≡ number_of b) × (between ≡ with_words answer (values_of b)) → answer' ≡ puts 4 between 12 ((shown r).turns ∷ (shown r).rows) 9 →
     FiguresTold pack answer w number answer'
 told_figures answer pack w r b number between answer' h a e t q =
     record {
@@ -246,8 +247,8 @@ told_figures answer pack w r b number between answer' h a e t q =
           λ s.
           let t = (told_all 48 answer (judged o) words number answer' h long whole given written).told s in
           record {
-            turns = r.turns;
-            rows = r.rows;
+            turns = (shown r).turns;
+            rows = (shown r).rows;
             eight = a.eight;
             given = given;
             words = written;
@@ -261,24 +262,24 @@ told_figures answer pack w r b number between answer' h a e t q =
     o = open_refusal pack w
 
     words : List ℕ
-    words = values_of (judged o) ++ r.turns ∷ r.rows
+    words = values_of (judged o) ++ (shown r).turns ∷ (shown r).rows
 
     twelve : length words ≡ 12
-    twelve = length-append (values_of (judged o)) (r.turns ∷ r.rows) ∙ omega (arith, three_words o, a.eight)
+    twelve = length-append (values_of (judged o)) ((shown r).turns ∷ (shown r).rows) ∙ omega (arith, three_words o, a.eight)
 
     long : 0 + length words * 4 ≤ 48
     long = omega (arith, twelve)
 
     whole : Small words
-    whole = append_small (values_of (judged o)) (r.turns ∷ r.rows) (judged_small o (open_placed pack w)) (nine_small pack w r a)
+    whole = append_small (values_of (judged o)) ((shown r).turns ∷ (shown r).rows) (judged_small o (open_placed pack w)) (nine_small pack w r a)
 
     given : number ≡ number_of (judged o)
     given = t.0 ∙ ap number_of e
 
     written : answer' ≡ with_words answer words
     written =
-        q ∙ ap (λ l. puts 4 l 12 (r.turns ∷ r.rows) 9) (t.1 ∙ ap (λ x. with_words answer (values_of x)) e)
-        ∙ twelve_words answer (judged o) r.turns r.rows a.eight
+        q ∙ ap (λ l. puts 4 l 12 ((shown r).turns ∷ (shown r).rows) 9) (t.1 ∙ ap (λ x. with_words answer (values_of x)) e)
+        ∙ twelve_words answer (judged o) (shown r).turns (shown r).rows a.eight
 
 -- create, refused for its answer buffer
 pub made_short : (store answer : List ℕ) (P C : ℕ) → length answer < 12 → Made store answer P C 100 store answer
@@ -311,40 +312,41 @@ module _ (pack store answer : List ℕ) (id : ℕ) where
       record { short = λ n q. (same (sym e ∙ q), refl); told = λ q. absurd (missing (sym q ∙ e)) }
 
   -- a no names a place, so that its words have it whole
-  read_placed : (q w i : ℕ) → Refused q w i ≡ known_in pack store id → Placed (Questions.no q w i)
-  read_placed q w i e = go (reply_refusal pack store id) refl (worked_out pack store id) e
+  read_placed : (m : Refusal) → Err m ≡ known_in pack store id → Placed (Questions.no m.question m.workflow m.instruction)
+  read_placed m e = go (reply_refusal pack store id) refl (worked_out pack store id) e
     where
-      go : (o : Option No) → reply_refusal pack store id ≡ o → (r : Option Result) → Refused q w i ≡ known o r → Placed (Questions.no q w i)
+      go : (o : Option No) → reply_refusal pack store id ≡ o → (r : Option Result) → Err m ≡ known o r →
+          Placed (Questions.no m.question m.workflow m.instruction)
       go (some n) f r g =
-          let a : n.question ≡ q = cc in
-          let b : n.workflow ≡ w = cc in
-          let d : n.instruction ≡ i = cc in
+          let a : n.question ≡ m.question = cc in
+          let b : n.workflow ≡ m.workflow = cc in
+          let d : n.instruction ≡ m.instruction = cc in
           let p = reply_placed pack store id n f in
           subst Placed (λ j. record { question = a j; workflow = b j; instruction = d j }) p
       go none f none g = absurd (let z : ◌≡◌ {A = ℕ} 0 1 = cc in omega arith)
       go none f (some (yields v)) g = absurd (let z : ◌≡◌ {A = ℕ} 0 1 = cc in omega arith)
 
-  known_small : (k : Known) → k ≡ known_in pack store id → id < 2 ^ 32 → ((v : ℕ) → k ≡ Reply v → v < 2 ^ 32) → Small (known_words id k)
-  known_small NotYet e l b zero = omega arith
-  known_small NotYet e l b (suc zero) = omega arith
-  known_small NotYet e l b (suc (suc zero)) = omega arith
-  known_small NotYet e l b (suc (suc (suc j))) = omega arith
-  known_small (Reply v) e l b zero = l
-  known_small (Reply v) e l b (suc zero) = b v refl
-  known_small (Reply v) e l b (suc (suc zero)) = omega arith
-  known_small (Reply v) e l b (suc (suc (suc j))) = omega arith
-  known_small (Refused q w i) e l b zero = omega (arith, (read_placed q w i e).0)
-  known_small (Refused q w i) e l b (suc zero) = omega (arith, (read_placed q w i e).1)
-  known_small (Refused q w i) e l b (suc (suc zero)) = omega (arith, (read_placed q w i e).2)
-  known_small (Refused q w i) e l b (suc (suc (suc j))) = omega arith
+  known_small : (k : Known) → k ≡ known_in pack store id → id < 2 ^ 32 → ((v : ℕ) → k ≡ Ok (Some v) → v < 2 ^ 32) → Small (known_words id k)
+  known_small (Ok None) e l b zero = omega arith
+  known_small (Ok None) e l b (suc zero) = omega arith
+  known_small (Ok None) e l b (suc (suc zero)) = omega arith
+  known_small (Ok None) e l b (suc (suc (suc j))) = omega arith
+  known_small (Ok (Some v)) e l b zero = l
+  known_small (Ok (Some v)) e l b (suc zero) = b v refl
+  known_small (Ok (Some v)) e l b (suc (suc zero)) = omega arith
+  known_small (Ok (Some v)) e l b (suc (suc (suc j))) = omega arith
+  known_small (Err n) e l b zero = omega (arith, (read_placed n e).0)
+  known_small (Err n) e l b (suc zero) = omega (arith, (read_placed n e).1)
+  known_small (Err n) e l b (suc (suc zero)) = omega (arith, (read_placed n e).2)
+  known_small (Err n) e l b (suc (suc (suc j))) = omega arith
 
   three_known : (k : Known) → length (known_words id k) ≡ 3
-  three_known NotYet = refl
-  three_known (Reply v) = refl
-  three_known (Refused q w i) = refl
+  three_known (Ok None) = refl
+  three_known (Ok (Some v)) = refl
+  three_known (Err n) = refl
 
   pub reply_told : (k : Known) (number : ℕ) (answer' : List ℕ) → 12 ≤ length answer → k ≡ known_in pack store id → id < 2 ^ 32 →
-      ((v : ℕ) → k ≡ Reply v → v < 2 ^ 32) → number ≡ known_number k → answer' ≡ with_words answer (known_words id k) →
+      ((v : ℕ) → k ≡ Ok (Some v) → v < 2 ^ 32) → number ≡ known_number k → answer' ≡ with_words answer (known_words id k) →
       ReplyTold pack store answer id number answer'
   unfolding answer_short
   reply_told k number answer' h e l b p q =

@@ -6,8 +6,9 @@ use Rattle.rules.specs.Calls.{Call, restart, order}
 use Rattle.rules.specs.Plain.{accepted}
 use Rattle.store.specs.Ordered.{InOrder}
 use Rattle.agents.specs.declared.Agent.{Agent}
-use Rattle.agents.specs.declared.Answer.{Answer}
-use Rattle.agents.specs.declared.Answer.TheVariants.{Done}
+use Rattle.agents.specs.Answers.{Answer}
+use Rattle.std.specs.Prelude.{Ok}
+use Rattle.agents.specs.declared.Accepted.TheVariants.{Done}
 use Rattle.agents.specs.Answers.{answer_of}
 use Rattle.meaning.specs.State.{Lent}
 use Rattle.meaning.specs.Carried.{Carried}
@@ -88,7 +89,7 @@ pub record Restarted (slots list answer : List ℕ) (number : ℕ) (slots' list'
   pub wrong : (n : ℕ) → list_wrong answer slots list ≡ some n →
       (number ≡ n) × (slots' ≡ slots) × (list' ≡ list) × (answer' ≡ answer)
   pub served : list_wrong answer slots list ≡ none →
-      ((pack store : List ℕ) → Carried pack (lent_in store slots list) restart Done (lent_in store slots' list'))
+      ((pack store : List ℕ) → Carried pack (lent_in store slots list) restart (Ok Done) (lent_in store slots' list'))
       × (slots' ≡ with_slots slots (slots_in slots'))
       × (list' ≡ with_list list (list_in list'))
       × (number ≡ 0)

@@ -12,9 +12,8 @@ use Rattle.pack.specs.Meaning.{pack_of}
 use Rattle.pack.specs.Refusal.{open_refusal}
 use Rattle.store.specs.Questions.{create_refusal}
 use Rattle.store.specs.Created.{Created}
-use Rattle.runtime.specs.declared.Known.{Known}
-use Rattle.runtime.specs.declared.Known.TheVariants.{NotYet, Reply, Refused}
-use Rattle.runtime.specs.Known.{known_in}
+use Rattle.std.specs.Prelude.{Ok, Err, Some, None}
+use Rattle.runtime.specs.Known.{Known, known_in}
 use Rattle.answers.specs.Answers.{number_of, values_of, with_words, judged}
 
 -- where the parts of an opened workflow start in the pack and how many bytes they are: operations, then operands
@@ -55,14 +54,14 @@ pub record FiguresTold (pack answer : List ℕ) (workflow number : ℕ) (answer'
 
 -- W-208, the reading of a reply: the number of what is known, and its three words.
 abbrev pub known_number : Known → ℕ
-known_number NotYet = 5
-known_number (Reply value) = 2
-known_number (Refused question workflow instruction) = 3
+known_number (Ok None) = 5
+known_number (Ok (Some value)) = 2
+known_number (Err n) = 3
 
 abbrev pub known_words : (id : ℕ) → Known → List ℕ
-known_words id NotYet = 0 ∷ 0 ∷ 0 ∷ []
-known_words id (Reply value) = id ∷ value ∷ 0 ∷ []
-known_words id (Refused question workflow instruction) = question ∷ workflow ∷ instruction ∷ []
+known_words id (Ok None) = 0 ∷ 0 ∷ 0 ∷ []
+known_words id (Ok (Some value)) = id ∷ value ∷ 0 ∷ []
+known_words id (Err n) = n.question ∷ n.workflow ∷ n.instruction ∷ []
 
 -- The answer buffer is too short, and nothing is written; or it has the words, none of them cut, of what is known of the id.
 pub record ReplyTold (pack store answer : List ℕ) (id number : ℕ) (answer' : List ℕ) : Type 0 where

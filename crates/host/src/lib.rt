@@ -8,9 +8,7 @@ ghost use Rattle.answers.specs.Answers.{values_of, judged};
 ghost use Rattle.host.specs.Told.{opened_words, Told, FiguresTold, ReplyTold, Made};
 ghost use Rattle.host.specs.Exports.{Exported, ListExported, StoreExported, Restarted, PutInOrder};
 
-use agents::{Answer, Request};
-use questions::Verdict;
-use runtime::Known;
+use agents::{Accepted, Request};
 
 // The check of a pack.
 pub fn sarthule_check(pack: &[u8], answer: &mut [u8]) -> u32
@@ -34,7 +32,7 @@ pub fn sarthule_open(pack: &[u8], workflow: u32, answer: &mut [u8]) -> u32
     let v = pack::open(pack, workflow);
     let number = answers::write_answer(answer, answers::judge(v));
     match v {
-        Verdict::Accepted => {
+        Ok(()) => {
             let w = workflow as usize;
             let size = pack::size_at(pack, w);
             answers::write_parts(
@@ -44,17 +42,10 @@ pub fn sarthule_open(pack: &[u8], workflow: u32, answer: &mut [u8]) -> u32
                 pack::operands_at(pack, w),
                 4 * size,
             );
-            number
         }
-        Verdict::Refused {
-            question: _,
-            workflow: _,
-            instruction: _,
-        } => {
-            answers::write_parts(answer, 0, 0, 0, 0);
-            number
-        }
+        Err(_) => answers::write_parts(answer, 0, 0, 0, 0),
     }
+    number
 }
 
 // How much a workflow takes: its most turns, and its most rows in each partition.
@@ -64,12 +55,18 @@ pub fn sarthule_figures(pack: &[u8], workflow: u32, answer: &mut [u8]) -> u32
     if answer.len() < 48 {
         return 100;
     }
-    let f = figures::figures(pack, workflow);
-    let verdict = f.verdict;
-    let rows = f.rows;
-    let number = answers::write_answer(answer, answers::judge(verdict));
-    answers::write_figures(answer, f.turns, rows);
-    number
+    match figures::figures(pack, workflow) {
+        Ok(f) => {
+            let number = answers::write_answer(answer, Ok(Accepted::Done));
+            answers::write_figures(answer, f.turns, f.rows);
+            number
+        }
+        Err(no) => {
+            let number = answers::write_answer(answer, Err(no));
+            answers::write_figures(answer, 0, [0; 8]);
+            number
+        }
+    }
 }
 
 // Writes a fresh store.
@@ -117,7 +114,7 @@ pub fn sarthule_arrival(
     if slots.len() != 384 {
         return 101;
     }
-    let agents = slots::read_slots(slots);
+    let mut agents = slots::read_slots(slots);
     let q = Request {
         workflow,
         a0,
@@ -125,8 +122,8 @@ pub fn sarthule_arrival(
         a2,
         a3,
     };
-    let o = runtime::arrival(pack, store, agents, slot, id, q);
-    answers::finish(slots, answer, o)
+    let said = runtime::arrival(pack, store, &mut agents, slot, id, q);
+    answers::finish(slots, answer, said, agents)
 }
 
 // Retry starts an agent from the book.
@@ -147,8 +144,9 @@ pub fn sarthule_retry(
     if slots.len() != 384 {
         return 101;
     }
-    let agents = slots::read_slots(slots);
-    answers::finish(slots, answer, runtime::retry(pack, store, agents, slot, id))
+    let mut agents = slots::read_slots(slots);
+    let said = runtime::retry(pack, store, &mut agents, slot, id);
+    answers::finish(slots, answer, said, agents)
 }
 
 // The agent in a slot moves on.
@@ -168,9 +166,9 @@ pub fn sarthule_turn(
     if slots.len() != 384 {
         return 101;
     }
-    let agents = slots::read_slots(slots);
-    let o = runtime::turn(pack, store, agents, slot);
-    answers::finish(slots, answer, o)
+    let mut agents = slots::read_slots(slots);
+    let said = runtime::turn(pack, store, &mut agents, slot);
+    answers::finish(slots, answer, said, agents)
 }
 
 // Crash empties a slot.
@@ -190,8 +188,9 @@ pub fn sarthule_crash(
     if slots.len() != 384 {
         return 101;
     }
-    let agents = slots::read_slots(slots);
-    answers::finish(slots, answer, runtime::crash(pack, store, agents, slot))
+    let mut agents = slots::read_slots(slots);
+    let said = runtime::crash(pack, store, &mut agents, slot);
+    answers::finish(slots, answer, said, agents)
 }
 
 // Restart empties all slots, and marks all as waiting in a worklist that passes 25.
@@ -208,12 +207,12 @@ pub fn sarthule_restart(slots: &mut [u8], list: &mut [u8], answer: &mut [u8]) ->
     if list.len() < 132 {
         return 102;
     }
-    let r = runtime::restart(worklist::read_list(list));
-    let agents = r.agents;
-    let left = r.list;
+    let mut agents = slots::read_slots(slots);
+    let mut left = worklist::read_list(list);
+    runtime::restart(&mut agents, &mut left);
     slots::write_slots(slots, agents);
     worklist::write_list(list, left);
-    answers::write_answer(answer, Answer::Done)
+    answers::write_answer(answer, Ok(Accepted::Done))
 }
 
 // Add puts a booked id on the worklist.
@@ -238,9 +237,8 @@ pub fn sarthule_add(
         return 102;
     }
     let agents = slots::read_slots(slots);
-    let o = runtime::add(pack, store, agents, worklist::read_list(list), id);
-    let said = o.answer;
-    let left = o.list;
+    let mut left = worklist::read_list(list);
+    let said = runtime::add(pack, store, &agents, &mut left, id);
     answers::finish_list(list, answer, said, left)
 }
 
@@ -265,9 +263,8 @@ pub fn sarthule_take(
         return 102;
     }
     let agents = slots::read_slots(slots);
-    let o = runtime::take(pack, store, agents, worklist::read_list(list));
-    let said = o.answer;
-    let left = o.list;
+    let mut left = worklist::read_list(list);
+    let said = runtime::take(pack, store, &agents, &mut left);
     answers::finish_list(list, answer, said, left)
 }
 
@@ -293,9 +290,8 @@ pub fn sarthule_done(
         return 102;
     }
     let agents = slots::read_slots(slots);
-    let o = runtime::done(pack, store, agents, worklist::read_list(list), id);
-    let said = o.answer;
-    let left = o.list;
+    let mut left = worklist::read_list(list);
+    let said = runtime::done(pack, store, &agents, &mut left, id);
     answers::finish_list(list, answer, said, left)
 }
 
@@ -321,7 +317,7 @@ pub fn sarthule_retire(
         return 102;
     }
     let agents = slots::read_slots(slots);
-    let a = runtime::retire(pack, store, agents, worklist::read_list(list), floor);
+    let a = runtime::retire(pack, store, &agents, &worklist::read_list(list), floor);
     answers::write_answer(answer, a)
 }
 
@@ -332,24 +328,15 @@ pub fn sarthule_reply(pack: &[u8], store: &[u8], id: u32, answer: &mut [u8]) -> 
     if answer.len() < 12 {
         return 100;
     }
-    let k = runtime::reply(pack, store, id);
-    match k {
-        Known::NotYet => {
-            answers::write_answer(answer, Answer::Done);
+    let known = match runtime::reply(pack, store, id) {
+        Ok(known) => known,
+        Err(no) => return answers::write_answer(answer, Err(no)),
+    };
+    match known {
+        Some(value) => answers::write_answer(answer, Ok(Accepted::Reply { id, value })),
+        None => {
+            answers::write_answer(answer, Ok(Accepted::Done));
             5
         }
-        Known::Reply(value) => answers::write_answer(answer, Answer::Reply { id, value }),
-        Known::Refused {
-            question,
-            workflow,
-            instruction,
-        } => answers::write_answer(
-            answer,
-            Answer::Refused {
-                question,
-                workflow,
-                instruction,
-            },
-        ),
     }
 }

@@ -1,8 +1,8 @@
 -- The PUTs of a block so far, as rows beside the partition's rows.
-use Rattle.std.specs.Prelude.{true, List, ◌≡◌, ℕ, ◌≤◌, length, take, drop, replicate}
+use Rattle.std.specs.Prelude.{true, List, ◌≡◌, ℕ, ◌≤◌, ◌<◌, ◌≢◌, length, get_or, take, drop, replicate}
 use Rattle.std.proofs.Math.Option.{Option, none, some}
 use Rattle.keys.specs.Keys.{is_data_key}
-use Rattle.store.specs.Rows.{Row, pairs, lookup, keys_in, count_new}
+use Rattle.store.specs.Rows.{Row, pairs, lookup, keys_in, count_new, rank_in}
 use Rattle.store.specs.Questions.{all_in, rising}
 use Rattle.instruction.specs.declared.pending.Pending.{Pending}
 
@@ -44,3 +44,13 @@ pub record Kept (p : Pending) : Type 0 where
   pub few : p.count ≤ 16
   pub data_keys : all_in is_data_key (keys_in (rows_in p)) ≡ true
   pub in_order : rising (keys_in (rows_in p)) ≡ true
+
+-- A key stands at a place of rising keys; or it stands nowhere, and belongs there.
+pub record Stands (keys : List ℕ) (key i : ℕ) : Type 0 where
+  pub ranked : i ≡ rank_in key keys
+  pub within : i < length keys
+  pub there : get_or keys i 0 ≡ key
+
+pub record Misses (keys : List ℕ) (key i : ℕ) : Type 0 where
+  pub ranked : i ≡ rank_in key keys
+  pub other : i < length keys → get_or keys i 0 ≢ key

@@ -15,7 +15,6 @@ ghost use Rattle.instruction.specs.Pending.{Kept};
 ghost use Rattle.instruction.specs.Step.{place_of, Stepped, puts_of, Sourced, Fits};
 
 use crate::pending::{Pending, pending_put, seen_value};
-use store::rows::Got;
 
 // Where a request stands: the position of its next instruction, and its registers.
 #[derive(Clone, Copy)]
@@ -112,14 +111,10 @@ fn got(store: &[u8], partition: usize, x: Running, d: usize, s: usize) -> Runnin
     ensures { Stepped (act (Instruction.GET d s) (place_of x.place)) (rows_of store.now partition) x result 0 }
 {
     let place = x.place;
-    let pending = x.pending;
     let key = keys::data_key(place.registers[s]);
     let old = place.registers[d];
-    let found = seen_value(store, partition, pending, key);
-    match found {
-        Got::Value(v) => at_place(x, with_register(place, d, v)),
-        Got::Absent => at_place(x, with_register(place, d, old)),
-    }
+    let seen = seen_value(store, partition, x.pending, key);
+    at_place(x, with_register(place, d, seen.unwrap_or(old)))
 }
 
 // HAS.
@@ -129,13 +124,9 @@ fn tested(store: &[u8], partition: usize, x: Running, d: usize, s: usize) -> Run
     ensures { Stepped (act (Instruction.HAS d s) (place_of x.place)) (rows_of store.now partition) x result 0 }
 {
     let place = x.place;
-    let pending = x.pending;
     let key = keys::data_key(place.registers[s]);
-    let found = seen_value(store, partition, pending, key);
-    match found {
-        Got::Value(_) => at_place(x, with_register(place, d, 1)),
-        Got::Absent => at_place(x, with_register(place, d, 0)),
-    }
+    let seen = seen_value(store, partition, x.pending, key);
+    at_place(x, with_register(place, d, u32::from(seen.is_some())))
 }
 
 // PUT.

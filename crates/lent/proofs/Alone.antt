@@ -15,7 +15,7 @@ use Rattle.rules.specs.Calls as Calls
 use Rattle.questions.proofs.Updates.{update_other}
 use Rattle.pack.specs.Meaning.{pack_of}
 use Rattle.agents.specs.declared.Agent.{Agent}
-use Rattle.agents.specs.declared.Answer.{Answer}
+use Rattle.agents.specs.Answers.{Answer}
 use Rattle.agents.specs.Slots.{no_agent, agent_at, agent_of, record_of, slots_of, records_from, records_of}
 use Rattle.worklist.specs.declared.Worklist.{Worklist}
 use Rattle.meaning.specs.State.{state_of, Lent}

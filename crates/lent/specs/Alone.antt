@@ -2,7 +2,7 @@
 use Rattle.std.specs.Prelude.{List, ◌∷◌, ℕ, replicate}
 use Rattle.rules.specs.Calls.{turn}
 use Rattle.agents.specs.declared.Agent.{Agent}
-use Rattle.agents.specs.declared.Answer.{Answer}
+use Rattle.agents.specs.Answers.{Answer}
 use Rattle.agents.specs.Slots.{no_agent}
 use Rattle.worklist.specs.declared.Worklist.{Worklist}
 use Rattle.meaning.specs.Carried.{Carried}

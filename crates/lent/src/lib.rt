@@ -10,14 +10,12 @@ use turn::Turned;
 pub fn turn_one(pack: &[u8], store: &mut [u8], agent: Agent) -> Turned
     ensures { TurnedAlone pack.now store.old agent result.answer result.agent store.new }
 {
-    let slots = agents::with_agent(agents::no_agents(), 0, agent);
-    let o = runtime::turn(pack, store, slots, 0);
-    let answer = o.answer;
-    let left = o.agents;
-    let next = left[0];
+    let mut slots = agents::no_agents();
+    slots[0] = agent;
+    let answer = runtime::turn(pack, store, &mut slots, 0);
     Turned {
         answer,
-        agent: next,
+        agent: slots[0],
     }
 }
 

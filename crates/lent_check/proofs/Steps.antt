@@ -1,6 +1,6 @@
 -- Questions 13 and 14, test by test.
 use mathlib.Core.Bool.{Bool, true, false, not, ◌&&◌}
-use mathlib.Core.List.{List}
+use mathlib.Core.List.{List, []}
 use mathlib.Core.Path.{◌≡◌, refl, sym, ◌∙◌, ap, ap₂}
 use Prim.Native.Nat.{ℕ, ◌+◌, ◌-◌, ◌*◌, ◌^◌, ◌≤◌, ◌<◌}
 use native.Mathlib.Nat.{sub-zero}
@@ -18,10 +18,12 @@ use Rattle.pack.specs.Layout.{count, size_of, total, operations_of}
 use Rattle.pack.specs.Laid.{Laid}
 use Rattle.pack.proofs.Sizes.{length_operations}
 use Rattle.store.specs.Rows.{Row, lookup, rows_of}
-use Rattle.store.specs.Layout.{parts_of}
+use Rattle.store.specs.Layout.{parts_of, key_at, value_at}
+use Rattle.store.specs.Sound.{Formed}
+use Rattle.store.proofs.Bytes.{row_within, key_read, value_read}
 use Rattle.store.specs.Answers.{got_of}
-use Rattle.store.specs.declared.rows.Got.{Got}
-use Rattle.store.specs.declared.rows.Got.TheVariants.{Value, Absent}
+use Rattle.store.specs.Answers.{Got}
+use Rattle.std.specs.Prelude.{Some, None}
 use Rattle.agents.specs.declared.Agent.{Agent}
 use Rattle.agents.specs.Slots.{agent_at}
 use Rattle.meaning.specs.Questions.{books_below, opens_below, byte_of, word_of, booked_right, opens_right, is_sound, slot_right, question14}
@@ -31,16 +33,32 @@ use Rattle.questions.proofs.Each.{each_none, each_more, each_fails}
 -- ── a record in use ──
 
 module _ (pack : List ℕ) (rows : List Row) (a : Agent) (h : a.id < 2 ^ 32) where
-  pub sound_none : (g : Got) → g ≡ got_of (lookup (book_key a.id 0) rows) → g ≡ Absent →
+  pub sound_none : (g : Got) → g ≡ got_of (lookup (book_key a.id 0) rows) → g ≡ None →
       is_sound pack a (book_of (value_in rows) a.id) ≡ false
   unfolding is_sound
   sound_none g p q = ap (is_sound pack a) (booked_none rows a.id h g p q)
 
-  module _ (g : Got) (w : ℕ) (p : g ≡ got_of (lookup (book_key a.id 0) rows)) (q : g ≡ Value w) where
+  module _ (g : Got) (w : ℕ) (p : g ≡ got_of (lookup (book_key a.id 0) rows)) (q : g ≡ Some w) where
     pub sound_some : is_sound pack a (book_of (value_in rows) a.id) ≡
         (ltb a.position (size_of pack w) && (not (inside_at (operations_of pack w) a.position) && leb a.step a.position))
     unfolding is_sound
     sound_some = ap (is_sound pack a) (booked_some rows a.id h g p w q)
+
+-- ── a row of the book, from the places where its keys and its values begin ──
+
+module _ (store : List ℕ) (f : Formed store) (p row rows keys_at values_at : ℕ) (e : p ≡ parts_of store) (r : rows ≡ length (rows_of store p))
+    (h : row < rows) (k : keys_at ≡ key_at store p 0) (v : values_at ≡ value_at store p 0) where
+  there : (key_at store p row + 8 ≤ length store) × (value_at store p row + 4 ≤ length store)
+  there = row_within store f p (omega arith) row (omega arith)
+
+  pub row_bytes : (keys_at + 8 * row + 8 ≤ length store) × (values_at + 4 * row + 4 ≤ length store)
+  row_bytes = (omega (arith, there.0), omega (arith, there.1))
+
+  pub row_key : (key : ℕ) → key ≡ le 8 store (keys_at + 8 * row) → key ≡ (get_or (rows_of store p) row (0, 0)).0
+  row_key key = key_read store p row (omega arith) (keys_at + 8 * row) key (omega arith)
+
+  pub row_value : (value : ℕ) → value ≡ le 4 store (values_at + 4 * row) → value ≡ (get_or (rows_of store p) row (0, 0)).1
+  row_value value = value_read store p row (omega arith) (values_at + 4 * row) value (omega arith)
 
 -- ── question 13, row by row and instruction by instruction ──
 
@@ -102,30 +120,14 @@ module _ (pack store : List ℕ) where
 
 -- ── question 14, slot by slot ──
 
-module _ (pack store : List ℕ) (records : List Agent) where
-  unfoldable pub slots_from : (i : ℕ) → Bool
-  slots_from i = each_from (λ k. slot_right pack store (agent_at records k)) (8 - i) i
-
-  pub slots_start : slots_from 0 ≡ question14 pack store records
-  unfolding slots_from question14
-  slots_start = refl
-
-  pub slots_no : (i : ℕ) (r : Bool) → i < 8 → r ≡ slot_right pack store (agent_at records i) → r ≡ false → slots_from i ≡ false
-  unfolding slots_from
-  slots_no i r h e t = each_fails _ 8 i h (sym e ∙ t)
-
-  pub slots_on : (i : ℕ) (r : Bool) → i < 8 → r ≡ slot_right pack store (agent_at records i) → r ≡ true → slots_from i ≡ slots_from (i + 1)
-  unfolding slots_from
-  slots_on i r h e t = each_more _ 8 i h (sym e ∙ t)
-
-  pub slots_done : (i : ℕ) → 8 ≤ i → slots_from i ≡ true
-  unfolding slots_from
-  slots_done i h = each_none _ 8 i h
+-- what stands past the last record, as `agent_at` has it
+abbrev pub past : Agent
+past = record { in_use = false; id = 0; position = 0; step = 0; registers = [] }
 
 -- ── a record in use, with the operation bytes of its workflow in hand ──
 
 module _ (pack : List ℕ) (rows : List Row) (a : Agent) (h : a.id < 2 ^ 32) (g : Got) (w : ℕ)
-    (p : g ≡ got_of (lookup (book_key a.id 0) rows)) (q : g ≡ Value w)
+    (p : g ≡ got_of (lookup (book_key a.id 0) rows)) (q : g ≡ Some w)
     (laid : Laid pack) (l : w < count pack) (ops : List ℕ) (e : ops ≡ operations_of pack w) where
   sized : length ops ≡ size_of pack w
   sized = ap length e ∙ length_operations pack laid w l

@@ -4,7 +4,7 @@ use mathlib.Core.List.{List}
 use Prim.Native.Nat.{ℕ}
 use mathlib.Core.Bool.{true, false}
 use Rattle.keys.specs.Keys.{is_data_key, data_of, id_of, step_of}
-use Rattle.agents.specs.declared.Answer.{Answer}
+use Rattle.agents.specs.Answers.{Answer}
 use Rattle.agents.specs.Answers.{answer_of}
 use Rattle.text.specs.Text.{Appended}
 use Rattle.lines.specs.Lines.{answer_text, row_line, log_line, stored_line}

@@ -1,12 +1,13 @@
 // The lines, each put behind the text so far.
 #![tactic(auto)]
 
-ghost use Rattle.std.specs.Prelude.{◌+◌, ◌≤◌, length};
+ghost use Rattle.std.specs.Prelude.{Ok, Err, ◌+◌, ◌≤◌, length};
 ghost use Rattle.agents.specs.Answers.{answer_of};
 ghost use Rattle.text.specs.Text.{Appended};
 ghost use Rattle.lines.specs.Lines.{field, events_line, refused_line, answer_text, answer_line, row_line, log_line, stored_line};
 
-use agents::Answer;
+use agents::{Accepted, Answer};
+use questions::Refusal;
 
 // A number behind a blank.
 pub fn append_field(out: &mut [u8], written: usize, number: u64) -> usize
@@ -40,7 +41,7 @@ pub fn refused_line(out: &mut [u8], written: usize, question: u8) -> usize
 // reply ID VALUE
 fn append_reply(out: &mut [u8], written: usize, id: u64, value: u64) -> usize
     requires { written + 47 ≤ length out.old }
-    ensures { Appended out.old written (answer_text (answer_of (Answer.Reply id value))) out.new result
+    ensures { Appended out.old written (answer_text (answer_of (Ok (Accepted.Reply id value)))) out.new result
         × (result ≤ written + 47) }
 {
     let written = text::append_bytes(out, written, b"reply");
@@ -51,7 +52,7 @@ fn append_reply(out: &mut [u8], written: usize, id: u64, value: u64) -> usize
 // taken ID
 fn append_taken(out: &mut [u8], written: usize, id: u64) -> usize
     requires { written + 47 ≤ length out.old }
-    ensures { Appended out.old written (answer_text (answer_of (Answer.Given id))) out.new result
+    ensures { Appended out.old written (answer_text (answer_of (Ok (Accepted.Given id)))) out.new result
         × (result ≤ written + 47) }
 {
     let written = text::append_bytes(out, written, b"taken");
@@ -59,36 +60,26 @@ fn append_taken(out: &mut [u8], written: usize, id: u64) -> usize
 }
 
 // refused N, of an answer: the place that goes with 4 to 8 isn't printed.
-fn append_refused(
-    out: &mut [u8],
-    written: usize,
-    question: u8,
-    workflow: usize,
-    instruction: usize,
-) -> usize
+fn append_refused(out: &mut [u8], written: usize, no: Refusal) -> usize
     requires { written + 47 ≤ length out.old }
-    ensures { Appended out.old written (answer_text (answer_of (Answer.Refused question workflow instruction)))
-        out.new result × (result ≤ written + 47) }
+    ensures { Appended out.old written (answer_text (answer_of (Err no))) out.new result × (result ≤ written + 47) }
 {
     let written = text::append_bytes(out, written, b"refused");
-    append_field(out, written, question as u64)
+    append_field(out, written, no.question as u64)
 }
 
 // An answer in words.
+#[tactic(auto, unfolding(crate::specs::Lines::answer_text, agents::specs::Answers::answer_of), using(crate::proofs::Pieces::answer_as))]
 pub fn append_answer(out: &mut [u8], written: usize, answer: Answer) -> usize
     requires { written + 47 ≤ length out.old }
     ensures { Appended out.old written (answer_text (answer_of answer)) out.new result × (result ≤ written + 47) }
 {
     match answer {
-        Answer::Done => text::append_bytes(out, written, b"done"),
-        Answer::Moved => text::append_bytes(out, written, b"moved"),
-        Answer::Reply { id, value } => append_reply(out, written, id as u64, value as u64),
-        Answer::Given { id } => append_taken(out, written, id as u64),
-        Answer::Refused {
-            question,
-            workflow,
-            instruction,
-        } => append_refused(out, written, question, workflow, instruction),
+        Ok(Accepted::Done) => text::append_bytes(out, written, b"done"),
+        Ok(Accepted::Moved) => text::append_bytes(out, written, b"moved"),
+        Ok(Accepted::Reply { id, value }) => append_reply(out, written, id as u64, value as u64),
+        Ok(Accepted::Given { id }) => append_taken(out, written, id as u64),
+        Err(no) => append_refused(out, written, no),
     }
 }
 

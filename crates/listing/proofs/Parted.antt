@@ -18,7 +18,7 @@ use Rattle.store.specs.Rows as Rows
 use Rattle.store.specs.Questions.{ahead, rising, all_in}
 use Rattle.store.specs.Questions as Questions
 use Rattle.store.specs.Answers.{Searched, ended_at}
-use Rattle.store.specs.declared.rows.Found.{Found}
+use Rattle.store.specs.Answers.{Found}
 use Rattle.store.specs.Sound.{Sound}
 use Rattle.store.specs.Sound as Sounds
 use Rattle.store.proofs.Found.{ends_at_rank}

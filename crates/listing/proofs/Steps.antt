@@ -1,15 +1,15 @@
 -- Rows and partitions printed one by one.
 use mathlib.Core.Path.{◌≡◌, refl}
 use mathlib.Core.List.{List, [], ◌++◌}
-use Prim.Native.Nat.{ℕ, suc, ◌+◌, ◌-◌, ◌≤◌, ◌<◌}
+use Prim.Native.Nat.{ℕ, suc, ◌+◌, ◌-◌, ◌*◌, ◌≤◌, ◌<◌}
 use native.Mathlib.Numerals.{add-one}
 use native.Mathlib.Omega.{arith}
 use lib.ListN.{length, get_or, take, drop}
 use lib.Seq.{drop-cons}
-use Rattle.store.specs.Layout.{parts_of}
+use Rattle.store.specs.Layout.{parts_of, key_at, value_at}
 use Rattle.store.specs.Rows.{Row, rows_of}
 use Rattle.store.specs.Sound.{Sound}
-use Rattle.store.proofs.Bytes.{used_le}
+use Rattle.store.proofs.Bytes.{used_le, row_within}
 use Rattle.lines.specs.Lines.{stored_line}
 use Rattle.listing.specs.Store.{lines_of, partition_text, partitions_text}
 
@@ -45,3 +45,9 @@ partitions_more s n m p e = rw e
 -- a partition of a sound store has at most 256 rows
 pub few_rows : (s : List ℕ) (p : ℕ) → Sound s → p ≤ parts_of s → length (rows_of s p) ≤ 256
 few_rows s p h l = omega (arith, used_le s h.formed p l, h.formed.shape.cap_high)
+
+-- the key and the value of a row lie within the store
+pub row_places : (s : List ℕ) (p i keys_at values_at : ℕ) → Sound s → p ≤ parts_of s → i < length (rows_of s p) → keys_at ≡ key_at s p 0 →
+    values_at ≡ value_at s p 0 → (keys_at + 8 * i + 8 ≤ length s) × (values_at + 4 * i + 4 ≤ length s)
+row_places s p i keys_at values_at h l k ek ev =
+    let w = row_within s h.formed p l i k in (omega (arith, w.0, ek), omega (arith, w.1, ev))

@@ -22,10 +22,9 @@ use Rattle.pack.specs.Meaning.{pack_of}
 use Rattle.pack.proofs.Sizes.{length_operations}
 use Rattle.pack.proofs.Laws.{workflow_at, accepted_laid, accepted_right}
 use Rattle.store.specs.Rows.{lookup, store_of}
-use Rattle.store.specs.Answers.{got_of}
+use Rattle.store.specs.Answers.{Got, got_of}
 use Rattle.store.specs.Questions.{store_refusal}
-use Rattle.store.specs.declared.rows.Got.{Got}
-use Rattle.store.specs.declared.rows.Got.TheVariants.{Value, Absent}
+use Rattle.std.specs.Prelude.{Some, None}
 use Rattle.store.proofs.Sound.{store_ok}
 use Rattle.contents.specs.Contents.{contents_of, value_in, arguments_of, book_rows}
 use Rattle.contents.proofs.Book.{got_some, booked_some, booked_none}
@@ -54,12 +53,12 @@ module _ (pack store : List ℕ) (id : ℕ) (h : id < 2 ^ 32) (g : Got) (e : g �
   abbrev known : Logged
   known = logged_by book (reply_logged (pack_of pack) log id book)
 
-  pub unbooked : g ≡ Absent → Unbooked ≡ known
+  pub unbooked : g ≡ None → Unbooked ≡ known
   unfolding contents_of
   unbooked q =
       ap (λ (o : Option Request). logged_by o (reply_logged (pack_of pack) log id o)) (sym (booked_none (book_rows store) id h g e q))
 
-  module _ (pre : (pack_refusal pack ≡ none) × (store_refusal store ≡ none) × (question13 pack store ≡ true)) (w : ℕ) (q : g ≡ Value w) where
+  module _ (pre : (pack_refusal pack ≡ none) × (store_refusal store ≡ none) × (question13 pack store ≡ true)) (w : ℕ) (q : g ≡ Some w) where
     pub below : w < count pack
     below = workflow_below pack store id w h (booked_of_13 pack store pre.2) (got_some _ g e w q)
 

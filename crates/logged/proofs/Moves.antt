@@ -23,10 +23,11 @@ use Rattle.course.specs.declared.Next.{Next}
 use Rattle.course.specs.declared.Next.TheVariants.{Goes, Does, Says}
 use Rattle.course.specs.declared.Upcoming.{Upcoming}
 use Rattle.course.specs.Next.{next_at, next_in, StandsOutside}
-use Rattle.logged.specs.declared.Led.{Led}
-use Rattle.logged.specs.declared.Led.TheVariants.{UnderWay, NotLogged, Finished}
+use Rattle.std.specs.Prelude as Code
+use Rattle.std.specs.Prelude.{Some, None}
 use Rattle.logged.specs.declared.Stage.{Stage}
-use Rattle.logged.specs.Logged.{stage_at, stage_of, Followed, StandsAt}
+use Rattle.logged.specs.declared.Stage.TheVariants.{UnderWay, Finished}
+use Rattle.logged.specs.Logged.{stage_of, Followed, StandsAt}
 
 -- where the log leads no further there is no reply, a reply stays, and who is under way when the moves are used up has none
 module _ (log : Log) (id : ℕ) (code : Code) where
@@ -96,16 +97,16 @@ module _ (ops ws store : List ℕ) (f : Followed ops ws store) (from : Spot) (t 
       passes log id = ap (by_next log id t) (does_next (Does p) q)
 
   -- ── behind the move ──
-  module _ (log : Log) (id : ℕ) (s : Stage) (e : stage_of s ≡ onward log id code (some (at here t))) where
-    leads : (l : Led) → s.led ≡ l → stage_at s.place s.step l ≡ onward log id code (some (at here t))
-    leads l q = ap (stage_at s.place s.step) (sym q) ∙ e
+  module _ (log : Log) (id : ℕ) (s : Code.Option Stage) (e : stage_of s ≡ onward log id code (some (at here t))) where
+    leads : (l : Code.Option Stage) → s ≡ l → stage_of l ≡ onward log id code (some (at here t))
+    leads l q = ap stage_of (sym q) ∙ e
 
     -- the request is under way further on
-    pub stands_further : s.led ≡ UnderWay → StandsAt ops ws s.place s.step
-    stands_further q =
+    pub stands_further : (to : Spot) (next : ℕ) → s ≡ Some (UnderWay to next) → StandsAt ops ws to next
+    stands_further to next q =
         let n = length_code ops ws in
         let g = forward code (right_checked ops ws f.right (omega (arith, u.in_code))) here (omega (arith, u.in_code, n)) u.side
-        log id t (going (place_of s.place)) s.step (next_of code here) refl (sym (leads UnderWay q)) in
+        log id t (going (place_of to)) next (next_of code here) refl (sym (leads _ q)) in
         record {
           in_code = omega (arith, g.0.in_code, n);
           side = g.0.side;
@@ -121,15 +122,15 @@ module _ (ops ws store : List ℕ) (f : Followed ops ws store) (from : Spot) (t 
       unfolding Logged.reply_from
       one_less = let d : n - moves ≡ suc (n - (moves + 1)) = omega arith in rw d refl
 
-      pub still_sought : s.led ≡ UnderWay →
-          from_here ≡ reply_from log id code (n - (moves + 1)) (some (at (going (place_of s.place)) s.step))
-      still_sought q = one_less ∙ ap (reply_from log id code (n - (moves + 1))) (sym (leads UnderWay q))
+      pub still_sought : (to : Spot) (next : ℕ) → s ≡ Some (UnderWay to next) →
+          from_here ≡ reply_from log id code (n - (moves + 1)) (some (at (going (place_of to)) next))
+      still_sought to next q = one_less ∙ ap (reply_from log id code (n - (moves + 1))) (sym (leads _ q))
 
-      pub no_further : s.led ≡ NotLogged → from_here ≡ none
+      pub no_further : s ≡ None → from_here ≡ none
       no_further q =
-          one_less ∙ ap (reply_from log id code (n - (moves + 1))) (sym (leads NotLogged q)) ∙ stays_none log id code (n - (moves + 1))
+          one_less ∙ ap (reply_from log id code (n - (moves + 1))) (sym (leads _ q)) ∙ stays_none log id code (n - (moves + 1))
 
-      pub comes_to : (v : ℕ) → s.led ≡ Finished v → from_here ≡ some (yields v)
+      pub comes_to : (v : ℕ) → s ≡ Some (Finished v) → from_here ≡ some (yields v)
       comes_to v q =
-          one_less ∙ ap (reply_from log id code (n - (moves + 1))) (sym (leads (Finished v) q))
+          one_less ∙ ap (reply_from log id code (n - (moves + 1))) (sym (leads _ q))
           ∙ stays_finished log id code (yields v) (n - (moves + 1))

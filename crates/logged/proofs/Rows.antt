@@ -13,9 +13,8 @@ use Rattle.rules.specs.Logged.{at, behind}
 use Rattle.rules.specs.Logged as Logged
 use Rattle.store.specs.Layout.{parts_of}
 use Rattle.store.specs.Rows.{lookup, rows_of, store_of}
-use Rattle.store.specs.Answers.{got_of}
-use Rattle.store.specs.declared.rows.Got.{Got}
-use Rattle.store.specs.declared.rows.Got.TheVariants.{Value, Absent}
+use Rattle.store.specs.Answers.{Got, got_of}
+use Rattle.std.specs.Prelude.{Some, None}
 use Rattle.contents.specs.Contents.{contents_of}
 use Rattle.contents.proofs.Book.{got_some, got_none}
 
@@ -28,12 +27,12 @@ usual_row store p id t below i s = rw (lt-ltb p (parts_of store) below, lt-ltb i
 -- what was got of a step's row
 module _ (onto : Result → Course) (t : ℕ) (logged : Option ℕ) (g : Got) (e : g ≡ got_of logged) where
   -- a block that is logged
-  pub row_passes : (v : ℕ) → g ≡ Value v → (c : Course) → c ≡ onto (yields v) → some (at c (t + 1)) ≡ behind onto t (sought logged)
+  pub row_passes : (v : ℕ) → g ≡ Some v → (c : Course) → c ≡ onto (yields v) → some (at c (t + 1)) ≡ behind onto t (sought logged)
   unfolding Logged.behind
   row_passes v q c f =
       (λ i. some (at (f i) (add-one t i))) ∙ ap (λ (o : Option ℕ). behind onto t (sought o)) (sym (got_some logged g e v q))
 
   -- one that isn't
-  pub no_row : g ≡ Absent → none ≡ behind onto t (sought logged)
+  pub no_row : g ≡ None → none ≡ behind onto t (sought logged)
   unfolding Logged.behind
   no_row q = ap (λ (o : Option ℕ). behind onto t (sought o)) (sym (got_none logged g e q))

@@ -16,9 +16,9 @@ use Rattle.instruction.specs.declared.Spot.{Spot}
 use Rattle.instruction.specs.Step.{place_of}
 use Rattle.logged.specs.declared.Logged.{Logged}
 use Rattle.logged.specs.declared.Logged.TheVariants.{Unbooked, NotYet, Through}
-use Rattle.logged.specs.declared.Led.{Led}
-use Rattle.logged.specs.declared.Led.TheVariants.{UnderWay, NotLogged, Finished}
 use Rattle.logged.specs.declared.Stage.{Stage}
+use Rattle.logged.specs.declared.Stage.TheVariants.{UnderWay, Finished}
+use Rattle.std.specs.Prelude as Code
 
 -- of a booked id, by the reply that can be worked out from the log
 abbrev pub by_reply : Option Result → Logged
@@ -30,15 +30,15 @@ abbrev pub logged_by : Option Request → Option Result → Logged
 logged_by none o = Unbooked
 logged_by (some q) o = by_reply o
 
--- the rules' stage behind a move; none, where the log leads no further
-abbrev pub stage_at : Spot → (step : ℕ) → Led → Option Rules.Stage
-stage_at place step UnderWay = some (Rules.at (going (place_of place)) step)
-stage_at place step NotLogged = none
-stage_at place step (Finished v) = some (Rules.finished (yields v))
+-- the rules' stage of what the code has
+abbrev pub stage_at : Stage → Rules.Stage
+stage_at (UnderWay place step) = Rules.at (going (place_of place)) step
+stage_at (Finished v) = Rules.finished (yields v)
 
--- and of what the code has behind it
-abbrev pub stage_of : Stage → Option Rules.Stage
-stage_of s = stage_at s.place s.step s.led
+-- and behind a move; none, where the log leads no further
+abbrev pub stage_of : Code.Option Stage → Option Rules.Stage
+stage_of Code.None = none
+stage_of (Code.Some s) = some (stage_at s)
 
 -- What questions 1 to 13 say of the workflow whose request is followed, and of the store: each BEGIN's partition is below P.
 pub record Followed (ops ws store : List ℕ) : Type 0 where

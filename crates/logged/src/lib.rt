@@ -21,34 +21,24 @@ ghost use Rattle.logged.specs.Logged.{logged_by, by_reply, stage_of, Followed, S
 
 use course::Next;
 use instruction::Spot;
-use store::rows::Got;
 
 // What is known of an id from book and log.
-#[derive(Clone, Copy)]
+#[derive(Clone, Copy, Debug, PartialEq, Eq)]
 pub enum Logged {
     Unbooked,
     NotYet,
     Through(u32),
 }
 
-// Where a move by the log leads: the request is under way, its next block isn't logged, or it has come to this reply.
+// Where the log leads a request: it is under way at a place and a step number, or it has come to its reply.
 #[derive(Clone, Copy)]
-enum Led {
-    UnderWay,
-    NotLogged,
+enum Stage {
+    UnderWay { place: Spot, step: u16 },
     Finished(u32),
 }
 
-// With the place and the step number of a request under way; otherwise nothing is said of them.
-#[derive(Clone, Copy)]
-struct Stage {
-    led: Led,
-    place: Spot,
-    step: u16,
-}
-
 // The log row of a step of a request, if the step is logged in a partition.
-fn log_row(store: &[u8], partition: usize, id: u32, step: u16) -> Got
+fn log_row(store: &[u8], partition: usize, id: u32, step: u16) -> Option<u32>
     requires { Sound store.now × (partition < parts_of store.now) }
     ensures { result ≡ got_of ((contents_of (store_of store.now)).log.usual partition id step) }
 {
@@ -57,49 +47,40 @@ fn log_row(store: &[u8], partition: usize, id: u32, step: u16) -> Got
 }
 
 // Behind the block that opens at `begin`, by its log row: the row's value is the block's result, and step rises by 1.
-fn pass_block(ops: &[u8], begin: Spot, step: u16, row: Got) -> Stage
+fn pass_block(ops: &[u8], begin: Spot, step: u16, row: Option<u32>) -> Option<Stage>
     requires { (begin.position < length ops.now) × (step < 65535) }
     ensures { (ws : List ℕ) (logged : Option ℕ) → row ≡ got_of logged →
         stage_of result ≡ behind (passed (code_of ops.now ws) (place_of begin)) step (sought logged) }
 {
-    match row {
-        Got::Value(result) => Stage {
-            led: Led::UnderWay,
-            place: course::behind_block(ops, begin, result),
-            step: step + 1,
-        },
-        Got::Absent => Stage {
-            led: Led::NotLogged,
-            place: begin,
-            step,
-        },
-    }
+    let result = row?;
+    Some(Stage::UnderWay {
+        place: course::behind_block(ops, begin, result),
+        step: step + 1,
+    })
 }
 
-// One move by the log: what the request does next, but a block only where it is logged.
-fn move_by_log(ops: &[u8], operands: &[u8], store: &[u8], id: u32, from: Spot, step: u16) -> Stage
+// One move by the log: what the request does next, but a block only where it is logged. None where its next block isn't.
+fn move_by_log(
+    ops: &[u8],
+    operands: &[u8],
+    store: &[u8],
+    id: u32,
+    from: Spot,
+    step: u16,
+) -> Option<Stage>
     requires { Followed ops.now operands.now store.now × StandsAt ops.now operands.now from step }
     ensures { stage_of result ≡ onward (contents_of (store_of store.now)).log id
         (code_of ops.now operands.now) (some (at (going (place_of from)) step)) }
 {
     let upcoming = course::next_of(ops, operands, from);
-    let next = upcoming.next;
     let place = upcoming.place;
-    match next {
-        Next::Goes => Stage {
-            led: Led::UnderWay,
-            place,
-            step,
-        },
+    match upcoming.next {
+        Next::Goes => Some(Stage::UnderWay { place, step }),
         Next::Does(partition) => {
             let row = log_row(store, partition, id, step);
             pass_block(ops, place, step, row)
         }
-        Next::Says(value) => Stage {
-            led: Led::Finished(value),
-            place,
-            step,
-        },
+        Next::Says(value) => Some(Stage::Finished(value)),
     }
 }
 
@@ -109,20 +90,16 @@ fn follow_log(ops: &[u8], operands: &[u8], store: &[u8], id: u32, start: Spot) -
     ensures { result ≡ by_reply (reply_from (contents_of (store_of store.now)).log id
         (code_of ops.now operands.now) (length ops.now) (some (at (going (place_of start)) 0))) }
 {
-    let mut place = start;
-    let mut step: u16 = 0;
-    let mut moves = 0;
-    while moves < ops.len() {
-        let stage = move_by_log(ops, operands, store, id, place, step);
-        let led = stage.led;
-        match led {
-            Led::Finished(value) => return Logged::Through(value),
-            Led::NotLogged => return Logged::NotYet,
-            Led::UnderWay => {
-                place = stage.place;
-                step = stage.step;
-                moves += 1;
+    let mut at = start;
+    let mut at_step = 0;
+    for _ in 0..ops.len() {
+        match move_by_log(ops, operands, store, id, at, at_step) {
+            Some(Stage::UnderWay { place, step }) => {
+                at = place;
+                at_step = step;
             }
+            Some(Stage::Finished(value)) => return Logged::Through(value),
+            None => return Logged::NotYet,
         }
     }
     Logged::NotYet
@@ -135,20 +112,16 @@ pub fn reply_logged(pack: &[u8], store: &[u8], id: u32) -> Logged
         (reply_logged (pack_of pack.now) (contents_of (store_of store.now)).log id
         ((contents_of (store_of store.now)).book id)) }
 {
-    let booked = book::booked_workflow(store, id);
-    match booked {
-        Got::Absent => Logged::Unbooked,
-        Got::Value(workflow) => {
-            let request = book::booked_request(store, id, workflow);
-            let agent = agents::started(id, request);
-            let registers = agent.registers;
-            let start = Spot {
-                position: agent.position as usize,
-                registers,
-            };
-            let ops = pack::operations_part(pack, workflow as usize);
-            let operands = pack::operands_part(pack, workflow as usize);
-            follow_log(ops, operands, store, id, start)
-        }
-    }
+    let Some(workflow) = book::booked_workflow(store, id) else {
+        return Logged::Unbooked;
+    };
+    let agent = agents::started(id, book::booked_request(store, id, workflow));
+    let registers = agent.registers;
+    let start = Spot {
+        position: agent.position as usize,
+        registers,
+    };
+    let ops = pack::operations_part(pack, workflow as usize);
+    let operands = pack::operands_part(pack, workflow as usize);
+    follow_log(ops, operands, store, id, start)
 }

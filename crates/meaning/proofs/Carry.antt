@@ -17,7 +17,9 @@ use Rattle.meaning.proofs.Tests.{slot_free}
 use Rattle.contents.specs.Wrote.{Wrote}
 use Rattle.contents.specs.Contents.{contents_of}
 use Rattle.questions.specs.Basics.{update, each}
-use Rattle.questions.specs.Questions.{No, no}
+use Rattle.questions.specs.Questions.{No, no, number, ask}
+use Rattle.questions.specs.Verdicts.{verdict_of}
+use Rattle.questions.proofs.Chains.{passed_on}
 use Rattle.questions.specs.Questions as Questions
 use Rattle.rules.specs.Calls.{Call, Outcome, gives, with_slot, refusal, with_store, with_work}
 use Rattle.rules.specs.Worklist.{restarted}
@@ -28,19 +30,19 @@ use Rattle.questions.proofs.Updates.{none_some, update_other}
 use Rattle.questions.proofs.Tests.{and_left, and_right}
 use Rattle.questions.proofs.Each.{each_at}
 use Rattle.pack.specs.Meaning.{pack_of}
-use Rattle.questions.specs.declared.Verdict.{Verdict}
-use Rattle.questions.specs.declared.Verdict.TheVariants as Verdicts
+use Rattle.questions.specs.Verdicts.{Verdict}
+use Rattle.questions.specs.declared.Refusal.{Refusal}
 use Rattle.store.specs.Rows.{store_of}
 use Rattle.store.specs.Questions.{order_refusal}
 use Rattle.store.specs.Ordered.{Ordered}
-use Rattle.agents.proofs.Answers.{accepted_none, refused_some}
+use Rattle.agents.proofs.Answers.{accepted_none, refused_some, said_no}
 use Rattle.contents.proofs.Equal.{only_bytes, ordered_contents, wrote_nothing}
 use Rattle.agents.specs.declared.Agent.{Agent}
-use Rattle.agents.specs.declared.Answer.{Answer}
-use Rattle.agents.specs.declared.Answer.TheVariants.{Done, Refused}
-use Rattle.agents.specs.declared.Outcome as Outcomes
+use Rattle.agents.specs.Answers.{Answer}
+use Rattle.std.specs.Prelude.{Ok, Err, IsErrAnd}
+use Rattle.agents.specs.declared.Accepted.TheVariants.{Done}
 use Rattle.agents.specs.Slots.{no_agent, agent_at, slots_of, record_of, records_of, Whole, Tidy, is_blank}
-use Rattle.agents.specs.Answers.{answer_of, outcome}
+use Rattle.agents.specs.Answers.{answer_of}
 use Rattle.agents.proofs.Slots.{records_back, records_with, slots_back, slots_past, slots_none, records_none}
 use Rattle.agents.proofs.Typed.{eight_records, eight_registers}
 use Rattle.agents.specs.contracts.Agent as T
@@ -132,16 +134,24 @@ tidy_typed pack lent vs is e =
 
 -- ── an outcome in hand ──
 
--- refused by the first no
-pub is_refused : (pack : List ℕ) (lent : Lent) (c : Call) (r : Outcomes.Outcome) (q w i : ℕ) → refusal_for pack lent c ≡ some (no q w i) →
-    r ≡ outcome (Refused q w i) lent.records → Carried pack lent c r.answer
-    (record { store = lent.store; records = r.agents; list = lent.list })
+-- refused by the first no, with everything as it was
+pub is_refused : (pack : List ℕ) (lent : Lent) (c : Call) (r : Refusal) →
+    refusal_for pack lent c ≡ some (no r.question r.workflow r.instruction) → Carried pack lent c (Err r) lent
 unfolding answer_of
-is_refused pack lent c r q w i e a =
-    subst (λ (x : Outcomes.Outcome). Carried pack lent c x.answer
-    (record { store = lent.store; records = x.agents; list = lent.list }))
-    (sym a)
-    (carried_refused pack lent c (no q w i) (Refused q w i) e refl)
+is_refused pack lent c r e = carried_refused pack lent c (no r.question r.workflow r.instruction) (Err r) e refl
+
+-- the same where `?` hands the refusal on
+pub stops : (pack : List ℕ) (lent : Lent) (c : Call) (r : Answer) (n : Refusal) → IsErrAnd r (λ e. e ≡ n) →
+    refusal_for pack lent c ≡ some (no n.question n.workflow n.instruction) → Carried pack lent c r lent
+stops pack lent c r n h e =
+    subst (λ (x : Answer). Carried pack lent c x lent) (sym (passed_on r n h)) (is_refused pack lent c n e)
+
+-- and where one question is asked
+pub stops_at : (pack : List ℕ) (lent : Lent) (c : Call) (q : ℕ) (b : Bool) (v : Verdict) (r : Answer) (n : Refusal) →
+    v ≡ verdict_of (ask (number q) b none) → v ≡ Err n → IsErrAnd r (λ e. e ≡ n) →
+    (b ≡ false → refusal_for pack lent c ≡ some (number q)) → Carried pack lent c r lent
+stops_at pack lent c q b v r n e f h k =
+    let s = said_no q b _ (refused_some v (ask (number q) b none) n e f) in stops pack lent c r n h (k s.0 ∙ ap some s.1)
 
 -- carried out, with another thing in one slot
 module _ (pack : List ℕ) (lent : Lent) (store' : List ℕ) (records' : List Agent) (c : Call) (answer : Answer) (slot : ℕ)
@@ -165,10 +175,10 @@ module _ (pack : List ℕ) (lent : Lent) (store' : List ℕ) (records' : List Ag
 
 -- restart
 pub is_restart : (pack : List ℕ) (lent : Lent) (list' : Worklist) → Kept lent.list list' (restarted (worklist_of lent.list)) →
-    Carried pack lent Calls.restart Done (record { store = lent.store; records = replicate 8 no_agent; list = list' })
+    Carried pack lent Calls.restart (Ok Done) (record { store = lent.store; records = replicate 8 no_agent; list = list' })
 unfolding answer_of lent_for Calls.refusal Calls.rule state_of
 is_restart pack lent list' k =
-    carried_out pack lent Calls.restart Done (record { store = lent.store; records = replicate 8 no_agent; list = list' })
+    carried_out pack lent Calls.restart (Ok Done) (record { store = lent.store; records = replicate 8 no_agent; list = list' })
     (refused_by pack lent Calls.restart none refl refl) refl
     (record { written = wrote_nothing lent.store; slots = slots_none; whole = inl (sym records_none); list = k })
 
@@ -199,23 +209,24 @@ module _ (pack : List ℕ) (lent : Lent) (store' : List ℕ) (r : Verdict) (o : 
   abbrev left : Lent
   left = record { store = store'; records = lent.records; list = lent.list }
 
-  pub order_refused : (q w i : ℕ) → r ≡ Verdicts.Refused q w i → Carried pack lent Calls.order (Refused q w i) left
-  unfolding answer_of lent_for
-  order_refused q w i e =
-      subst (λ (x : List ℕ). Carried pack lent Calls.order (Refused q w i)
+  pub order_refused : (n : Refusal) → r ≡ Err n → Carried pack lent Calls.order (Err n) left
+  unfolding lent_for
+  order_refused n e =
+      subst (λ (x : List ℕ). Carried pack lent Calls.order (Err n)
       (record { store = x; records = lent.records; list = lent.list }))
       (sym (o.kept (λ a. never a)))
-      (carried_refused pack lent Calls.order (no q w i) (Refused q w i)
-      (stopped_by pack lent Calls.order (no q w i) (refused_some r (order_refusal lent.store) q w i o.answer e)) refl)
+      (is_refused pack lent Calls.order n
+      (stopped_by pack lent Calls.order (no n.question n.workflow n.instruction)
+      (refused_some r (order_refusal lent.store) n o.answer e)))
     where
-      never : r ≡ Verdicts.Accepted → ⊥
+      never : r ≡ Ok tt → ⊥
       never a = let z : ◌≡◌ {A = ℕ} 0 1 = cc in omega arith
 
-  pub order_done : r ≡ Verdicts.Accepted → Carried pack lent Calls.order Done left
+  pub order_done : r ≡ Ok tt → Carried pack lent Calls.order (Ok Done) left
   unfolding answer_of lent_for Calls.refusal Calls.rule state_of
   order_done e =
       let m = o.made e in
-      carried_out pack lent Calls.order Done left
+      carried_out pack lent Calls.order (Ok Done) left
       (refused_by pack lent Calls.order none (accepted_none r (order_refusal lent.store) o.answer e) refl) refl
       (record {
         written =

@@ -7,7 +7,7 @@ use Rattle.rules.specs.Calls.{Call, Outcome, State, rule}
 use Rattle.rules.specs.Calls as Calls
 use Rattle.rules.specs.Store as Rules
 use Rattle.pack.specs.Meaning.{pack_of}
-use Rattle.agents.specs.declared.Answer.{Answer}
+use Rattle.agents.specs.Answers.{Answer}
 use Rattle.agents.specs.Slots.{slots_of, records_of}
 use Rattle.agents.specs.Answers.{answer_of}
 use Rattle.worklist.specs.Worklist.{Kept}

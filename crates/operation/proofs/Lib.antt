@@ -1,3 +1,2 @@
-pub mod Table
 pub mod Iff
-pub mod Unpacked
+pub mod Table

@@ -1,34 +1,39 @@
 -- Laws of a pack's layout, and questions 1 to 3 from their tests.
-use mathlib.Core.Path.{◌≡◌}
+use mathlib.Core.Path.{◌≡◌, refl}
 use mathlib.Core.Bool.{Bool, true, false, ◌&&◌}
 use mathlib.Core.List.{List}
 use mathlib.Core.Option.{none}
 use Prim.Native.Nat.{ℕ, zero, suc, ◌+◌, ◌-◌, ◌*◌, ◌≤◌, ◌<◌}
 use native.Mathlib.Omega.{arith}
 use native.Mathlib.Numerals.{add-one}
-use borrow.Author.Tests.{leb-true, eqb-true, le-leb, lt-leb}
+use borrow.Author.Tests.{leb-true, eqb-true}
 use lib.Dec.{leb, eqb}
 use lib.ListN.{length, length-drop}
 use lib.Seq.{length-take-le}
-use Rattle.questions.specs.Basics.{each}
+use Rattle.std.specs.List.{list_all, range_with_len}
+use Rattle.questions.specs.Basics.{if◌then◌otherwise◌, each_from, each}
+use Rattle.std.specs.Prelude.{Err}
+use Rattle.questions.specs.declared.Refusal.{Refusal}
 use Rattle.questions.specs.Questions.{number, ask}
+use Rattle.questions.specs.Verdicts.{Verdict, verdict_of}
 use Rattle.questions.proofs.Questions.{ask_none}
-use Rattle.questions.proofs.Tests.{and_left, and_right, and_false}
+use Rattle.questions.proofs.Tests.{and_left, and_right}
 use Rattle.questions.proofs.Each.{each_at}
+use Rattle.code.proofs.Asked.{asked_no, asked_false}
 use Rattle.pack.specs.Layout.{count, size_of, first_of, total, operations_at, operands_at, operations_of, operands_of}
 use Rattle.pack.specs.Laid.{Laid}
 use Rattle.pack.specs.Questions.{between, size_right, question1, question2, question3}
 use Rattle.pack.specs.Refusal.{layout_no}
 
-module _ (low high x : ℕ) where
-  pub too_low : x < low → between low high x ≡ false
-  too_low h = rw (lt-leb low x h)
-
-  pub too_high : high < x → between low high x ≡ false
-  too_high h = rw (lt-leb x high h) (and_false (leb low x))
-
-  pub is_between : low ≤ x → x ≤ high → between low high x ≡ true
-  is_between h k = rw (le-leb low x h, le-leb x high k)
+-- a test of the numbers from i on
+pub all_below : (f : ℕ → Bool) (n i : ℕ) → list_all f (range_with_len i n) ≡ each_from f n i
+unfolding each_from
+all_below f zero i = refl
+all_below f (suc n) i = joined (f i) _ _ (all_below f n (i + 1))
+  where
+    joined : (a b c : Bool) → b ≡ c → (a && b) ≡ if◌then◌otherwise◌ a c false
+    joined true b c e = e
+    joined false b c e = refl
 
 module _ (p : List ℕ) where
   pub first_next : (w : ℕ) → first_of p (w + 1) ≡ first_of p w + size_of p w
@@ -50,27 +55,14 @@ module _ (p : List ℕ) where
       let r = rw e at (first_rises (w + 1) (m - (w + 1))) in
       omega (arith, first_next w)
 
-  -- a size in hand, in range or not
-  module _ (w s : ℕ) (e : s ≡ size_of p w) where
-    pub size_low : s < 1 → size_right p w ≡ false
-    unfolding size_right
-    size_low h = too_low 1 256 (size_of p w) (omega arith)
-
-    pub size_high : 256 < s → size_right p w ≡ false
-    unfolding size_right
-    size_high h = too_high 1 256 (size_of p w) (omega arith)
-
-    pub size_in : 1 ≤ s → s ≤ 256 → size_right p w ≡ true
-    unfolding size_right
-    size_in h k = is_between 1 256 (size_of p w) (omega arith) (omega arith)
-
-  pub no_count : length p < 1 → question1 p ≡ false
+  -- where there is a count
+  pub counted : question1 p ≡ true → (1 ≤ length p) × (count p ≤ 16)
   unfolding question1
-  no_count h = rw (lt-leb 1 (length p) h)
-
-  pub count_asked : 1 ≤ length p → (t : Bool) → between 1 16 (count p) ≡ t → question1 p ≡ t
-  unfolding question1
-  count_asked h t e = rw (le-leb 1 (length p) h) e
+  counted h =
+      let b = and_right (leb 1 (length p)) (between 1 16 (count p)) h in (
+        leb-true 1 (length p) (and_left (leb 1 (length p)) (between 1 16 (count p)) h),
+        leb-true (count p) 16 (and_right (leb 1 (count p)) (leb (count p) 16) b),
+      )
 
   pub sizes_asked : (a b c : Bool) (t : ℕ) → t ≡ total p →
       leb (1 + 2 * count p) (length p) ≡ a → each (count p) (size_right p) ≡ b → leb t 2048 ≡ c → question2 p ≡ (a && b && c)
@@ -81,10 +73,24 @@ module _ (p : List ℕ) where
   unfolding question3
   length_asked a t e h = rw (← e) h
 
-  pub layout_asked : (a b c : Bool) → question1 p ≡ a → question2 p ≡ b → question3 p ≡ c →
-      layout_no p ≡ ask (number 1) a (ask (number 2) b (ask (number 3) c none))
-  unfolding layout_no
-  layout_asked a b c e f g = rw (e, f, g)
+  -- the verdict on a question is that on the layout, where those before it were answered yes
+  module _ (v : Verdict) where
+    pub stops_1 : (t : Bool) (m : Refusal) → question1 p ≡ t → v ≡ verdict_of (ask (number 1) t none) → v ≡ Err m →
+        v ≡ verdict_of (layout_no p)
+    unfolding layout_no
+    stops_1 t m q e r = rw q (asked_no v _ t _ m e r)
+
+    module _ (p1 : question1 p ≡ true) where
+      -- in parts
+      pub stops_2 : (t : Bool) (m : Refusal) → (t ≡ false → question2 p ≡ false) → v ≡ verdict_of (ask (number 2) t none) → v ≡ Err m →
+          v ≡ verdict_of (layout_no p)
+      unfolding layout_no ask
+      stops_2 t m q e r = let f = asked_false v _ t m e r in rw (p1, q f) (rw f at e)
+
+      pub comes_to_3 : (t : Bool) → question2 p ≡ true → question3 p ≡ t → v ≡ verdict_of (ask (number 3) t none) →
+          v ≡ verdict_of (layout_no p)
+      unfolding layout_no ask
+      comes_to_3 t p2 q e = rw (p1, p2, q) e
 
   -- questions 1 to 3, each yes
   pub laid : layout_no p ≡ none → Laid p

@@ -1,16 +1,16 @@
 -- From a workflow's no to a pack's and to an opening's.
 use mathlib.Core.Path.{◌≡◌, refl, ◌∙◌}
-use mathlib.Core.Bool.{Bool, true, false}
+use mathlib.Core.Bool.{Bool}
 use mathlib.Core.List.{List, []}
 use mathlib.Core.Option.{Option, none, some}
-use Prim.Native.Nat.{ℕ, ◌+◌, ◌*◌, ◌≤◌, ◌<◌}
+use Prim.Native.Nat.{ℕ, ◌+◌, ◌*◌, ◌<◌}
 use native.Mathlib.Omega.{arith}
-use borrow.Author.Tests.{ltb-true, lt-ltb, le-ltb}
+use borrow.Author.Tests.{ltb-true}
 use lib.ListN.{take, drop}
-use Rattle.questions.specs.declared.Verdict.{Verdict}
-use Rattle.questions.specs.declared.Verdict.TheVariants.{Accepted, Refused}
+use Rattle.std.specs.Prelude.{Ok, Err}
+use Rattle.questions.specs.declared.Refusal.{Refusal}
 use Rattle.questions.specs.Questions.{No, number, ask, first_no}
-use Rattle.questions.specs.Verdicts.{verdict_of}
+use Rattle.questions.specs.Verdicts.{Verdict, verdict_of}
 use Rattle.questions.proofs.Questions.{ask_none, or_else_none}
 use Rattle.questions.proofs.Chains.{or_yes, accepted, refused_first}
 use Rattle.code.specs.Refusal.{code_no}
@@ -39,27 +39,20 @@ module _ (p : List ℕ) where
   unfolding pack_refusal
   pack_laid e = laid p (or_else_none _ _ e).0
 
-  pub layout_refused : (v : Verdict) (q w i : ℕ) → v ≡ verdict_of (layout_no p) → v ≡ Refused q w i → v ≡ verdict_of (pack_refusal p)
+  pub layout_refused : (v : Verdict) (n : Refusal) → v ≡ verdict_of (layout_no p) → v ≡ Err n → v ≡ verdict_of (pack_refusal p)
   unfolding pack_refusal
-  layout_refused v q w i e r = refused_first v _ _ q w i e r
+  layout_refused v n e r = refused_first v _ _ n e r
 
-  pub layout_fine : (v : Verdict) → v ≡ verdict_of (layout_no p) → v ≡ Accepted → pack_refusal p ≡ first_no (workflow_no p) (count p) 0
+  pub layout_fine : (v : Verdict) → v ≡ verdict_of (layout_no p) → v ≡ Ok tt → pack_refusal p ≡ first_no (workflow_no p) (count p) 0
   unfolding pack_refusal
   layout_fine v e a = or_yes _ _ (accepted v _ e a)
 
-  -- question 17, with the count in hand
-  pub is_below : (w m : ℕ) → m ≡ count p → w < m → question17 p w ≡ true
-  is_below w m e h = lt-ltb w (count p) (omega arith)
-
-  pub not_below : (w m : ℕ) → m ≡ count p → m ≤ w → question17 p w ≡ false
-  not_below w m e h = le-ltb w (count p) (omega arith)
-
   module _ (w : ℕ) where
-    pub pack_refused : (v : Verdict) (q w' i : ℕ) → v ≡ verdict_of (pack_refusal p) → v ≡ Refused q w' i → v ≡ verdict_of (open_refusal p w)
+    pub pack_refused : (v : Verdict) (n : Refusal) → v ≡ verdict_of (pack_refusal p) → v ≡ Err n → v ≡ verdict_of (open_refusal p w)
     unfolding open_refusal
-    pack_refused v q w' i e r = refused_first v _ _ q w' i e r
+    pack_refused v n e r = refused_first v _ _ n e r
 
-    pub pack_fine : (v : Verdict) (t : Bool) → v ≡ verdict_of (pack_refusal p) → v ≡ Accepted → question17 p w ≡ t →
+    pub pack_fine : (v : Verdict) (t : Bool) → v ≡ verdict_of (pack_refusal p) → v ≡ Ok tt → question17 p w ≡ t →
         open_refusal p w ≡ ask (number 17) t none
     unfolding open_refusal
     pack_fine v t e a f = or_yes _ _ (accepted v _ e a) ∙ rw f
@@ -81,7 +74,7 @@ pub opened_part : (o : Option No) (part : List ℕ) → o ≡ none → opened o 
 unfolding opened
 opened_part o part e = rw e
 
-pub opened_none : (o : Option No) (part : List ℕ) (v : Verdict) (q w i : ℕ) → v ≡ verdict_of o → v ≡ Refused q w i → opened o part ≡ []
+pub opened_none : (o : Option No) (part : List ℕ) (v : Verdict) (m : Refusal) → v ≡ verdict_of o → v ≡ Err m → opened o part ≡ []
 unfolding opened
-opened_none none part v q w i p r = let z : ◌≡◌ {A = ℕ} 0 1 = cc in absurd (omega arith)
-opened_none (some n) part v q w i p r = refl
+opened_none none part v m p r = let z : ◌≡◌ {A = ℕ} 0 1 = cc in absurd (omega arith)
+opened_none (some n) part v m p r = refl

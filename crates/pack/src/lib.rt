@@ -7,10 +7,10 @@ ghost use Rattle.questions.specs.Questions.{first_no};
 ghost use Rattle.questions.specs.Verdicts.{verdict_of};
 ghost use Rattle.pack.specs.Layout.{count, size_of, first_of, total, operations_at, operands_at, operations_of, operands_of};
 ghost use Rattle.pack.specs.Laid.{Laid};
-ghost use Rattle.pack.specs.Questions.{size_right};
+ghost use Rattle.pack.specs.Questions.{size_right, question1};
 ghost use Rattle.pack.specs.Refusal.{layout_no, workflow_no, pack_refusal, open_refusal, opened};
 
-use questions::Verdict;
+use questions::{Verdict, ask};
 
 // The number of instructions of the workflows before this one.
 pub fn first_of(pack: &[u8], workflow: usize) -> usize
@@ -18,10 +18,8 @@ pub fn first_of(pack: &[u8], workflow: usize) -> usize
     ensures { result ≡ first_of pack.now workflow }
 {
     let mut sum: usize = 0;
-    let mut earlier = 0;
-    while earlier < workflow {
+    for earlier in 0..workflow {
         sum += words::read16(pack, 1 + 2 * earlier) as usize;
-        earlier += 1;
     }
     sum
 }
@@ -31,48 +29,31 @@ fn sizes_in_range(pack: &[u8], m: usize) -> bool
     requires { 1 + 2 * m ≤ length pack.now }
     ensures { result ≡ each m (size_right pack.now) }
 {
-    let mut workflow = 0;
-    while workflow < m {
+    (0..m).all(|workflow| {
         let size = words::read16(pack, 1 + 2 * workflow);
-        if size < 1 {
-            return false;
-        }
-        if 256 < size {
-            return false;
-        }
-        workflow += 1;
-    }
-    true
+        1 <= size && size <= 256
+    })
+}
+
+// Is there a count, 1 to 16?
+#[tactic(auto, unfolding(crate::specs::Questions::question1))]
+fn has_count(pack: &[u8]) -> bool
+    ensures { result ≡ question1 pack.now }
+{
+    !pack.is_empty() && 1 <= pack[0] && pack[0] <= 16
 }
 
 // Questions 1 to 3.
 fn check_layout(pack: &[u8]) -> Verdict
     ensures { result ≡ verdict_of (layout_no pack.now) }
 {
-    if pack.len() < 1 {
-        return questions::refused(1, 0, 0);
-    }
+    ask(1, has_count(pack))?;
     let m = pack[0] as usize;
-    if m < 1 {
-        return questions::refused(1, 0, 0);
-    }
-    if 16 < m {
-        return questions::refused(1, 0, 0);
-    }
-    if pack.len() < 1 + 2 * m {
-        return questions::refused(2, 0, 0);
-    }
-    if !sizes_in_range(pack, m) {
-        return questions::refused(2, 0, 0);
-    }
+    ask(2, 1 + 2 * m <= pack.len())?;
+    ask(2, sizes_in_range(pack, m))?;
     let t = first_of(pack, m);
-    if 2048 < t {
-        return questions::refused(2, 0, 0);
-    }
-    if pack.len() != 1 + 2 * m + 5 * t {
-        return questions::refused(3, 0, 0);
-    }
-    Verdict::Accepted
+    ask(2, t <= 2048)?;
+    ask(3, pack.len() == 1 + 2 * m + 5 * t)
 }
 
 // The number of workflows, where there is a first byte.
@@ -123,66 +104,37 @@ fn check_workflows(pack: &[u8]) -> Verdict
     requires { Laid pack.now }
     ensures { result ≡ verdict_of (first_no (workflow_no pack.now) (count pack.now) 0) }
 {
-    let m = pack[0] as usize;
     let operations = operations_begin(pack);
     let operands = operands_begin(pack);
     let mut first = 0;
-    let mut workflow = 0;
-    while workflow < m {
+    for workflow in 0..pack[0] as usize {
         let size = size_at(pack, workflow);
         let ops = part(pack, operations + first, size);
-        let v = code::check_workflow(ops, part(pack, operands + 4 * first, 4 * size), workflow);
-        if let Verdict::Refused {
-            question: _,
-            workflow: _,
-            instruction: _,
-        } = v
-        {
-            return v;
-        }
+        let words = part(pack, operands + 4 * first, 4 * size);
+        code::check_workflow(ops, words, workflow)?;
         first += size;
-        workflow += 1;
     }
-    Verdict::Accepted
+    Ok(())
 }
 
 // The pack check: questions 1 to 8.
 pub fn check(pack: &[u8]) -> Verdict
     ensures { result ≡ verdict_of (pack_refusal pack.now) }
 {
-    let v = check_layout(pack);
-    match v {
-        Verdict::Accepted => check_workflows(pack),
-        Verdict::Refused {
-            question: _,
-            workflow: _,
-            instruction: _,
-        } => v,
-    }
+    check_layout(pack)?;
+    check_workflows(pack)
 }
 
 // Opening a workflow: questions 1 to 8 and 17.
 pub fn open(pack: &[u8], workflow: u32) -> Verdict
     ensures { result ≡ verdict_of (open_refusal pack.now workflow) }
 {
-    let v = check(pack);
-    match v {
-        Verdict::Accepted => {
-            if workflow < count_of(pack) {
-                Verdict::Accepted
-            } else {
-                questions::refused(17, 0, 0)
-            }
-        }
-        Verdict::Refused {
-            question: _,
-            workflow: _,
-            instruction: _,
-        } => v,
-    }
+    check(pack)?;
+    ask(17, workflow < count_of(pack))
 }
 
 // Where the operation bytes of a workflow begin in the pack.
+#[tactic(auto, using(crate::proofs::Sizes::few_instructions))]
 pub fn operations_at(pack: &[u8], workflow: usize) -> usize
     requires laid { Laid pack.now }
     requires workflow_bound { workflow < count pack.now }
@@ -191,7 +143,9 @@ pub fn operations_at(pack: &[u8], workflow: usize) -> usize
     operations_begin(pack) + first_of(pack, workflow)
 }
 
-// Where its operand bytes begin.
+// Where its operand bytes begin. Stays so, a function for each array: these and the four below are public under their names, of which docs/
+// has `operations` and `operands`; one function with the array as a parameter would leave six wrappers around it, which is no plainer.
+#[tactic(auto, using(crate::proofs::Sizes::few_instructions))]
 pub fn operands_at(pack: &[u8], workflow: usize) -> usize
     requires laid { Laid pack.now }
     requires workflow_bound { workflow < count pack.now }
@@ -201,6 +155,7 @@ pub fn operands_at(pack: &[u8], workflow: usize) -> usize
 }
 
 // The operation bytes of a workflow: a part of the pack.
+#[tactic(auto, unfolding(crate::specs::Layout::operations_of), using(crate::proofs::Sizes::operations_within))]
 pub fn operations_part(pack: &[u8], workflow: usize) -> &[u8]
     requires laid { Laid pack.now }
     requires workflow_bound { workflow < count pack.now }
@@ -210,6 +165,7 @@ pub fn operations_part(pack: &[u8], workflow: usize) -> &[u8]
 }
 
 // The operand bytes of a workflow: a part of the pack.
+#[tactic(auto, unfolding(crate::specs::Layout::operands_of), using(crate::proofs::Sizes::operands_within))]
 pub fn operands_part(pack: &[u8], workflow: usize) -> &[u8]
     requires laid { Laid pack.now }
     requires workflow_bound { workflow < count pack.now }
@@ -226,14 +182,9 @@ pub fn operands_part(pack: &[u8], workflow: usize) -> &[u8]
 pub fn operations<'a>(pack: &'a [u8], workflow: u32) -> &'a [u8]
     ensures { result.now ≡ opened (open_refusal pack.now workflow) (operations_of pack.now workflow) }
 {
-    let v = open(pack, workflow);
-    match v {
-        Verdict::Accepted => operations_part(pack, workflow as usize),
-        Verdict::Refused {
-            question: _,
-            workflow: _,
-            instruction: _,
-        } => &pack[..0],
+    match open(pack, workflow) {
+        Ok(()) => operations_part(pack, workflow as usize),
+        Err(_) => &pack[..0],
     }
 }
 
@@ -241,13 +192,8 @@ pub fn operations<'a>(pack: &'a [u8], workflow: u32) -> &'a [u8]
 pub fn operands<'a>(pack: &'a [u8], workflow: u32) -> &'a [u8]
     ensures { result.now ≡ opened (open_refusal pack.now workflow) (operands_of pack.now workflow) }
 {
-    let v = open(pack, workflow);
-    match v {
-        Verdict::Accepted => operands_part(pack, workflow as usize),
-        Verdict::Refused {
-            question: _,
-            workflow: _,
-            instruction: _,
-        } => &pack[..0],
+    match open(pack, workflow) {
+        Ok(()) => operands_part(pack, workflow as usize),
+        Err(_) => &pack[..0],
     }
 }

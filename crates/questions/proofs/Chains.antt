@@ -5,11 +5,16 @@ use Prim.Native.Nat.{ℕ, zero, suc, ◌+◌, ◌-◌, ◌≤◌, ◌<◌}
 use native.Mathlib.Nat.{add-zero, add-suc, suc-add, le_of_suc-le-suc, not-suc-le-zero}
 use native.Mathlib.Omega.{arith}
 use native.Mathlib.Numerals.{add-one}
-use Rattle.questions.specs.declared.Verdict.{Verdict}
-use Rattle.questions.specs.declared.Verdict.TheVariants.{Accepted, Refused}
+use Rattle.std.specs.Prelude.{Result, Ok, Err, IsErrAnd}
+use Rattle.std.proofs.lemmas.Result.{err_from_is_err_and}
+use Rattle.questions.specs.declared.Refusal.{Refusal}
 use Rattle.questions.specs.Questions.{No, or_else, first_no}
-use Rattle.questions.specs.Verdicts.{verdict_of}
+use Rattle.questions.specs.Verdicts.{Verdict, verdict_of}
 use Rattle.questions.proofs.Questions.{or_else_none}
+
+-- what `?` hands on is the refusal that it was given
+pub passed_on : {T : Type 0} (r : Result T Refusal) (n : Refusal) → IsErrAnd r (λ e. e ≡ n) → r ≡ Err n
+passed_on r n h = let x = err_from_is_err_and r h in x.1 ∙ ap Err x.2
 
 -- after a row of questions that were answered yes the rest is asked
 pub or_yes : (o rest : Option No) → o ≡ none → or_else o rest ≡ rest
@@ -17,14 +22,14 @@ unfolding or_else
 or_yes o rest e = rw e
 
 -- a verdict in hand, and what it says of the refusal
-pub accepted : (v : Verdict) (o : Option No) → v ≡ verdict_of o → v ≡ Accepted → o ≡ none
+pub accepted : (v : Verdict) (o : Option No) → v ≡ verdict_of o → v ≡ Ok tt → o ≡ none
 accepted v none p q = refl
 accepted v (some n) p q = let z : ◌≡◌ {A = ℕ} 0 1 = cc in absurd (omega arith)
 
-pub refused_first : (v : Verdict) (o rest : Option No) (q w i : ℕ) → v ≡ verdict_of o → v ≡ Refused q w i → v ≡ verdict_of (or_else o rest)
+pub refused_first : (v : Verdict) (o rest : Option No) (n : Refusal) → v ≡ verdict_of o → v ≡ Err n → v ≡ verdict_of (or_else o rest)
 unfolding or_else
-refused_first v none rest q w i p r = let z : ◌≡◌ {A = ℕ} 0 1 = cc in absurd (omega arith)
-refused_first v (some n) rest q w i p r = p
+refused_first v none rest m p r = let z : ◌≡◌ {A = ℕ} 0 1 = cc in absurd (omega arith)
+refused_first v (some n) rest m p r = p
 
 -- the search for the first no of f, at i of m numbers
 module _ (f : ℕ → Option No) (m i : ℕ) where
@@ -36,12 +41,12 @@ module _ (f : ℕ → Option No) (m i : ℕ) where
   unfolding first_no
   first_here h = let e : m - i ≡ suc (m - (i + 1)) = omega arith in rw (e, add-one)
 
-  pub first_yes : i < m → (v : Verdict) → v ≡ verdict_of (f i) → v ≡ Accepted → first_no f (m - i) i ≡ first_no f (m - (i + 1)) (i + 1)
+  pub first_yes : i < m → (v : Verdict) → v ≡ verdict_of (f i) → v ≡ Ok tt → first_no f (m - i) i ≡ first_no f (m - (i + 1)) (i + 1)
   unfolding or_else
   first_yes h v p a = first_here h ∙ rw (accepted v (f i) p a)
 
-  pub first_stop : i < m → (v : Verdict) (q w j : ℕ) → v ≡ verdict_of (f i) → v ≡ Refused q w j → v ≡ verdict_of (first_no f (m - i) i)
-  first_stop h v q w j p r = refused_first v (f i) _ q w j p r ∙ ap verdict_of (sym (first_here h))
+  pub first_stop : i < m → (v : Verdict) (n : Refusal) → v ≡ verdict_of (f i) → v ≡ Err n → v ≡ verdict_of (first_no f (m - i) i)
+  first_stop h v n p r = refused_first v (f i) _ n p r ∙ ap verdict_of (sym (first_here h))
 
 -- from the start all are ahead
 pub first_all : (f : ℕ → Option No) (m : ℕ) → first_no f (m - 0) 0 ≡ first_no f m 0

@@ -13,9 +13,9 @@ use lib.ListN.{length, get_or, take, drop, length-drop}
 use lib.Seq.{length-take-le}
 use Rattle.rules.specs.Instructions.{RETURN}
 use Rattle.questions.specs.Questions.{No}
-use Rattle.questions.specs.Verdicts.{verdict_of}
-use Rattle.questions.specs.declared.Verdict.{Verdict}
-use Rattle.questions.specs.declared.Verdict.TheVariants.{Refused}
+use Rattle.std.specs.Prelude.{Err}
+use Rattle.questions.specs.declared.Refusal.{Refusal}
+use Rattle.questions.specs.Verdicts.{Verdict, verdict_of}
 use Rattle.words.specs.Words.{le}
 use Rattle.code.specs.Layout.{word_at}
 use Rattle.code.specs.Meaning.{decode, code_of}
@@ -108,10 +108,10 @@ read_of r i ops ws x e f h =
         ∙ ap (λ (n : ℕ). 4 * n) (sym (part_length r.pack.now r.operations r.size l))
 
 -- what is found of a refused workflow, and of an accepted one
-pub found_none : (p : List ℕ) (w : ℕ) (v : Verdict) (q x i : ℕ) → v ≡ verdict_of (open_refusal p w) → v ≡ Refused q x i →
+pub found_none : (p : List ℕ) (w : ℕ) (v : Verdict) (m : Refusal) → v ≡ verdict_of (open_refusal p w) → v ≡ Err m →
     record { verdict = v; operations = 0; operands = 0; size = 0 } ≡ opening_of p w
 unfolding opened_number
-found_none p w v q x i e r = go (open_refusal p w) e
+found_none p w v m e r = go (open_refusal p w) e
   where
     go : (o : Option No) → v ≡ verdict_of o →
         ◌≡◌ {A = Opening} (record { verdict = v; operations = 0; operands = 0; size = 0 })

@@ -9,7 +9,8 @@ ghost use Rattle.reader.specs.Readers.{operations_in, operands_in, Beside, Read}
 use questions::Verdict;
 
 // `operations`, `operands`: where the workflow's operation bytes and operand bytes begin in the pack; `size`: how many instructions it
-// has. Refused, all three are 0, and there is nothing to read.
+// has. Refused, all three are 0, and there is nothing to read. Stays so, a verdict beside numbers and no `Result` of them: the edits
+// `numbers_of_a_refusal` and `refused_reader_of_something` speak of a refused reader's numbers.
 #[derive(Clone, Copy)]
 pub struct Reader<'a> {
     pub pack: &'a [u8],
@@ -36,7 +37,8 @@ pub struct Instruction {
     pub word: u32,
 }
 
-// So many bytes from `start` on; the empty part where the pack has not so many.
+// So many bytes from `start` on; the empty part where the pack has not so many. Stays so, and no `get`: the edits `last_part_lost` and
+// `last_words_lost` turn just these comparisons.
 fn part_or_none(pack: &[u8], start: usize, count: usize) -> &[u8]
     ensures { result.now ≡ part_of pack.now start count }
 {
@@ -64,32 +66,23 @@ fn words_or_none(pack: &[u8], start: usize, count: usize) -> &[u8]
 fn opening_of(pack: &[u8], workflow: u32) -> Opening
     ensures { result ≡ opening_of pack.now workflow }
 {
-    let v = pack::open(pack, workflow);
-    match v {
-        Verdict::Accepted => {
+    let verdict = pack::open(pack, workflow);
+    match verdict {
+        Ok(()) => {
             let number = workflow as usize;
-            let operations = pack::operations_at(pack, number);
-            let operands = pack::operands_at(pack, number);
-            let size = pack::size_at(pack, number);
             Opening {
-                verdict: v,
-                operations,
-                operands,
-                size,
+                verdict,
+                operations: pack::operations_at(pack, number),
+                operands: pack::operands_at(pack, number),
+                size: pack::size_at(pack, number),
             }
         }
-        Verdict::Refused {
-            question: _,
-            workflow: _,
-            instruction: _,
-        } => {
-            Opening {
-                verdict: v,
-                operations: 0,
-                operands: 0,
-                size: 0,
-            }
-        }
+        Err(_) => Opening {
+            verdict,
+            operations: 0,
+            operands: 0,
+            size: 0,
+        },
     }
 }
 
@@ -138,7 +131,7 @@ pub fn operations<'a>(r: Reader<'a>) -> &'a [u8]
     part_or_none(r.pack, r.operations, r.size)
 }
 
-// Its operand bytes, likewise.
+// Its operand bytes, likewise. Stays so, beside `operations`: each is one call, on other fields; with a parameter it is no plainer.
 pub fn operands<'a>(r: Reader<'a>) -> &'a [u8]
     ensures of_any { result.now ≡ operands_in r.entry }
     ensures of_opened { Opened r.entry → result.now ≡ operands_from r.entry.pack.now r.entry.workflow }

@@ -37,6 +37,11 @@ is_through Unbooked = false
 is_through NotYet = false
 is_through (Through v) = true
 
+pub not_through : (l : Logged) → ((v : ℕ) → l ≡ Through v → ⊥) → is_through l ≡ false
+not_through Unbooked n = refl
+not_through NotYet n = refl
+not_through (Through v) n = absurd (n v refl)
+
 through_some : (p : Option Result) → is_through (by_reply p) ≡ is_some p
 through_some none = refl
 through_some (some (yields v)) = refl

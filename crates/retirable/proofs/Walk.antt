@@ -3,7 +3,7 @@ use mathlib.Core.Bool.{Bool, true, false}
 use mathlib.Core.List.{List}
 use mathlib.Core.Logic.{⊎_elim}
 use mathlib.Core.Path.{◌≡◌, refl, sym, ◌∙◌, ap}
-use Prim.Native.Nat.{ℕ, ◌+◌, ◌-◌, ◌^◌, ◌≤◌, ◌<◌}
+use Prim.Native.Nat.{ℕ, ◌+◌, ◌-◌, ◌*◌, ◌^◌, ◌≤◌, ◌<◌}
 use native.Mathlib.Nat.{eq-or-lt_of_le, sub-zero}
 use native.Mathlib.Omega.{arith}
 use borrow.Author.Tests.{lt-ltb, le-ltb, ltb-true}
@@ -15,7 +15,9 @@ use Rattle.keys.specs.Keys.{book_key, booked_id, is_workflow_key}
 use Rattle.keys.proofs.Keys.{workflow_is}
 use Rattle.rules.specs.Calls.{can_retire}
 use Rattle.rules.proofs.Retire.{all_can}
-use Rattle.store.specs.Layout.{parts_of}
+use Rattle.words.specs.Words.{le}
+use Rattle.store.specs.Layout.{parts_of, key_at}
+use Rattle.store.proofs.Bytes.{row_within, key_read}
 use Rattle.store.specs.Rows.{Row, keys_in, rows_of}
 use Rattle.store.specs.Sound.{Sound}
 use Rattle.store.specs.Questions.{member, rising}
@@ -35,6 +37,27 @@ row_member rs u i h = member_is (get_or rs i (0, 0)).0 rs ∙ ap is_some (lookup
 pub key_here : (store : List ℕ) (p i key : ℕ) → p ≡ parts_of store → key ≡ (get_or (rows_of store p) i (0, 0)).0 →
     key ≡ (get_or (book_rows store) i (0, 0)).0
 key_here store p i key ep ek = ek ∙ ap (λ q. (get_or (rows_of store q) i (0, 0)).0) ep
+
+-- a row of the book in the store's bytes: its key begins 8 bytes for each row behind the first one's
+module _ (store : List ℕ) (s : Sound store) (p n at i : ℕ) (ep : p ≡ parts_of store) (en : n ≡ length (rows_of store p)) (h : i < n)
+    (ea : at ≡ key_at store p 0) where
+  key_begins : at + 8 * i ≡ key_at store p i
+  key_begins = omega arith
+
+  pub key_inside : at + 8 * i + 8 ≤ length store
+  key_inside =
+      let within = row_within store s.formed p (omega arith) i (omega arith) in omega (arith, key_begins, within.0)
+
+  module _ (key : ℕ) (ek : key ≡ le 8 store (at + 8 * i)) where
+    pub key_there : key ≡ (get_or (rows_of store p) i (0, 0)).0
+    key_there = key_read store p i (omega arith) _ _ key_begins ek
+
+    pub key_in_book : member key (keys_in (book_rows store)) ≡ true
+    key_in_book =
+        let rows = book_rows store in
+        let many : n ≡ length rows = en ∙ ap (λ (q : ℕ). length (rows_of store q)) ep in
+        ap (λ (k : ℕ). member k (keys_in rows)) (key_here store p i key ep key_there)
+        ∙ row_member rows (rows_rise store s (parts_of store) (omega arith)) i (omega (arith, many))
 
 -- two tests of which each holds where the other does
 alike : (a b : Bool) → (a ≡ true → b ≡ true) → (b ≡ true → a ≡ true) → a ≡ b

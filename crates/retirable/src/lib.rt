@@ -29,18 +29,9 @@ fn can_retire(pack: &[u8], store: &[u8], agents: [Agent; 8], list: Worklist, id:
         result ≡ can_retire (pack_of pack.now) (state_of (record { store = store.now; records = agents; list = list })) id
         (some q) }
 {
-    if !agents::in_no_slot(agents, id) {
-        return false;
-    }
-    if worklist::is_listed(list, id) {
-        return false;
-    }
-    let known = logged::reply_logged(pack, store, id);
-    match known {
-        Logged::Through(_) => true,
-        Logged::NotYet => false,
-        Logged::Unbooked => false,
-    }
+    agents::in_no_slot(agents, id)
+        && !worklist::is_listed(list, id)
+        && matches!(logged::reply_logged(pack, store, id), Logged::Through(_))
 }
 
 // Can the request of a book row be retired? It is asked at the row of its workflow, and other rows are passed over.
@@ -75,18 +66,15 @@ pub fn all_retirable(
     let end = keys::book_key(floor, 0);
     let book = store::head::partition_count(store);
     let rows = store::head::used_count(store, book);
-    let mut key_begin = store::head::key_place(store, book, 0);
-    let mut row = 0;
-    while row < rows {
-        let key = words::read64(store, key_begin);
+    let keys_at = store::head::key_place(store, book, 0);
+    for row in 0..rows {
+        let key = words::read64(store, keys_at + 8 * row);
         if end <= key {
             return true;
         }
         if !row_retirable(pack, store, agents, list, key) {
             return false;
         }
-        key_begin += 8;
-        row += 1;
     }
     true
 }

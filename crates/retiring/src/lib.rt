@@ -21,12 +21,9 @@ fn retire_logs(store: &mut [u8], floor: u32)
     requires { Sound store.old }
     ensures { LogsFrom floor store.old store.new (parts_of store.old) }
 {
-    let parts = partition_count(store);
     let low = keys::log_key(floor, 0);
-    let mut partition = 0;
-    while partition < parts {
+    for partition in 0..partition_count(store) {
         keep_from(store, partition, low);
-        partition += 1;
     }
 }
 

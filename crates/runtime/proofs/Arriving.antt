@@ -7,8 +7,8 @@ use Prim.Native.Nat.{ℕ}
 use Rattle.meaning.specs.State.{Lent}
 use Rattle.contents.specs.Contents.{contents_of}
 use Rattle.questions.specs.Questions as Questions
-use Rattle.questions.specs.declared.Verdict.{Verdict}
-use Rattle.questions.specs.declared.Verdict.TheVariants.{Refused}
+use Rattle.questions.specs.Verdicts.{Verdict}
+use Rattle.std.specs.Prelude.{Err}
 use Rattle.rules.specs.Store.{Request, Store}
 use Rattle.rules.specs.Calls.{gives, with_slot, start, with_store}
 use Rattle.rules.specs.Calls as Calls
@@ -16,9 +16,7 @@ use Rattle.questions.proofs.Questions.{ask_none}
 use Rattle.store.specs.Rows.{store_of}
 use Rattle.store.specs.Sound as Sounds
 use Rattle.store.specs.Questions as StoreQuestions
-use Rattle.agents.specs.declared.Outcome.{Outcome}
-use Rattle.agents.specs.declared.Answer.TheVariants as Answers
-use Rattle.agents.specs.Answers.{outcome}
+use Rattle.questions.specs.declared.Refusal.{Refusal}
 use Rattle.agents.proofs.Answers.{refused_some}
 use Rattle.meaning.specs.Questions.{refusal_for}
 use Rattle.meaning.specs.Carried.{Carried}
@@ -42,12 +40,11 @@ unfolding book_refusal
 as_booked_lem s id q e = (ask_none _ _ _ e).0
 
 -- refused by 18 or 19
-pub is_unbooked : (pack : List ℕ) (lent : Lent) (store' : List ℕ) (c : Calls.Call) (r : Outcome) (id : ℕ) (q : Request) (v : Verdict) →
+pub is_unbooked : (pack : List ℕ) (lent : Lent) (store' : List ℕ) (c : Calls.Call) (id : ℕ) (q : Request) (v : Verdict) →
     Booked lent.store store' id q v → refusal_for pack lent c ≡ book_refusal (contents_of (store_of lent.store)) id q →
-    (n w i : ℕ) → v ≡ Refused n w i → r ≡ outcome (Answers.Refused n w i) lent.records →
-    Carried pack lent c r.answer (record { store = store'; records = r.agents; list = lent.list })
-is_unbooked pack lent store' c r id q v b p n w i u a =
-    let f = refused_some v _ n w i b.answer u in
-    subst (λ (x : List ℕ). Carried pack lent c r.answer (record { store = x; records = r.agents; list = lent.list }))
-    (sym (b.kept (Questions.no n w i) f))
-    (is_refused pack lent c r n w i (p ∙ f) a)
+    (n : Refusal) → v ≡ Err n → Carried pack lent c (Err n) (record { store = store'; records = lent.records; list = lent.list })
+is_unbooked pack lent store' c id q v b p n u =
+    let f = refused_some v _ n b.answer u in
+    subst (λ (x : List ℕ). Carried pack lent c (Err n) (record { store = x; records = lent.records; list = lent.list }))
+    (sym (b.kept (Questions.no n.question n.workflow n.instruction) f))
+    (is_refused pack lent c n (p ∙ f))

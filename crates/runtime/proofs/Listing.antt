@@ -19,11 +19,11 @@ use Rattle.rules.specs.Calls as Calls
 use Rattle.pack.specs.Meaning.{pack_of}
 use Rattle.store.specs.Rows.{store_of}
 use Rattle.contents.specs.Contents.{contents_of}
-use Rattle.agents.specs.declared.Answer.TheVariants.{Done, Given, Refused}
+use Rattle.std.specs.Prelude.{Ok, Err}
+use Rattle.agents.specs.declared.Accepted.TheVariants.{Done, Given}
 use Rattle.agents.specs.Answers as Answers
 use Rattle.worklist.specs.declared.Worklist.{Worklist}
-use Rattle.worklist.specs.declared.Took.{Took}
-use Rattle.worklist.specs.Worklist.{worklist_of, Kept, found_id}
+use Rattle.worklist.specs.Worklist.{worklist_of, Kept}
 use Rattle.logged.specs.declared.Logged.{Logged}
 use Rattle.logged.specs.declared.Logged.TheVariants.{Unbooked, NotYet, Through}
 use Rattle.logged.specs.Logged.{logged_by}
@@ -31,20 +31,14 @@ use Rattle.meaning.specs.State.{state_of, Lent, worked_out}
 use Rattle.meaning.specs.Questions.{first_thirteen, list_refusal, refusal_for, reply_refusal}
 use Rattle.meaning.specs.Carried.{Carried}
 use Rattle.meaning.proofs.Begun.{add_left, take_left, done_left}
-use Rattle.meaning.proofs.Carry.{carried_refused, is_listed}
-use Rattle.runtime.specs.declared.Listed.{Listed}
-use Rattle.runtime.specs.declared.Known.TheVariants as Known
+use Rattle.meaning.proofs.Carry.{is_listed}
+use Rattle.std.specs.Prelude.{Some, None}
+use Rattle.std.specs.Prelude as code
+use Rattle.store.specs.Answers.{Got}
+use Rattle.questions.proofs.Tests.{yes_no}
+use Rattle.questions.specs.Verdicts.{refusal_of}
+use Rattle.questions.specs.declared.Refusal.{Refusal}
 use Rattle.runtime.specs.Known.{known, known_in}
-
--- a no, with the worklist as it was
-pub is_unlisted : (pack : List ℕ) (lent : Lent) (c : Call) (r : Listed) (q w i : ℕ) → refusal_for pack lent c ≡ some (no q w i) →
-    r ≡ record { answer = Refused q w i; list = lent.list } →
-    Carried pack lent c r.answer (record { store = lent.store; records = lent.records; list = r.list })
-unfolding Answers.answer_of
-is_unlisted pack lent c r q w i e a =
-    subst (λ (x : Listed). Carried pack lent c x.answer (record { store = lent.store; records = lent.records; list = x.list }))
-    (sym a)
-    (carried_refused pack lent c (no q w i) (Refused q w i) e refl)
 
 module _ (pack : List ℕ) (lent : Lent) (e : list_refusal pack lent ≡ none) where
   abbrev work : Work.Worklist
@@ -64,10 +58,10 @@ module _ (pack : List ℕ) (lent : Lent) (e : list_refusal pack lent ≡ none) w
 
       pub adds : (q : Request) → (contents_of (store_of lent.store)).book id ≡ some q → (list' : Worklist) →
           Kept lent.list list' (added id work) →
-          Carried pack lent (list_add id) Done (record { store = lent.store; records = lent.records; list = list' })
+          Carried pack lent (list_add id) (Ok Done) (record { store = lent.store; records = lent.records; list = list' })
       unfolding Questions.ask Calls.rule state_of Answers.answer_of
       adds q b list' k =
-          is_listed pack lent (list_add id) Done list' (added id work) Calls.done (add_left pack lent e id ∙ rw (f, b) refl) refl refl k
+          is_listed pack lent (list_add id) (Ok Done) list' (added id work) Calls.done (add_left pack lent e id ∙ rw (f, b) refl) refl refl k
 
   -- ── take ──
 
@@ -76,10 +70,10 @@ module _ (pack : List ℕ) (lent : Lent) (e : list_refusal pack lent ≡ none) w
   take_27 f = take_left pack lent e ∙ rw f refl
 
   pub takes_one : (id : ℕ) → first_waiting work ≡ some id → (list' : Worklist) → Kept lent.list list' (took_first work) →
-      Carried pack lent list_take (Given id) (record { store = lent.store; records = lent.records; list = list' })
+      Carried pack lent list_take (Ok (Given id)) (record { store = lent.store; records = lent.records; list = list' })
   unfolding Questions.ask Calls.rule Calls.takes state_of Answers.answer_of
   takes_one id f list' k =
-      is_listed pack lent list_take (Given id) list' (took_first work) (Calls.given id) (take_left pack lent e ∙ rw f refl)
+      is_listed pack lent list_take (Ok (Given id)) list' (took_first work) (Calls.given id) (take_left pack lent e ∙ rw f refl)
       (ap (takes (state_of lent)) f) refl k
 
   -- ── done ──
@@ -102,10 +96,10 @@ module _ (pack : List ℕ) (lent : Lent) (e : list_refusal pack lent ≡ none) w
       done_not_through f = done_no (by_log false f)
 
       pub dones : is_some (worked_out pack lent.store id) ≡ true → (list' : Worklist) → Kept lent.list list' (without id work) →
-          Carried pack lent (list_done id) Done (record { store = lent.store; records = lent.records; list = list' })
+          Carried pack lent (list_done id) (Ok Done) (record { store = lent.store; records = lent.records; list = list' })
       unfolding Questions.ask Calls.rule state_of Answers.answer_of
       dones f list' k =
-          is_listed pack lent (list_done id) Done list' (without id work) Calls.done
+          is_listed pack lent (list_done id) (Ok Done) list' (without id work) Calls.done
           (done_left pack lent e id ∙ ap (λ (b : Bool). Questions.ask (number 27) b none) (by_log true f)) refl refl k
 
 -- ── what is known from book and log ──
@@ -146,15 +140,32 @@ unfolding Rules.reply_logged
 unbooked_not_through pack store id b =
     ap (λ (o : Option Request). is_some (reply_logged (pack_of pack) (contents_of (store_of store)).log id o)) b
 
+-- what the log doesn't lead through can't be worked out
+pub not_through_is : (pack store : List ℕ) (id : ℕ) (l : Logged) →
+    l ≡ logged_by ((contents_of (store_of store)).book id) (worked_out pack store id) → ((v : ℕ) → l ≡ Through v → ⊥) →
+    is_some (worked_out pack store id) ≡ false
+not_through_is pack store id (Through v) e n = absurd (n v refl)
+not_through_is pack store id NotYet e n = ap (λ (o : Option Result). is_some o) (not_yet_is pack store id NotYet e refl).0
+not_through_is pack store id Unbooked e n = unbooked_not_through pack store id (unbooked_is pack store id Unbooked e refl)
+
+-- what the code found, by the test of it
+pub nothing_there : (g : Got) → code.is_some g ≡ false → g ≡ None
+nothing_there None e = refl
+nothing_there (Some w) e = yes_no e
+
+pub something_there : (g : Got) → code.is_some g ≡ true → (w : ℕ) × (g ≡ Some w)
+something_there None e = yes_no (sym e)
+something_there (Some w) e = (w, refl)
+
 -- ── the reading of a reply ──
 
 module _ (pack store : List ℕ) (id : ℕ) where
-  pub read_refused : (q w i : ℕ) → first_thirteen pack store ≡ some (no q w i) → Known.Refused q w i ≡ known_in pack store id
+  pub read_refused : (n : Refusal) → first_thirteen pack store ≡ some (no n.question n.workflow n.instruction) → Err n ≡ known_in pack store id
   unfolding reply_refusal Questions.or_else
-  read_refused q w i e = rw e refl
+  read_refused n e = rw e refl
 
   module _ (e : first_thirteen pack store ≡ none) where
-    pub read_20 : (contents_of (store_of store)).book id ≡ none → Known.Refused 20 0 0 ≡ known_in pack store id
+    pub read_20 : (contents_of (store_of store)).book id ≡ none → Err (refusal_of (number 20)) ≡ known_in pack store id
     unfolding reply_refusal Questions.or_else Questions.ask
     read_20 b = rw (e, b) refl
 
@@ -163,17 +174,9 @@ module _ (pack store : List ℕ) (id : ℕ) where
     read_yes b = rw (e, b) refl
 
     pub read_not_yet : (worked_out pack store id ≡ none) × (is_some ((contents_of (store_of store)).book id) ≡ true) →
-        Known.NotYet ≡ known_in pack store id
+        Ok None ≡ known_in pack store id
     read_not_yet h = sym (ap₂ known (read_yes h.1) h.0)
 
     pub read_reply : (v : ℕ) → (worked_out pack store id ≡ some (yields v)) × (is_some ((contents_of (store_of store)).book id) ≡ true) →
-        Known.Reply v ≡ known_in pack store id
+        Ok (Some v) ≡ known_in pack store id
     read_reply v h = sym (ap₂ known (read_yes h.1) h.0)
-
--- ── what a take found ──
-
-pub found_some : (t : Took) → t.found ≡ true → found_id t ≡ some t.id
-found_some t e = rw e refl
-
-pub found_none : (t : Took) → t.found ≡ false → found_id t ≡ none
-found_none t e = rw e refl

@@ -13,21 +13,15 @@ use Rattle.rules.specs.Calls.{Call, retire, can_retire}
 use Rattle.rules.specs.Calls as Calls
 use Rattle.pack.specs.Meaning.{pack_of}
 use Rattle.contents.specs.Wrote.{Wrote}
-use Rattle.agents.specs.declared.Answer.{Answer}
-use Rattle.agents.specs.declared.Answer.TheVariants.{Done, Refused}
+use Rattle.agents.specs.Answers.{Answer}
+use Rattle.std.specs.Prelude.{Ok, Err}
+use Rattle.agents.specs.declared.Accepted.TheVariants.{Done}
 use Rattle.agents.specs.Answers as Answers
 use Rattle.meaning.specs.State.{state_of, Lent}
 use Rattle.meaning.specs.Questions.{list_refusal, refusal_for}
 use Rattle.meaning.specs.Carried.{Carried}
 use Rattle.meaning.proofs.Begun.{retire_left}
-use Rattle.meaning.proofs.Carry.{carried_refused, is_stored}
-
--- a no, with everything as it was
-pub is_no : (pack : List ℕ) (lent : Lent) (c : Call) (r : Answer) (q w i : ℕ) → refusal_for pack lent c ≡ some (no q w i) →
-    r ≡ Refused q w i → Carried pack lent c r lent
-unfolding Answers.answer_of
-is_no pack lent c r q w i e a =
-    subst (λ (x : Answer). Carried pack lent c x lent) (sym a) (carried_refused pack lent c (no q w i) (Refused q w i) e refl)
+use Rattle.meaning.proofs.Carry.{is_stored}
 
 module _ (pack : List ℕ) (lent : Lent) (e : list_refusal pack lent ≡ none) (floor : ℕ) where
   -- what 28 and 29 ask
@@ -47,8 +41,8 @@ module _ (pack : List ℕ) (lent : Lent) (e : list_refusal pack lent ≡ none) (
     retire_29 g = retire_left pack lent e floor ∙ rw (f, g) refl
 
     pub retires : some_booked ≡ true → (store' : List ℕ) → Wrote lent.store store' (retired (state_of lent).store floor) →
-        Carried pack lent (retire floor) Done (record { store = store'; records = lent.records; list = lent.list })
+        Carried pack lent (retire floor) (Ok Done) (record { store = store'; records = lent.records; list = lent.list })
     unfolding Questions.ask Calls.rule Answers.answer_of
     retires g store' w =
-        is_stored pack lent (retire floor) Done store' (retired (state_of lent).store floor) Calls.done
+        is_stored pack lent (retire floor) (Ok Done) store' (retired (state_of lent).store floor) Calls.done
         (retire_left pack lent e floor ∙ rw (f, g) refl) refl refl w

@@ -1,9 +1,10 @@
 -- The questions behind 16, one by one, with the tests in hand.
-use mathlib.Core.Bool.{not}
+use mathlib.Core.Bool.{true, false, not}
 use mathlib.Core.Option.{Option, none, some}
-use mathlib.Core.Path.{◌≡◌, refl, ap}
+use mathlib.Core.Path.{◌≡◌, refl, sym, ◌∙◌, ap}
 use Prim.Native.Nat.{ℕ, ◌≤◌, ◌<◌}
-use borrow.Author.Tests.{lt-ltb, le-ltb, lt-leb, le-leb, eq-eqb, ne_eqb}
+use borrow.Author.Tests.{lt-ltb, le-ltb, lt-leb, le-leb, eq-eqb, ne_eqb, eqb-true, not-false}
+use Rattle.questions.proofs.Tests.{no_yes}
 use lib.Dec.{eqb, ltb, leb}
 use Rattle.questions.specs.Basics.{is_some}
 use Rattle.questions.specs.Questions.{No, number, ask}
@@ -29,6 +30,13 @@ unfolding Calls.rule Calls.again
 again_known pack s slot id q b = ap (again s slot id) b
 
 -- ── arrival: 24, 30 and 17, and then those of the booking ──
+
+-- the test that an id is another than 0
+pub zero : (id : ℕ) → not (eqb id 0) ≡ false → id ≡ 0
+zero id e = eqb-true id 0 (not-false _ e)
+
+pub not_zero : (id : ℕ) → not (eqb id 0) ≡ true → id ≡ 0 → ⊥
+not_zero id e z = no_yes (sym (ap not (eq-eqb id 0 z)) ∙ e)
 
 module _ (id floor w m : ℕ) (rest : Option No) where
   abbrev behind_16 : Option No

@@ -18,10 +18,9 @@ use Rattle.questions.proofs.Each.{each_at}
 use Rattle.pack.specs.Meaning.{pack_of}
 use Rattle.store.specs.Rows.{store_of}
 use Rattle.agents.specs.declared.Agent.{Agent}
-use Rattle.agents.specs.declared.Answer.TheVariants.{Refused}
-use Rattle.agents.specs.declared.Outcome.{Outcome}
+use Rattle.questions.specs.Verdicts.{refusal_of}
 use Rattle.agents.specs.Slots.{agent_at, held, agent_of, slots_of, Tidy}
-use Rattle.agents.specs.Answers.{answer_of, outcome}
+use Rattle.agents.specs.Answers.{Answer, answer_of}
 use Rattle.agents.proofs.Slots.{slot_held, agent_back}
 use Rattle.meaning.specs.State.{state_of, Lent}
 use Rattle.meaning.specs.Questions.{slot_right, question14, lent_refusal, first_sixteen, refusal_for}
@@ -70,26 +69,28 @@ module _ (pack : List ℕ) (lent : Lent) (slot : ℕ) (e : first_sixteen pack le
       turn_left pack lent slot e
       ∙ ap (λ (t : Bool). ask (number 21) t none) (ap (can_turn (pack_of pack) (contents_of (store_of lent.store))) there ∙ y)
 
-  pub is_turned : Tidy lent.records → (store' : List ℕ) (r : Turned) (o : Outcome) → TurnedBy pack lent.store a r store' →
-      o ≡ outcome r.answer (set lent.records slot r.agent) →
-      Carried pack lent (Calls.turn slot) o.answer (record { store = store'; records = o.agents; list = lent.list })
+  pub is_turned : Tidy lent.records → (store' : List ℕ) (r : Turned) (records' : List Agent) → TurnedBy pack lent.store a r store' →
+      records' ≡ set lent.records slot r.agent →
+      Carried pack lent (Calls.turn slot) r.answer (record { store = store'; records = records'; list = lent.list })
   unfolding Calls.rule state_of answer_of Questions.ask
-  is_turned tidy store' r o t p = go (can_turn (pack_of pack) (contents_of (store_of lent.store)) (some (held a))) refl
+  is_turned tidy store' r records' t p = go (can_turn (pack_of pack) (contents_of (store_of lent.store)) (some (held a))) refl
     where
       go : (b : Bool) → can_turn (pack_of pack) (contents_of (store_of lent.store)) (some (held a)) ≡ b →
-          Carried pack lent (Calls.turn slot) o.answer (record { store = store'; records = o.agents; list = lent.list })
+          Carried pack lent (Calls.turn slot) r.answer (record { store = store'; records = records'; list = lent.list })
       go true y =
-          is_done pack lent store' o.agents (Calls.turn slot) o.answer slot (agent_of r.agent)
+          is_done pack lent store' records' (Calls.turn slot) r.answer slot (agent_of r.agent)
           (contents_of (store_of store')) (answer_of r.answer)
           tidy (begun_below pack lent slot true e) (may true y)
           (ap (turn_in (pack_of pack) (state_of lent) slot) there ∙ t.turned y (state_of lent) slot)
-          t.written (ap (λ (x : Outcome). answer_of x.answer) p)
-          (ap (λ (x : Outcome). x.agents) p ∙ ap (set lent.records slot) (sym (agent_back r.agent t.whole)))
+          t.written refl
+          (p ∙ ap (set lent.records slot) (sym (agent_back r.agent t.whole)))
       go false n =
           let f = t.refused n in
-          let q : o ≡ outcome (Refused 21 0 0) lent.records =
-          p ∙ ap (λ (x : Turned). outcome x.answer (set lent.records slot x.agent)) f.0
-          ∙ ap (outcome (Refused 21 0 0)) (set-get_or lent.records slot past) in
-          subst (λ (x : List ℕ). Carried pack lent (Calls.turn slot) o.answer
-          (record { store = x; records = o.agents; list = lent.list })) (sym f.1)
-          (is_refused pack lent (Calls.turn slot) o 21 0 0 (may false n) q)
+          let q : records' ≡ lent.records =
+          p ∙ ap (λ (x : Turned). set lent.records slot x.agent) f.0 ∙ set-get_or lent.records slot past in
+          subst (λ (x : List ℕ). Carried pack lent (Calls.turn slot) r.answer
+          (record { store = x; records = records'; list = lent.list })) (sym f.1)
+          (subst (λ (x : List Agent). Carried pack lent (Calls.turn slot) r.answer
+          (record { store = lent.store; records = x; list = lent.list })) (sym q)
+          (subst (λ (x : Answer). Carried pack lent (Calls.turn slot) x lent) (sym (ap (λ (x : Turned). x.answer) f.0))
+          (is_refused pack lent (Calls.turn slot) (refusal_of (number 21)) (may false n))))

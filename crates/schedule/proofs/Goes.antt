@@ -12,10 +12,11 @@ use lib.Dec.{leb}
 use lib.ListN.{length, take, drop, replicate}
 use lib.Seq.{take_at, drop_at}
 use Rattle.questions.specs.Questions.{No, ask}
-use Rattle.questions.specs.Verdicts.{verdict_of}
+use Rattle.questions.specs.Verdicts.{verdict_of, refusal_of}
+use Rattle.questions.specs.declared.Refusal.{Refusal}
 use Rattle.rules.specs.Plain.{Event}
-use Rattle.questions.specs.declared.Verdict.{Verdict}
-use Rattle.questions.specs.declared.Verdict.TheVariants.{Accepted, Refused}
+use Rattle.questions.specs.Verdicts.{Verdict}
+use Rattle.std.specs.Prelude.{Ok, Err}
 use Rattle.questions.proofs.Questions.{ask_none, or_else_none}
 use Rattle.questions.proofs.Tests.{and_right}
 use Rattle.store.specs.Layout.{parts_of, cap_of, store_length}
@@ -24,7 +25,7 @@ use Rattle.store.specs.Created.{Created}
 use Rattle.store.specs.Sound.{Sound}
 use Rattle.store.proofs.Sound.{store_ok, numbers_mean}
 use Rattle.agents.specs.declared.Agent.{Agent}
-use Rattle.agents.specs.declared.Answer.{Answer}
+use Rattle.agents.specs.Answers.{Answer}
 use Rattle.agents.specs.Slots.{no_agent}
 use Rattle.agents.specs.Answers.{answer_of}
 use Rattle.text.specs.Text.{Appended}
@@ -53,7 +54,7 @@ allowed p s h =
     let u = ask_none _ _ _ t.1 in
     record { laid = laid s q.0; events = t.0; numbers = and_right (leb 3 (length s)) _ u.0 }
 
-verdict_none : (o : Option No) → Accepted ≡ verdict_of o → o ≡ none
+verdict_none : (o : Option No) → Ok tt ≡ verdict_of o → o ≡ none
 verdict_none none e = refl
 verdict_none (some n) e = let z : ◌≡◌ {A = ℕ} 0 1 = cc in absurd (omega arith)
 
@@ -66,10 +67,10 @@ fresh_chain pack s xs ys P C v p q h l c =
     begins xs ys (accepted (parts_of s) (cap_of s)
     (subst (λ (k : ℕ). Created xs ys (parts_of s) k v) q (subst (λ (k : ℕ). Created xs ys k C v) p c)))
   where
-    accepts : verdict_of (create_refusal (parts_of s) (cap_of s) (length xs)) ≡ Accepted
+    accepts : verdict_of (create_refusal (parts_of s) (cap_of s) (length xs)) ≡ Ok tt
     accepts = rw (h.numbers, eq-eqb (length xs) (store_length (parts_of s) (cap_of s)) l) refl
 
-    accepted : (P C : ℕ) → Created xs ys (parts_of s) (cap_of s) v → Created xs ys (parts_of s) (cap_of s) Accepted
+    accepted : (P C : ℕ) → Created xs ys (parts_of s) (cap_of s) v → Created xs ys (parts_of s) (cap_of s) (Ok tt)
     accepted P C c = subst (λ (x : Verdict). Created xs ys (parts_of s) (cap_of s) x) (c.answer ∙ accepts) c
 
 -- the longest store
@@ -173,24 +174,23 @@ on_first pack s store lent text size e l w =
     }
 
 module _ (p s : List ℕ) (v : Verdict) (said : v ≡ verdict_of (schedule_refusal p s)) where
-  pub none_said : v ≡ Accepted → schedule_refusal p s ≡ none
+  pub none_said : v ≡ Ok tt → schedule_refusal p s ≡ none
   none_said e = verdict_none _ (sym e ∙ said)
 
-  pub printed_run : (lent lent' text : List ℕ) → v ≡ Accepted → WholeRun p s lent lent' text → Printed p s lent lent' text
+  pub printed_run : (lent lent' text : List ℕ) → v ≡ Ok tt → WholeRun p s lent lent' text → Printed p s lent lent' text
   printed_run lent lent' text e r =
       record {
         refused = λ n q. let f = none_said e in let z : ◌≡◌ {A = ℕ} 0 1 = cc in absurd (omega arith);
         run = λ q. r;
       }
 
-  pub printed_refused : (lent out out' : List ℕ) (r question workflow instruction : ℕ) → v ≡ Refused question workflow instruction →
-      Appended out 0 (refused_line question) out' r
+  pub printed_refused : (lent out out' : List ℕ) (r : ℕ) (n : Refusal) → v ≡ Err n → Appended out 0 (refused_line n.question) out' r
       → Printed p s lent lent (take r out')
-  printed_refused lent out out' r question workflow instruction e a =
+  printed_refused lent out out' r n e a =
       record {
-        refused = λ n q. let z : Refused question workflow instruction ≡ Refused n.question n.workflow n.instruction =
-            sym e ∙ said ∙ ap verdict_of q in
-            let f : n.question ≡ question = cc in (a.says ∙ ap refused_line (sym f), refl);
-        run = λ q. let y : Refused question workflow instruction ≡ Accepted = sym e ∙ said ∙ ap verdict_of q in let z : ◌≡◌ {A = ℕ} 0 1 =
+        refused = λ m q. let z : ◌≡◌ {A = Verdict} (Err n) (Err (refusal_of m)) = sym e ∙ said ∙ ap verdict_of q in
+            let f : n ≡ refusal_of m = cc in
+            (a.says ∙ ap (λ (x : Refusal). refused_line x.question) f, refl);
+        run = λ q. let y : ◌≡◌ {A = Verdict} (Err n) (Ok tt) = sym e ∙ said ∙ ap verdict_of q in let z : ◌≡◌ {A = ℕ} 0 1 =
             cc in absurd (omega arith);
       }

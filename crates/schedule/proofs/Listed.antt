@@ -11,10 +11,9 @@ use Rattle.words.specs.Words.{le}
 use Rattle.rules.specs.Calls.{Call, arrival, retry, turn, crash, restart}
 use Rattle.questions.proofs.Each.{each_at}
 use Rattle.agents.specs.declared.Agent.{Agent}
-use Rattle.agents.specs.declared.Answer.{Answer}
-use Rattle.agents.specs.declared.Answer.TheVariants.{Done}
-use Rattle.agents.specs.declared.Outcome.{Outcome}
-use Rattle.agents.specs.Answers.{outcome}
+use Rattle.agents.specs.Answers.{Answer}
+use Rattle.std.specs.Prelude.{Ok}
+use Rattle.agents.specs.declared.Accepted.TheVariants.{Done}
 use Rattle.rules.specs.Calls as Calls
 use Rattle.rules.specs.Worklist as Work
 use Rattle.questions.specs.Questions as Questions
@@ -42,29 +41,26 @@ same_call {pack} {store} {records} {answer} {records'} {store'} c c' e h =
 
 -- a restart of an empty worklist leaves it empty
 module _ (pack store : List ℕ) (records records' : List Agent) (list' : Worklist)
-    (h : Carried pack (record { store = store; records = records; list = no_worklist }) restart Done
+    (h : Carried pack (record { store = store; records = records; list = no_worklist }) restart (Ok Done)
     (record { store = store; records = records'; list = list' })) where
   still_empty : list' ≡ no_worklist
   unfolding refusal_for lent_for Calls.refusal Calls.rule state_of Work.restarted Work.list_right Worklists.entries_of Questions.or_else
   still_empty = kept_none list' (h.carried refl).1.list
 
-  pub restarts_empty : (o : Outcome) → o ≡ outcome Done records' →
-      Carried pack (record { store = store; records = records; list = no_worklist }) restart o.answer
-      (record { store = store; records = o.agents; list = no_worklist })
-  restarts_empty o e =
-      subst (λ (x : Outcome). Carried pack (record { store = store; records = records; list = no_worklist }) restart x.answer
-      (record { store = store; records = x.agents; list = no_worklist })) (sym e)
-      (subst (λ (l : Worklist). Carried pack (record { store = store; records = records; list = no_worklist }) restart Done
-      (record { store = store; records = records'; list = l })) still_empty h)
+  pub restarts_empty : Carried pack (record { store = store; records = records; list = no_worklist }) restart (Ok Done)
+      (record { store = store; records = records'; list = no_worklist })
+  restarts_empty =
+      subst (λ (l : Worklist). Carried pack (record { store = store; records = records; list = no_worklist }) restart (Ok Done)
+      (record { store = store; records = records'; list = l })) still_empty h
 
 -- the list that is lent to it is the empty one
 pub restarted_from : (pack store : List ℕ) (records : List Agent) (list : Worklist) → list ≡ no_worklist → {records' : List Agent}
-    {list' : Worklist} → Carried pack (record { store = store; records = records; list = list }) restart Done
+    {list' : Worklist} → Carried pack (record { store = store; records = records; list = list }) restart (Ok Done)
     (record { store = store; records = records'; list = list' }) →
-    Carried pack (record { store = store; records = records; list = no_worklist }) restart Done
+    Carried pack (record { store = store; records = records; list = no_worklist }) restart (Ok Done)
     (record { store = store; records = records'; list = list' })
 restarted_from pack store records list e {records'} {list'} h =
-    subst (λ (l : Worklist). Carried pack (record { store = store; records = records; list = l }) restart Done
+    subst (λ (l : Worklist). Carried pack (record { store = store; records = records; list = l }) restart (Ok Done)
     (record { store = store; records = records'; list = list' })) e h
 
 -- the words of a request

@@ -7,22 +7,22 @@ ghost use Rattle.schedule_check.specs.Layout.{request_count, event_count, reques
 ghost use Rattle.schedule_check.specs.Questions.{ScheduleLaid, Allowed, event_right};
 ghost use Rattle.schedule.specs.Events.{call_of, call_at};
 
-use agents::{Agent, Outcome, Request};
+use agents::{Accepted, Agent, Answer, Request};
 
 // The arrival of a request.
 fn arrival_of(
     pack: &[u8],
     schedule: &[u8],
     store: &mut [u8],
-    agents: [Agent; 8],
+    agents: &mut [Agent; 8],
     slot: usize,
     request: usize,
-) -> Outcome
+) -> Answer
     requires { ScheduleLaid schedule.now × (request < request_count schedule.now) }
-    ensures { Carried pack.now (record { store = store.old; records = agents; list = no_worklist })
+    ensures { Carried pack.now (record { store = store.old; records = agents.old; list = no_worklist })
         (Call.arrival slot (request_id schedule.now request) (request_workflow schedule.now request)
         (request_arguments schedule.now request))
-        result.answer (record { store = store.new; records = result.agents; list = no_worklist }) }
+        result (record { store = store.new; records = agents.new; list = no_worklist }) }
 {
     let from = 6 + 24 * request;
     let id = words::read32(schedule, from);
@@ -41,14 +41,14 @@ fn retry_of(
     pack: &[u8],
     schedule: &[u8],
     store: &[u8],
-    agents: [Agent; 8],
+    agents: &mut [Agent; 8],
     slot: usize,
     request: usize,
-) -> Outcome
+) -> Answer
     requires { ScheduleLaid schedule.now × (request < request_count schedule.now) }
-    ensures { Carried pack.now (record { store = store.now; records = agents; list = no_worklist })
+    ensures { Carried pack.now (record { store = store.now; records = agents.old; list = no_worklist })
         (Call.retry slot (request_id schedule.now request))
-        result.answer (record { store = store.now; records = result.agents; list = no_worklist }) }
+        result (record { store = store.now; records = agents.new; list = no_worklist }) }
 {
     let id = words::read32(schedule, 6 + 24 * request);
     runtime::retry(pack, store, agents, slot, id)
@@ -59,31 +59,26 @@ fn call_of(
     pack: &[u8],
     schedule: &[u8],
     store: &mut [u8],
-    agents: [Agent; 8],
+    agents: &mut [Agent; 8],
     kind: u8,
     slot: usize,
     request: u8,
-) -> Outcome
+) -> Answer
     requires { ScheduleLaid schedule.now × (event_right (request_count schedule.now) kind request ≡ true) }
-    ensures { Carried pack.now (record { store = store.old; records = agents; list = no_worklist })
+    ensures { Carried pack.now (record { store = store.old; records = agents.old; list = no_worklist })
         (call_of schedule.now kind slot request)
-        result.answer (record { store = store.new; records = result.agents; list = no_worklist }) }
+        result (record { store = store.new; records = agents.new; list = no_worklist }) }
 {
-    if kind == 0 {
-        return arrival_of(pack, schedule, store, agents, slot, request as usize);
+    match kind {
+        0 => arrival_of(pack, schedule, store, agents, slot, request as usize),
+        1 => runtime::turn(pack, store, agents, slot),
+        2 => runtime::crash(pack, store, agents, slot),
+        3 => retry_of(pack, schedule, store, agents, slot, request as usize),
+        _ => {
+            runtime::restart(agents, &mut worklist::no_worklist());
+            Ok(Accepted::Done)
+        }
     }
-    if kind == 1 {
-        return runtime::turn(pack, store, agents, slot);
-    }
-    if kind == 2 {
-        return runtime::crash(pack, store, agents, slot);
-    }
-    if kind == 3 {
-        return retry_of(pack, schedule, store, agents, slot, request as usize);
-    }
-    let r = runtime::restart(worklist::no_worklist());
-    let slots = r.agents;
-    agents::done(slots)
 }
 
 // The call of an event, by its number.
@@ -91,13 +86,13 @@ pub fn call_event(
     pack: &[u8],
     schedule: &[u8],
     store: &mut [u8],
-    agents: [Agent; 8],
+    agents: &mut [Agent; 8],
     event: usize,
-) -> Outcome
+) -> Answer
     requires { Allowed schedule.now × (event < event_count schedule.now) }
-    ensures { Carried pack.now (record { store = store.old; records = agents; list = no_worklist })
+    ensures { Carried pack.now (record { store = store.old; records = agents.old; list = no_worklist })
         (call_at schedule.now event)
-        result.answer (record { store = store.new; records = result.agents; list = no_worklist }) }
+        result (record { store = store.new; records = agents.new; list = no_worklist }) }
 {
     let kinds = 6 + 24 * schedule[3] as usize;
     let events = words::read16(schedule, 4) as usize;

@@ -9,7 +9,6 @@ ghost use Rattle.schedule.specs.Run.{RunPrints, store_size, WholeRun, Printed};
 ghost use Rattle.schedule.specs.Going.{Went};
 
 use crate::calls::call_event;
-use questions::Verdict;
 use schedule_check::check_schedule;
 
 // Makes the calls of all events, and prints their answers.
@@ -30,13 +29,9 @@ fn run_events(
     let events = words::read16(schedule, 4) as usize;
     let mut agents = agents::no_agents();
     let mut written = written;
-    let mut event = 0;
-    while event < events {
-        let o = call_event(pack, schedule, store, agents, event);
-        agents = o.agents;
-        let answer = o.answer;
+    for event in 0..events {
+        let answer = call_event(pack, schedule, store, &mut agents, event);
         written = lines::answer_line(out, written, event as u64, answer);
-        event += 1;
     }
     written
 }
@@ -50,7 +45,8 @@ fn run_on(pack: &[u8], schedule: &[u8], store: &mut [u8], out: &mut [u8]) -> usi
     let events = words::read16(schedule, 4) as u64;
     let partitions = store::head::partition_count(schedule);
     let cap = store::head::capacity(schedule);
-    store_write::create::create(store, partitions, cap);
+    // The schedule was checked, so this is no refusal.
+    let _ = store_write::create::create(store, partitions, cap);
     let written = lines::events_line(out, 0, events);
     let written = run_events(pack, schedule, store, out, written);
     listing::print_store(store, out, written)
@@ -70,34 +66,16 @@ fn run_in(pack: &[u8], schedule: &[u8], store: &mut [u8], out: &mut [u8]) -> usi
     run_on(pack, schedule, &mut store[..size], out)
 }
 
-// The longest store, 3 + 2 × 9 + 12 × 256 × 9.
-pub fn store_buffer() -> [u8; 27_669]
-    ensures { 27669 ≡ length result }
-{
-    [0; 27_669]
-}
-
-// Room for all that a run can print.
-pub fn text_buffer() -> [u8; 524_288]
-    ensures { 524288 ≡ length result }
-{
-    [0; 524_288]
-}
-
 // What the program prints: its first bytes in `out`, as many as it answers; behind them `out` is as it was. The store that is left stands
-// in the first bytes of `store`. No bytes of pack and schedule are taken for granted.
+// in the first bytes of `store`, which has room for the longest, 3 + 2 × 9 + 12 × 256 × 9. `out` has room for all that a run can print. No
+// bytes of pack and schedule are taken for granted.
 pub fn run(pack: &[u8], schedule: &[u8], store: &mut [u8; 27_669], out: &mut [u8; 524_288]) -> usize
     ensures { Printed pack.now schedule.now store.old store.new
         (take result out.new)
         × (result ≤ length out.new) × (drop result out.new ≡ drop result out.old) }
 {
-    let v = check_schedule(pack, schedule);
-    match v {
-        Verdict::Accepted => run_in(pack, schedule, store, out),
-        Verdict::Refused {
-            question,
-            workflow,
-            instruction,
-        } => lines::refused_line(out, 0, question),
+    match check_schedule(pack, schedule) {
+        Ok(()) => run_in(pack, schedule, store, out),
+        Err(no) => lines::refused_line(out, 0, no.question),
     }
 }

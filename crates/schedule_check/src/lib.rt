@@ -3,27 +3,31 @@
 
 ghost use Rattle.std.specs.Prelude.{◌≡◌};
 ghost use Rattle.questions.specs.Verdicts.{verdict_of};
+ghost use Rattle.store.specs.Questions.{question9};
 ghost use Rattle.schedule_check.specs.Questions.{event_right, ScheduleLaid, question22, question23, bytes_refusal, schedule_refusal};
 
-use questions::Verdict;
+use questions::{Verdict, ask};
+use store::head::{capacity, partition_count};
 
-// Is an event's kind at most 4, and its index right for it, in a schedule of `requests` requests?
+// The limits of question 22.
+const MOST_REQUESTS: usize = 64;
+
+const MOST_EVENTS: usize = 1024;
+
+// Is an event's kind at most 4, and its index right for it, in a schedule of `requests` requests? An arrival and a retry name a request.
+#[tactic(auto, unfolding(crate::specs::Questions::event_right))]
 fn event_right(requests: u8, kind: u8, index: u8) -> bool
     ensures { result ≡ event_right requests kind index }
 {
-    if 4 < kind {
-        return false;
+    match kind {
+        0 | 3 => index < requests,
+        1 | 2 | 4 => index == 0,
+        _ => false,
     }
-    if kind == 0 {
-        return index < requests;
-    }
-    if kind == 3 {
-        return index < requests;
-    }
-    index == 0
 }
 
 // Question 22.
+#[tactic(auto, using(crate::proofs::Steps::laid_as))]
 fn length_right(schedule: &[u8]) -> bool
     ensures { result ≡ question22 schedule.now }
 {
@@ -32,10 +36,7 @@ fn length_right(schedule: &[u8]) -> bool
     }
     let requests = schedule[3] as usize;
     let events = words::read16(schedule, 4) as usize;
-    if 64 < requests {
-        return false;
-    }
-    if 1024 < events {
+    if MOST_REQUESTS < requests || MOST_EVENTS < events {
         return false;
     }
     schedule.len() == 6 + 24 * requests + 2 * events
@@ -50,50 +51,36 @@ fn events_right(schedule: &[u8]) -> bool
     let events = words::read16(schedule, 4) as usize;
     let kinds = 6 + 24 * requests as usize;
     let indexes = kinds + events;
-    let mut event = 0;
-    while event < events {
-        if !event_right(
-            requests,
-            schedule[kinds + event] >> 4,
-            schedule[indexes + event],
-        ) {
-            return false;
-        }
-        event += 1;
-    }
-    true
+    (0..events).all(|event| event_right(
+        requests,
+        schedule[kinds + event] >> 4,
+        schedule[indexes + event],
+    ))
+}
+
+// Question 9, of the schedule's P and C.
+fn numbers_right(schedule: &[u8]) -> bool
+    requires { ScheduleLaid schedule.now }
+    ensures { result ≡ question9 schedule.now }
+{
+    store::head::numbers_right(partition_count(schedule), capacity(schedule))
 }
 
 // Questions 22, 23 and 9 of a schedule.
+#[tactic(auto, unfolding(crate::specs::Questions::bytes_refusal, questions::specs::Questions::ask))]
 fn check_bytes(schedule: &[u8]) -> Verdict
     ensures { result ≡ verdict_of (bytes_refusal schedule.now) }
 {
-    if !length_right(schedule) {
-        return questions::refused(22, 0, 0);
-    }
-    if !events_right(schedule) {
-        return questions::refused(23, 0, 0);
-    }
-    if !store::head::numbers_right(
-        store::head::partition_count(schedule),
-        store::head::capacity(schedule),
-    ) {
-        return questions::refused(9, 0, 0);
-    }
-    questions::accepted()
+    ask(22, length_right(schedule))?;
+    ask(23, events_right(schedule))?;
+    ask(9, numbers_right(schedule))
 }
 
 // 1 to 8 to the pack, then 22, 23 and 9: the first no.
+#[tactic(auto, unfolding(crate::specs::Questions::schedule_refusal, questions::specs::Questions::or_else))]
 pub fn check_schedule(pack: &[u8], schedule: &[u8]) -> Verdict
     ensures { result ≡ verdict_of (schedule_refusal pack.now schedule.now) }
 {
-    let v = pack::check(pack);
-    match v {
-        Verdict::Accepted => check_bytes(schedule),
-        Verdict::Refused {
-            question,
-            workflow,
-            instruction,
-        } => questions::refused(question, workflow, instruction),
-    }
+    pack::check(pack)?;
+    check_bytes(schedule)
 }

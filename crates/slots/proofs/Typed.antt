@@ -1,7 +1,7 @@
 -- What the type of a record says of its words: there are twelve, each below 2 ^ 32, and position and step number are below 2 ^ 16.
 use mathlib.Core.Bool.{Bool, true, false}
 use mathlib.Core.Path.{◌≡◌, ap}
-use mathlib.Core.List.{List, [], ◌∷◌, map}
+use mathlib.Core.List.{List, [], ◌∷◌}
 use Prim.Native.Nat.{ℕ, zero, suc, ◌<◌, ◌^◌}
 use native.Mathlib.Omega.{arith}
 use mir.Val.{Val}

@@ -87,10 +87,8 @@ pub fn write_eight(bytes: &mut [u8], first: usize, eight: [u32; 8])
     requires { first + 32 ≤ length bytes.old }
     ensures { bytes.new ≡ puts 4 bytes.old first eight 8 }
 {
-    let mut i = 0;
-    while i < 8 {
-        words::write32(bytes, first + i * 4, eight[i]);
-        i += 1;
+    for (i, word) in eight.iter().enumerate() {
+        words::write32(bytes, first + i * 4, *word);
     }
 }
 
@@ -114,9 +112,7 @@ pub fn write_slots(bytes: &mut [u8], slots: [Agent; 8])
     ensures bytes_after { bytes.new ≡ with_slots bytes.old slots }
     ensures read_back { slots_in bytes.new ≡ slots }
 {
-    let mut slot = 0;
-    while slot < 8 {
-        write_record(bytes, slot, slots[slot]);
-        slot += 1;
+    for (slot, agent) in slots.iter().enumerate() {
+        write_record(bytes, slot, *agent);
     }
 }

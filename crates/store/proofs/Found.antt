@@ -13,36 +13,36 @@ use Rattle.questions.proofs.Tests.{and_left, and_right}
 use Rattle.store.specs.Rows.{Row, keys_in, index_of, rank_of, first_has}
 use Rattle.store.specs.Questions.{member, ahead, rising}
 use Rattle.store.specs.Answers.{smaller, found_in, up_to, Searched, ended_at, rows_found}
-use Rattle.store.specs.declared.rows.Found.{Found}
-use Rattle.store.specs.declared.rows.Found.TheVariants.{At, Belongs}
+use Rattle.store.specs.Answers.{Found}
+use Rattle.std.specs.Prelude.{Ok, Err}
 
 -- an answer n places further on
 unfoldable pub shift : (n : ℕ) → Found → Found
-shift n (At i) = At (n + i)
-shift n (Belongs i) = Belongs (n + i)
+shift n (Ok i) = Ok (n + i)
+shift n (Err i) = Err (n + i)
 
 -- what the search comes to: each smaller key is passed, and the first other one decides
 unfoldable pub sought : (k : ℕ) → List ℕ → Found
-sought k [] = Belongs 0
-sought k (x ∷ ks) = if ltb x k then shift 1 (sought k ks) otherwise (if eqb x k then At 0 otherwise Belongs 0)
+sought k [] = Err 0
+sought k (x ∷ ks) = if ltb x k then shift 1 (sought k ks) otherwise (if eqb x k then Ok 0 otherwise Err 0)
 
 pub shift_none : (f : Found) → shift 0 f ≡ f
 unfolding shift
-shift_none (At i) = ap At (omega arith)
-shift_none (Belongs i) = ap Belongs (omega arith)
+shift_none (Ok i) = ap Ok (omega arith)
+shift_none (Err i) = ap Err (omega arith)
 
-pub shift_at : (n : ℕ) → shift n (At 0) ≡ At n
+pub shift_at : (n : ℕ) → shift n (Ok 0) ≡ Ok n
 unfolding shift
-shift_at n = ap At (omega arith)
+shift_at n = ap Ok (omega arith)
 
-pub shift_belongs : (n : ℕ) → shift n (Belongs 0) ≡ Belongs n
+pub shift_belongs : (n : ℕ) → shift n (Err 0) ≡ Err n
 unfolding shift
-shift_belongs n = ap Belongs (omega arith)
+shift_belongs n = ap Err (omega arith)
 
 pub shift_more : (n : ℕ) (f : Found) → shift n (shift 1 f) ≡ shift (n + 1) f
 unfolding shift
-shift_more n (At i) = ap At (omega arith)
-shift_more n (Belongs i) = ap Belongs (omega arith)
+shift_more n (Ok i) = ap Ok (omega arith)
+shift_more n (Err i) = ap Err (omega arith)
 
 -- ---- a reading of the keys
 
@@ -51,17 +51,17 @@ found_later : (k x : ℕ) (ks : List ℕ) → x < k → found_in k (x ∷ ks) �
 unfolding found_in member index_of smaller shift
 found_later k x ks l = rw (ne_eqb x k (omega arith), lt-ltb x k l) (go (member k ks))
   where
-    go : (b : Bool) → if◌then◌otherwise◌ b (At (suc (index_of k ks))) (Belongs (1 + smaller k ks)) ≡ shift 1
-        (if◌then◌otherwise◌ b (At (index_of k ks)) (Belongs (smaller k ks)))
-    go true = ap At (omega arith)
+    go : (b : Bool) → if◌then◌otherwise◌ b (Ok (suc (index_of k ks))) (Err (1 + smaller k ks)) ≡ shift 1
+        (if◌then◌otherwise◌ b (Ok (index_of k ks)) (Err (smaller k ks)))
+    go true = ap Ok (omega arith)
     go false = refl
 
-found_here : (k x : ℕ) (ks : List ℕ) → x ≡ k → found_in k (x ∷ ks) ≡ At 0
+found_here : (k x : ℕ) (ks : List ℕ) → x ≡ k → found_in k (x ∷ ks) ≡ Ok 0
 unfolding found_in member index_of
 found_here k x ks e = rw (eq-eqb x k e) refl
 
 -- ahead of a greater key, where no key behind it is k or smaller
-found_first : (k x : ℕ) (ks : List ℕ) → k < x → member k ks ≡ false → smaller k ks ≡ 0 → found_in k (x ∷ ks) ≡ Belongs 0
+found_first : (k x : ℕ) (ks : List ℕ) → k < x → member k ks ≡ false → smaller k ks ≡ 0 → found_in k (x ∷ ks) ≡ Err 0
 unfolding found_in member smaller
 found_first k x ks l m s = rw (ne_eqb x k (omega arith), le-ltb x k (omega arith), m, s) refl
 
@@ -81,11 +81,11 @@ module _ (k x : ℕ) (ks : List ℕ) where
   unfolding sought
   sought_more l = rw (lt-ltb x k l) refl
 
-  sought_here : x ≡ k → sought k (x ∷ ks) ≡ At 0
+  sought_here : x ≡ k → sought k (x ∷ ks) ≡ Ok 0
   unfolding sought
   sought_here e = rw (le-ltb x k (omega arith), eq-eqb x k e) refl
 
-  sought_first : k < x → sought k (x ∷ ks) ≡ Belongs 0
+  sought_first : k < x → sought k (x ∷ ks) ≡ Err 0
   unfolding sought
   sought_first l = rw (le-ltb x k (omega arith), ne_eqb x k (omega arith)) refl
 
@@ -122,7 +122,7 @@ sought_behind k g [] more other l = sought_first k g more l ∙ sym (sought_firs
 sought_behind k g (x ∷ low) more other l = go (sought_behind k g low more other l)
   where
     go : sought k (low ++ g ∷ more) ≡ sought k (low ++ g ∷ other) → sought k (x ∷ low ++ g ∷ more) ≡ sought k (x ∷ low ++ g ∷ other)
-    go ih = unfold sought in ap (λ (f : Found). if◌then◌otherwise◌ (ltb x k) (shift 1 f) (if◌then◌otherwise◌ (eqb x k) (At 0) (Belongs 0))) ih
+    go ih = unfold sought in ap (λ (f : Found). if◌then◌otherwise◌ (ltb x k) (shift 1 f) (if◌then◌otherwise◌ (eqb x k) (Ok 0) (Err 0))) ih
 
 -- The search's promise, of an answer found key by key.
 pub searched : (k : ℕ) (ks : List ℕ) (found : Found) → found ≡ sought k ks → Searched k ks found
@@ -141,15 +141,15 @@ module _ (k w : ℕ) (xs : List ℕ) (o m n : ℕ) (e : m ≡ suc n) where
   unfolding fields
   next_smaller l = rw e (sought_more k (le w xs o) (fields w xs (o + w) n) l)
 
-  pub next_equal : le w xs o ≡ k → sought k (fields w xs o m) ≡ At 0
+  pub next_equal : le w xs o ≡ k → sought k (fields w xs o m) ≡ Ok 0
   unfolding fields
   next_equal q = rw e (sought_here k (le w xs o) (fields w xs (o + w) n) q)
 
-  pub next_greater : k < le w xs o → sought k (fields w xs o m) ≡ Belongs 0
+  pub next_greater : k < le w xs o → sought k (fields w xs o m) ≡ Err 0
   unfolding fields
   next_greater l = rw e (sought_first k (le w xs o) (fields w xs (o + w) n) l)
 
-pub none_left : (k w : ℕ) (xs : List ℕ) (o m : ℕ) → m ≡ 0 → sought k (fields w xs o m) ≡ Belongs 0
+pub none_left : (k w : ℕ) (xs : List ℕ) (o m : ℕ) → m ≡ 0 → sought k (fields w xs o m) ≡ Err 0
 unfolding fields sought
 none_left k w xs o m e = rw e refl
 
@@ -157,13 +157,13 @@ none_left k w xs o m e = rw e refl
 
 ended_more : (f : Found) → ended_at (shift 1 f) ≡ suc (ended_at f)
 unfolding ended_at shift
-ended_more (At i) = omega arith
-ended_more (Belongs i) = omega arith
+ended_more (Ok i) = omega arith
+ended_more (Err i) = omega arith
 
 found_more : (f : Found) → rows_found (shift 1 f) ≡ rows_found f
 unfolding rows_found shift
-found_more (At i) = refl
-found_more (Belongs i) = refl
+found_more (Ok i) = refl
+found_more (Err i) = refl
 
 ended_rank : (k : ℕ) (rs : List Row) → ended_at (sought k (keys_in rs)) ≡ rank_of k rs
 unfolding keys_in rank_of
@@ -202,8 +202,8 @@ module _ (k : ℕ) (rs : List Row) (f : Found) (s : Searched k (keys_in rs) f) w
   finds_first = ap rows_found is_sought ∙ found_first_has k rs ∙ ap (λ (n : ℕ). first_has k (drop n rs)) (sym ends_at_rank)
 
 -- the same of a reading of all rising keys that found none
-module _ (k : ℕ) (rs : List Row) (u : rising (keys_in rs) ≡ true) (i : ℕ) (e : found_in k (keys_in rs) ≡ Belongs i) where
-  not_found : sought k (keys_in rs) ≡ Belongs i
+module _ (k : ℕ) (rs : List Row) (u : rising (keys_in rs) ≡ true) (i : ℕ) (e : found_in k (keys_in rs) ≡ Err i) where
+  not_found : sought k (keys_in rs) ≡ Err i
   not_found = sym (all_is k (keys_in rs) u) ∙ e
 
   pub belongs_at : i ≡ rank_of k rs

@@ -13,7 +13,7 @@ use Rattle.store.specs.Rows.{Row, Store, rows_of, store_of, new_rows, lookup, in
 use Rattle.store.specs.Sound.{Changed}
 use Rattle.store.specs.Questions.{member}
 use Rattle.store.specs.Answers.{found_in, smaller}
-use Rattle.store.specs.declared.rows.Found.TheVariants.{At, Belongs}
+use Rattle.std.specs.Prelude.{Ok, Err}
 use Rattle.store.proofs.Lists.{altered, alter_here, alter_there}
 
 -- ---- what an answer tells of the rows that were searched
@@ -41,14 +41,14 @@ no_member k (r ∷ rs) m = go (no_member k rs) (eqb r.0 k) refl
     go ih true e = let q : true ≡ false = rw e at m in let z : ◌≡◌ {A = ℕ} 0 1 = cc in absurd (omega arith)
     go ih false e = rw e (ih (rw e at m))
 
-module _ (k : ℕ) (rs : List Row) (i : ℕ) (e : found_in k (keys_in rs) ≡ At i) where
+module _ (k : ℕ) (rs : List Row) (i : ℕ) (e : found_in k (keys_in rs) ≡ Ok i) where
   at_place : (member k (keys_in rs) ≡ true) × (index_of k (keys_in rs) ≡ i)
   unfolding found_in
   at_place = go (member k (keys_in rs)) refl
     where
       go : (b : Bool) → member k (keys_in rs) ≡ b → (member k (keys_in rs) ≡ true) × (index_of k (keys_in rs) ≡ i)
-      go true t = let q : At (index_of k (keys_in rs)) ≡ At i = rw t at e in (t, cc)
-      go false t = let q : Belongs (smaller k (keys_in rs)) ≡ At i = rw t at e in let z : ◌≡◌ {A = ℕ} 0 1 = cc in absurd (omega arith)
+      go true t = let q : Ok (index_of k (keys_in rs)) ≡ Ok i = rw t at e in (t, cc)
+      go false t = let q : Err (smaller k (keys_in rs)) ≡ Ok i = rw t at e in let z : ◌≡◌ {A = ℕ} 0 1 = cc in absurd (omega arith)
 
   pub at_row : i < length rs
   at_row = omega (arith, at_place.1, (member_lookup k rs at_place.0).0)
@@ -56,13 +56,13 @@ module _ (k : ℕ) (rs : List Row) (i : ℕ) (e : found_in k (keys_in rs) ≡ At
   pub at_lookup : lookup k rs ≡ some (get_or rs i (0, 0)).1
   at_lookup = (member_lookup k rs at_place.0).1 ∙ ap (λ (n : ℕ). some (get_or rs n (0, 0)).1) at_place.1
 
-module _ (k : ℕ) (rs : List Row) (i : ℕ) (e : found_in k (keys_in rs) ≡ Belongs i) where
+module _ (k : ℕ) (rs : List Row) (i : ℕ) (e : found_in k (keys_in rs) ≡ Err i) where
   pub no_lookup : lookup k rs ≡ none
   unfolding found_in
   no_lookup = go (member k (keys_in rs)) refl
     where
       go : (b : Bool) → member k (keys_in rs) ≡ b → lookup k rs ≡ none
-      go true t = let q : At (index_of k (keys_in rs)) ≡ Belongs i = rw t at e in let z : ◌≡◌ {A = ℕ} 0 1 = cc in absurd (omega arith)
+      go true t = let q : Ok (index_of k (keys_in rs)) ≡ Err i = rw t at e in let z : ◌≡◌ {A = ℕ} 0 1 = cc in absurd (omega arith)
       go false t = no_member k rs t
 
 -- a change by g is one by h, where the two make the same of the rows

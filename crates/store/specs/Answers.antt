@@ -1,13 +1,14 @@
 -- What a search for a key answers, by the keys that are searched.
-use Rattle.std.specs.Prelude.{true, List, [], ◌∷◌, ◌++◌, ◌≡◌, ℕ, ◌+◌, ◌<◌, ltb}
+use Rattle.std.specs.Prelude.{Result, Ok, Err, Some, None, true, List, [], ◌∷◌, ◌++◌, ◌≡◌, ℕ, ◌+◌, ◌<◌, ltb}
+use Rattle.std.specs.declared.option.Option.{Option as CodeOption}
 use Rattle.std.proofs.Math.Option.{Option, none, some}
 use Rattle.questions.specs.Basics.{if◌then◌otherwise◌}
 use Rattle.store.specs.Rows.{index_of}
 use Rattle.store.specs.Questions.{member, rising}
-use Rattle.store.specs.declared.rows.Found.{Found}
-use Rattle.store.specs.declared.rows.Found.TheVariants.{At, Belongs}
-use Rattle.store.specs.declared.rows.Got.{Got}
-use Rattle.store.specs.declared.rows.Got.TheVariants.{Value, Absent}
+
+-- the row of a key or, as an error, the place where the key belongs, as the code answers it
+abbrev pub Found : Type 0
+Found = Result ℕ ℕ
 
 -- how many keys are smaller than k
 unfoldable pub smaller : (k : ℕ) → List ℕ → ℕ
@@ -16,7 +17,7 @@ smaller k (x ∷ ks) = (if ltb x k then 1 otherwise 0) + smaller k ks
 
 -- By a reading of all keys: the place of k, or the place where it belongs, behind all smaller ones.
 unfoldable pub found_in : (k : ℕ) → List ℕ → Found
-found_in k ks = if member k ks then At (index_of k ks) otherwise Belongs (smaller k ks)
+found_in k ks = if member k ks then Ok (index_of k ks) otherwise Err (smaller k ks)
 
 -- what a search for k reads: the keys up to the first that isn't smaller, and none behind
 unfoldable pub up_to : (k : ℕ) → List ℕ → List ℕ
@@ -36,15 +37,19 @@ pub record Searched (k : ℕ) (ks : List ℕ) (found : Found) : Type 0 where
 
 -- where a search ended: at the key's row, or where the key belongs
 unfoldable pub ended_at : Found → ℕ
-ended_at (At i) = i
-ended_at (Belongs i) = i
+ended_at (Ok i) = i
+ended_at (Err i) = i
 
 -- how many rows have the key: 1 where it was found, else 0
 unfoldable pub rows_found : Found → ℕ
-rows_found (At i) = 1
-rows_found (Belongs i) = 0
+rows_found (Ok i) = 1
+rows_found (Err i) = 0
 
 -- the value at a key, as the code answers it
+abbrev pub Got : Type 0
+Got = CodeOption ℕ
+
+-- the same of what the rules find
 unfoldable pub got_of : Option ℕ → Got
-got_of none = Absent
-got_of (some v) = Value v
+got_of none = None
+got_of (some v) = Some v

@@ -1,8 +1,8 @@
 -- What create leaves.
 use Rattle.std.specs.Prelude.{List, ◌∷◌, ◌≡◌, ℕ, ◌+◌, ◌*◌, ◌/◌, ◌%◌, length, replicate}
 use Rattle.questions.specs.Verdicts.{verdict_of}
-use Rattle.questions.specs.declared.Verdict.{Verdict}
-use Rattle.questions.specs.declared.Verdict.TheVariants.{Accepted}
+use Rattle.questions.specs.Verdicts.{Verdict}
+use Rattle.std.specs.Prelude.{Ok}
 use Rattle.store.specs.Rows.{store_of, empty_store}
 use Rattle.store.specs.Questions.{create_refusal}
 use Rattle.store.specs.Sound.{Sound}
@@ -15,6 +15,6 @@ fresh_bytes P C = P ∷ C % 256 ∷ C / 256 ∷ replicate (2 * (P + 1) + 12 * ((
 -- refused, no byte is changed.
 pub record Created (store store' : List ℕ) (P C : ℕ) (r : Verdict) : Type 0 where
   pub answer : r ≡ verdict_of (create_refusal P C (length store))
-  pub bytes : r ≡ Accepted → store' ≡ fresh_bytes P C
-  pub made : r ≡ Accepted → Sound store' × (store_of store' ≡ empty_store P C)
-  pub kept : (r ≡ Accepted → ⊥) → store' ≡ store
+  pub bytes : r ≡ Ok tt → store' ≡ fresh_bytes P C
+  pub made : r ≡ Ok tt → Sound store' × (store_of store' ≡ empty_store P C)
+  pub kept : (r ≡ Ok tt → ⊥) → store' ≡ store

@@ -8,46 +8,29 @@ ghost use Rattle.store.specs.Sound.{Formed, Sound};
 
 use crate::head::{key_place, used_count, value_place};
 
-// The row of a key, or the place where the key belongs.
-#[derive(Clone, Copy)]
-pub enum Found {
-    At(usize),
-    Belongs(usize),
-}
-
-// The value at a key.
-#[derive(Clone, Copy)]
-pub enum Got {
-    Value(u32),
-    Absent,
-}
+// The row of a key, or as an error the place where the key belongs: as the library's `binary_search` answers.
+pub type Found = Result<usize, usize>;
 
 // The place of `key` among `count` keys, the first of which begins at byte `keys_at`, or where it belongs. The first key that isn't smaller
-// ends the search: `passed` keys are passed, and `left` are still to be read.
+// ends the search.
 fn search(store: &[u8], keys_at: usize, count: usize, key: u64) -> Found
     requires { keys_at + 8 * count ≤ length store.now }
     ensures { Searched key (fields 8 store.now keys_at count) result }
 {
-    let mut key_at = keys_at;
-    let mut passed = 0;
-    let mut left = count;
-    while 0 < left {
-        let next = words::read64(store, key_at);
+    for place in 0..count {
+        let next = words::read64(store, keys_at + 8 * place);
         if key <= next {
             if key == next {
-                return Found::At(passed);
+                return Ok(place);
             }
-            return Found::Belongs(passed);
+            return Err(place);
         }
-        key_at += 8;
-        passed += 1;
-        left -= 1;
     }
-    Found::Belongs(passed)
+    Err(count)
 }
 
 // The row of `key` among those of a partition from row `row` on, or the place where it belongs among them. Places count from row `row`. The
-// byte at which that row's key begins is worked out here, once for a search; the loop steps on by 8 bytes, the width of a key.
+// byte at which that row's key begins is worked out here, once for a search.
 pub fn find(store: &[u8], partition: usize, row: usize, key: u64) -> Found
     requires { Formed store.now × (partition ≤ parts_of store.now) × (row ≤ length (rows_of store.now partition)) }
     ensures { Searched key (keys_in (drop row (rows_of store.now partition))) result }
@@ -58,23 +41,21 @@ pub fn find(store: &[u8], partition: usize, row: usize, key: u64) -> Found
 }
 
 // Where a search ended.
+#[tactic(auto, unfolding(crate::specs::Answers::ended_at))]
 pub fn ended_at(found: Found) -> usize
     ensures { result ≡ ended_at found }
 {
     match found {
-        Found::At(place) => place,
-        Found::Belongs(place) => place,
+        Ok(place) | Err(place) => place,
     }
 }
 
 // 1 where the key's row was found, else 0.
+#[tactic(auto, unfolding(crate::specs::Answers::rows_found))]
 pub fn rows_found(found: Found) -> usize
     ensures { result ≡ rows_found found }
 {
-    match found {
-        Found::At(_) => 1,
-        Found::Belongs(_) => 0,
-    }
+    found.is_ok() as usize
 }
 
 // The value of a row.
@@ -87,13 +68,12 @@ pub fn value_at(store: &[u8], partition: usize, row: usize) -> u32
 }
 
 // The value at `key` in a partition.
-pub fn get(store: &[u8], partition: usize, key: u64) -> Got
+pub fn get(store: &[u8], partition: usize, key: u64) -> Option<u32>
     requires { Sound store.now × (partition ≤ parts_of store.now) }
     ensures { result ≡ got_of (lookup key (rows_of store.now partition)) }
 {
-    let found = find(store, partition, 0, key);
-    match found {
-        Found::At(row) => Got::Value(value_at(store, partition, row)),
-        Found::Belongs(_) => Got::Absent,
+    match find(store, partition, 0, key) {
+        Ok(row) => Some(value_at(store, partition, row)),
+        Err(_) => None,
     }
 }

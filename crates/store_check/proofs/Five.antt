@@ -237,9 +237,9 @@ unfolding fields
 book_one xs at m k e q = rw (e, q) (five_one (le 8 xs at))
 
 -- at least five are left
-module _ (xs : List ℕ) (at m n : ℕ) (e : m ≡ suc (suc (suc (suc (suc n))))) (g : keys_ok true (fields 8 xs at m) ≡ true) where
+module _ (xs : List ℕ) (at m n next : ℕ) (e : m ≡ suc (suc (suc (suc (suc n))))) (en : next ≡ at + 40) (g : keys_ok true (fields 8 xs at m) ≡ true) where
   abbrev rest : List ℕ
-  rest = fields 8 xs (at + 40) n
+  rest = fields 8 xs next n
 
   spread : fields 8 xs at m ≡ le 8 xs at ∷ le 8 xs (at + 8) ∷ le 8 xs (at + 16) ∷ le 8 xs (at + 24) ∷ le 8 xs (at + 32) ∷ rest
   unfolding fields
@@ -247,7 +247,7 @@ module _ (xs : List ℕ) (at m n : ℕ) (e : m ≡ suc (suc (suc (suc (suc n))))
       let o2 : at + 8 + 8 ≡ at + 16 = omega arith in
       let o3 : at + 16 + 8 ≡ at + 24 = omega arith in
       let o4 : at + 24 + 8 ≡ at + 32 = omega arith in
-      let o5 : at + 32 + 8 ≡ at + 40 = omega arith in
+      let o5 : at + 32 + 8 ≡ next = omega arith in
       rw (e, o2, o3, o4, o5) refl
 
   good : keys_ok true (le 8 xs at ∷ le 8 xs (at + 8) ∷ le 8 xs (at + 16) ∷ le 8 xs (at + 24) ∷ le 8 xs (at + 32) ∷ rest) ≡ true

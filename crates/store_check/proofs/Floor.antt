@@ -1,6 +1,6 @@
 -- The floor of a book, and whether an id is below it, by the bytes where its keys and values stand.
 use mathlib.Core.Bool.{Bool, true, false, ◌&&◌, ◌||◌}
-use mathlib.Core.List.{List, ◌∷◌}
+use mathlib.Core.List.{List, [], ◌∷◌}
 use mathlib.Core.Option
 use mathlib.Core.Option.{Option, none, some}
 use mathlib.Core.Path.{◌≡◌, refl, sym, ap, ap₂, ◌∙◌}
@@ -31,6 +31,11 @@ module _ (floor : ℕ) (h : floor < 2 ^ 32) where
       go : (t : Bool) → is_floor_key k ≡ t → (is_floor_key k || leb floor (booked_id k)) ≡ leb floor (booked_id k)
       go true e = rw e (sym (le-leb floor (booked_id k) (omega (arith, floor_bounds k e))))
       go false e = rw e refl
+
+  pub floor_all : (ks : List ℕ) → all_in (λ k. leb floor (booked_id k)) ks ≡ from_floor floor ks
+  unfolding from_floor all_in
+  floor_all [] = refl
+  floor_all (k ∷ ks) = ap₂ ◌&&◌ (sym (floor_passes k)) (floor_all ks)
 
   -- of rising keys the first answers for all
   first_above : (k : ℕ) (ks : List ℕ) → rising (k ∷ ks) ≡ true → from_floor floor (k ∷ ks) ≡ leb floor (booked_id k)

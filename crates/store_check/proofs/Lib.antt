@@ -4,3 +4,4 @@ pub mod Rising
 pub mod Five
 pub mod Floor
 pub mod Asked
+pub mod Ranges

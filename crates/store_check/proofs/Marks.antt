@@ -72,30 +72,31 @@ keys_rear b xs from (suc n) (suc i) at h e f =
       and_false (not (member (le 8 xs from) (fields 8 xs (from + 8) n))),
     ) (and_false (is_form b (le 8 xs from)))
 
--- k is the key ahead of those that are passed, which begin at `at`
-module _ (xs : List ℕ) (from n i at k : ℕ) (h : i ≤ n) (g : 0 < i) (e : at ≡ from + 8 * i) (q : k ≡ le 8 xs (at - 8)) where
+-- k is the key ahead of those that are passed: it begins at `low`, they at `at`
+module _ (xs : List ℕ) (from n i at low k : ℕ) (h : i ≤ n) (g : 0 < i) (e : at ≡ from + 8 * i) (d : low ≡ from + 8 * (i - 1))
+    (q : k ≡ le 8 xs low) where
   ahead : (b : Bool) → keys_apart b
-      (fields 8 xs (at - 8) (n - (i - 1)))
+      (fields 8 xs low (n - (i - 1)))
       ≡ (is_form b k && (not (member k (fields 8 xs at (n - i))) && keys_apart b (fields 8 xs at (n - i))))
   ahead b =
-      let o : at - 8 + 8 ≡ at = omega arith in
-      rw (q, keys_step b xs (at - 8) (n - (i - 1)) (n - i) (omega arith), o) refl
+      let o : low + 8 ≡ at = omega arith in
+      rw (q, keys_step b xs low (n - (i - 1)) (n - i) (omega arith), o) refl
 
   pub no_form : (b : Bool) → is_form b k ≡ false → keys_apart b (fields 8 xs from n) ≡ false
-  no_form b f = keys_rear b xs from n (i - 1) (at - 8) (omega arith) (omega arith) (ahead b ∙ rw f refl)
+  no_form b f = keys_rear b xs from n (i - 1) low (omega arith) (omega arith) (ahead b ∙ rw f refl)
 
   pub key_twice : (b : Bool) → member k (fields 8 xs at (n - i)) ≡ true → keys_apart b (fields 8 xs from n) ≡ false
-  key_twice b m = keys_rear b xs from n (i - 1) (at - 8) (omega arith) (omega arith) (ahead b ∙ rw m (and_false (is_form b k)))
+  key_twice b m = keys_rear b xs from n (i - 1) low (omega arith) (omega arith) (ahead b ∙ rw m (and_false (is_form b k)))
 
   pub key_more : (b : Bool) → is_form b k ≡ true → member k (fields 8 xs at (n - i)) ≡ false →
-      keys_apart b (fields 8 xs at (n - i)) ≡ true → keys_apart b (fields 8 xs (at - 8) (n - (i - 1))) ≡ true
+      keys_apart b (fields 8 xs at (n - i)) ≡ true → keys_apart b (fields 8 xs low (n - (i - 1))) ≡ true
   key_more b f m o = ahead b ∙ rw (f, m, o) refl
 
   pub mark_more : (marks : List ℕ) (mark : ℕ) → k % 8179 < length marks → all_in (marked marks mark) (fields 8 xs at (n - i)) ≡ true →
-      all_in (marked (set marks (k % 8179) mark) mark) (fields 8 xs (at - 8) (n - (i - 1))) ≡ true
+      all_in (marked (set marks (k % 8179) mark) mark) (fields 8 xs low (n - (i - 1))) ≡ true
   mark_more marks mark l a =
-      let o : at - 8 + 8 ≡ at = omega arith in
+      let o : low + 8 ≡ at = omega arith in
       let m = marked (set marks (k % 8179) mark) mark in
-      all_step m xs (at - 8) (n - (i - 1)) (n - i) (omega arith)
+      all_step m xs low (n - (i - 1)) (n - i) (omega arith)
       ∙ rw (o, ← q) (and_both (m k) _ (mark_put marks mark (k % 8179) l k refl)
       (marks_kept marks mark (k % 8179) l (fields 8 xs at (n - i)) a))

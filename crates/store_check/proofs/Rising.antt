@@ -2,15 +2,15 @@
 use mathlib.Core.Bool.{Bool, true, false, not, ◌&&◌, and-true}
 use mathlib.Core.List.{List, [], ◌∷◌}
 use mathlib.Core.Path.{◌≡◌, refl, sym, ap, ◌∙◌}
-use Prim.Native.Nat.{ℕ, suc, ◌+◌, ◌≤◌, ◌<◌}
+use Prim.Native.Nat.{ℕ, ◌+◌}
 use native.Mathlib.Numerals.{add-one}
-use borrow.Author.Tests.{le-leb, lt-leb}
 use lib.Dec.{leb, leb-zero}
-use Rattle.words.specs.Words.{le, fields}
 use Rattle.keys.specs.Keys.{is_form}
+use Rattle.keys.proofs.Keys.{form_bound}
 use Rattle.questions.proofs.Tests.{and_false}
 use Rattle.store.specs.Questions.{member, keys_apart, ahead, rising, keys_ok}
 use Rattle.store.proofs.Sound.{rises_unlike}
+use Rattle.store_check.proofs.Steps.{fields_next, fields_none}
 
 -- each key is of a form, the first is at least `low`, and each other is at least one more than the key before
 unfoldable pub rises : (book : Bool) (low : ℕ) → List ℕ → Bool
@@ -58,22 +58,5 @@ rises_all b ks = rises_is b 0 ks ∙ ap (λ (t : Bool). t && keys_ok b ks) (any 
     any [] = unfold from in refl
     any (k ∷ ks) = unfold from in leb-zero k
 
--- ---- keys still to be read, the first of which is k
-
-module _ (b : Bool) (low : ℕ) (xs : List ℕ) (o m n k : ℕ) (e : m ≡ suc n) (q : k ≡ le 8 xs o) where
-  rises_step : rises b low (fields 8 xs o m) ≡ (leb low k && (is_form b k && rises b (k + 1) (fields 8 xs (o + 8) n)))
-  unfolding rises fields
-  rises_step = rw (e, q) refl
-
-  pub rises_low : k < low → rises b low (fields 8 xs o m) ≡ false
-  rises_low h = rises_step ∙ rw (lt-leb low k h) refl
-
-  pub rises_no_form : is_form b k ≡ false → rises b low (fields 8 xs o m) ≡ false
-  rises_no_form f = rises_step ∙ rw (f, and_false (leb low k)) refl
-
-  pub rises_more : low ≤ k → is_form b k ≡ true → rises b low (fields 8 xs o m) ≡ rises b (k + 1) (fields 8 xs (o + 8) n)
-  rises_more h f = rises_step ∙ rw (le-leb low k h, f) refl
-
-pub rises_done : (b : Bool) (low : ℕ) (xs : List ℕ) (o m : ℕ) → m ≡ 0 → rises b low (fields 8 xs o m) ≡ true
-unfolding rises fields
-rises_done b low xs o m e = rw e refl
+-- what a loop over keys that rise needs
+pub ruleset rising_on = (fields_next, fields_none, rises_all, form_bound)

@@ -4,7 +4,7 @@ use mathlib.Core.List.{List, [], ◌∷◌}
 use mathlib.Core.Path.{◌≡◌, refl, sym, ap, ap₂, ◌∙◌}
 use Prim.Native.Nat.{ℕ, zero, suc, ◌+◌, ◌-◌, ◌*◌, ◌≤◌, ◌<◌}
 use native.Mathlib.Omega.{arith}
-use borrow.Author.Tests.{leb-true, lt-leb, le-leb, lt-ltb, eq-eqb, ne_eqb}
+use borrow.Author.Tests.{leb-true, lt-ltb, eq-eqb}
 use lib.Dec.{eqb, leb, ltb, leb-suc-suc}
 use lib.ListN.{length, get_or}
 use Rattle.keys.specs.Keys.{is_form}
@@ -14,14 +14,29 @@ use Rattle.questions.specs.Basics.{if◌then◌otherwise◌, each_from}
 use Rattle.questions.proofs.Each.{each_at}
 use Rattle.questions.proofs.Tests.{and_left, and_false}
 use Rattle.store.specs.Layout.{parts_of, cap_of, key_at, value_at, used_of}
-use Rattle.store.specs.Rows.{pairs, index_of, keys_in, rows_of}
+use Rattle.store.specs.Rows.{index_of, keys_in, rows_of}
 use Rattle.store.specs.Questions.{member, keys_apart, keys_ok, blank_row, part_ok_at, part_ok_by, all_in, book_right}
 use Rattle.store.specs.Questions.{question11_in_any_order, question12}
 use Rattle.store.specs.Sound.{Dimensions, Formed, KeysGood, Sound}
 use Rattle.store.proofs.Bytes.{count_is, rows_keys, keys_within, values_within, used_le}
 use Rattle.store.proofs.Sound.{part_filled}
+use Rattle.store_check.specs.Places.{keys_of, pairs_of, Places}
+use Rattle.store_check.specs.declared.rows.Rows.{Rows}
 
 -- ---- keys still to be read
+
+-- the keys from the one at place i on
+pub fields_next : (xs : List ℕ) (o n i : ℕ) → i < n →
+    fields 8 xs (o + 8 * i) (n - i) ≡ le 8 xs (o + 8 * i) ∷ fields 8 xs (o + 8 * (i + 1)) (n - (i + 1))
+unfolding fields
+fields_next xs o n i h =
+    let e : n - i ≡ suc (n - (i + 1)) = omega arith in
+    let o' : o + 8 * i + 8 ≡ o + 8 * (i + 1) = omega arith in
+    rw (e, o') refl
+
+pub fields_none : (xs : List ℕ) (o n i : ℕ) → n ≤ i → fields 8 xs o (n - i) ≡ []
+unfolding fields
+fields_none xs o n i h = let e : n - i ≡ 0 = omega arith in rw e refl
 
 pub keys_step : (b : Bool) (xs : List ℕ) (o m n : ℕ) → m ≡ suc n
     → keys_apart b (fields 8 xs o m)
@@ -71,41 +86,12 @@ pub member_at : (k : ℕ) (xs : List ℕ) (from n i at : ℕ) → i < n → at �
 member_at k xs from n i at h e q =
     member_in k (fields 8 xs from n) i (omega (arith, length_fields 8 xs from n)) (get_or_fields 8 xs from n i at h (omega arith) ∙ q)
 
--- ---- unused rows
-
-module _ (xs : List ℕ) (k v i key at : ℕ) (ek : key ≡ le 8 xs at) (ea : at ≡ k + 8 * i) where
-  key_here : le 8 xs (k + 8 * i) ≡ key
-  key_here = ap (le 8 xs) (sym ea) ∙ sym ek
-
-  pub blank_no_key : (key ≡ 0 → ⊥) → blank_row xs k v i ≡ false
-  unfolding blank_row
-  blank_no_key n = rw (ne_eqb (le 8 xs (k + 8 * i)) 0 (λ e. n (sym key_here ∙ e))) refl
-
-  module _ (z : key ≡ 0) (value to : ℕ) (ev : value ≡ le 4 xs to) (et : to ≡ v + 4 * i) where
-    value_here : le 4 xs (v + 4 * i) ≡ value
-    value_here = ap (le 4 xs) (sym et) ∙ sym ev
-
-    pub blank_no_value : (value ≡ 0 → ⊥) → blank_row xs k v i ≡ false
-    unfolding blank_row
-    blank_no_value n =
-        rw (eq-eqb (le 8 xs (k + 8 * i)) 0 (key_here ∙ z), ne_eqb (le 4 xs (v + 4 * i)) 0 (λ e. n (sym value_here ∙ e))) refl
-
-    pub blank_yes : value ≡ 0 → blank_row xs k v i ≡ true
-    unfolding blank_row
-    blank_yes y = rw (eq-eqb (le 8 xs (k + 8 * i)) 0 (key_here ∙ z), eq-eqb (le 4 xs (v + 4 * i)) 0 (value_here ∙ y)) refl
-
 -- ---- a partition wherever it lies
 
 module _ (xs : List ℕ) (C n k v : ℕ) where
   -- its used rows fit, and its unused ones are zero
   abbrev pub filled : Bool
   filled = leb n C && each_from (blank_row xs k v) (C - n) n
-
-  pub filled_no : C < n → filled ≡ false
-  filled_no h = rw (lt-leb n C h) refl
-
-  pub filled_is : n ≤ C → filled ≡ each_from (blank_row xs k v) (C - n) n
-  filled_is h = rw (le-leb n C h) refl
 
   pub filled_fits : filled ≡ true → n ≤ C
   filled_fits f = leb-true n C (and_left (leb n C) _ f)
@@ -117,54 +103,55 @@ module _ (xs : List ℕ) (C n k v : ℕ) where
     in_turn true false c = sym (and_false c)
     in_turn false b c = refl
 
-    part_by : part_ok_at keys b xs C n k v ≡ (filled && keys b (fields 8 xs k n))
+    pub part_by : part_ok_at keys b xs C n k v ≡ (filled && keys b (fields 8 xs k n))
     unfolding part_ok_at
     part_by = in_turn (leb n C) (keys b (fields 8 xs k n)) _
 
-    pub part_no : filled ≡ false → part_ok_at keys b xs C n k v ≡ false
-    part_no f = part_by ∙ rw f refl
-
-    pub part_is : filled ≡ true → part_ok_at keys b xs C n k v ≡ keys b (fields 8 xs k n)
-    part_is f = part_by ∙ rw f refl
-
 -- ---- the partitions of a store
 
--- the places of partition p, as they were worked out
-module _ (xs : List ℕ) (p cap n k v : ℕ) (ec : cap ≡ cap_of xs) (en : n ≡ length (rows_of xs p)) (ek : k ≡ key_at xs p 0)
-    (ev : v ≡ value_at xs p 0) where
-  pub places_within : Dimensions xs → p ≤ parts_of xs → (k + 8 * cap ≤ length xs) × (v + 4 * cap ≤ length xs)
-  places_within s l =
-      let kw = keys_within xs s p l (cap_of xs) (omega arith) in
-      let vw = values_within xs s p l (cap_of xs) (omega arith) in
-      (omega (arith, ek, ec, kw), omega (arith, ev, ec, vw))
+-- the places of partition p, as they are worked out
+pub places_within : (xs : List ℕ) (p cap k v : ℕ) → cap ≡ cap_of xs → k ≡ key_at xs p 0 → v ≡ value_at xs p 0 → Dimensions xs →
+    p ≤ parts_of xs → (k + 8 * cap ≤ length xs) × (v + 4 * cap ≤ length xs)
+places_within xs p cap k v ec ek ev s l =
+    let kw = keys_within xs s p l (cap_of xs) (omega arith) in
+    let vw = values_within xs s p l (cap_of xs) (omega arith) in
+    (omega (arith, ek, ec, kw), omega (arith, ev, ec, vw))
 
-  pub places_part : (keys : (book : Bool) → List ℕ → Bool) (parts : ℕ) → parts ≡ parts_of xs
-      → part_ok_at keys (eqb p parts) xs cap n k v ≡ part_ok_by keys xs p
+module _ (xs : List ℕ) (p : ℕ) (r : Rows) (l : Places xs p r) where
+  abbrev pub rows_filled : Bool
+  rows_filled = filled r.store.now r.cap r.used r.keys_at r.values_at
+
+  -- question 11 of it
+  pub places_part : (keys : (book : Bool) → List ℕ → Bool) → part_ok_by keys xs p ≡ (rows_filled && keys (eqb p (parts_of xs)) (keys_of r))
   unfolding part_ok_by
-  places_part keys parts ep = let u : n ≡ used_of xs p = en ∙ count_is xs p in rw (ep, ec, u, ek, ev) refl
+  places_part keys =
+      let u : r.used ≡ used_of xs p = l.used ∙ count_is xs p in
+      sym (sym (part_by r.store.now r.cap r.used r.keys_at r.values_at keys (eqb p (parts_of xs)))
+      ∙ rw (l.bytes, l.cap, u, l.keys, l.values) refl)
 
--- ---- the book
+  -- its rows are those of the store
+  places_rows : pairs_of r ≡ rows_of xs p
+  unfolding rows_of
+  places_rows = let u : r.used ≡ used_of xs p = l.used ∙ count_is xs p in rw (l.bytes, u, l.keys, l.values) refl
 
-module _ (xs : List ℕ) (p n from : ℕ) (ep : p ≡ parts_of xs) (en : n ≡ length (rows_of xs p)) (ef : from ≡ key_at xs p 0) where
-  pub book_is : (to : ℕ) → to ≡ value_at xs p 0 → book_right (pairs (fields 8 xs from n) (fields 4 xs to n)) ≡ question12 xs
-  unfolding question12 rows_of
-  book_is to et = let u : n ≡ used_of xs p = en ∙ count_is xs p in rw (ef, et, u, ep) refl
+  pub places_keys : keys_of r ≡ keys_in (rows_of xs p)
+  places_keys = let u : r.used ≡ used_of xs p = l.used ∙ count_is xs p in rw (l.bytes, u, l.keys) (sym (rows_keys xs p))
 
-  pub book_keys_lem : Sound xs → keys_ok true (fields 8 xs from n) ≡ true
-  unfolding KeysGood
-  book_keys_lem s =
-      ap₂ keys_ok (sym (eq-eqb (parts_of xs) (parts_of xs) refl))
-      (ap₂ (fields 8 xs) ef (en ∙ count_is xs p) ∙ sym (rows_keys xs p) ∙ ap (λ (q : ℕ). keys_in (rows_of xs q)) ep)
-      ∙ s.keys (parts_of xs) (omega arith)
+  pub places_fit : Formed xs → p ≤ parts_of xs → r.used ≤ r.cap
+  places_fit f h = omega (arith, l.used, l.cap, used_le xs f p h)
 
-  -- keys and values lie within the store
-  pub book_within : Formed xs → (from + 8 * n ≤ length xs) × ((to : ℕ) → to ≡ value_at xs p 0 → to + 4 * n ≤ length xs)
-  book_within f =
-      let l : p ≤ parts_of xs = omega (arith, ep) in
-      let fit : n ≤ cap_of xs = omega (arith, en, used_le xs f p l) in (
-        omega (arith, ef, keys_within xs f.shape p l n fit),
-        λ to et. omega (arith, et, values_within xs f.shape p l n fit),
-      )
+  -- it is the book
+  module _ (e : p ≡ parts_of xs) where
+    pub book_is : book_right (pairs_of r) ≡ question12 xs
+    unfolding question12
+    book_is = ap book_right (places_rows ∙ ap (rows_of xs) e)
+
+    pub book_asked : Sound xs → (r.used ≤ r.cap) × (keys_ok true (keys_of r) ≡ true)
+    unfolding KeysGood
+    book_asked s = (
+      places_fit s.formed (omega (arith, e)),
+      ap₂ keys_ok (sym (eq-eqb p (parts_of xs) e)) places_keys ∙ s.keys p (omega (arith, e)),
+    )
 
 -- the rows of question 11, whatever their order
 pub formed_of : (xs : List ℕ) → Dimensions xs → question11_in_any_order xs ≡ true → Formed xs

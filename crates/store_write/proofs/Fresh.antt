@@ -1,12 +1,12 @@
 -- A fresh store: its bytes, that it is sound, and that it has no row.
-use mathlib.Core.Bool.{true, false}
+use mathlib.Core.Bool.{true}
 use mathlib.Core.List.{List, []}
-use mathlib.Core.Option.{none, some}
-use mathlib.Core.Path.{◌≡◌, refl, sym, ap, ap₂, ◌∙◌, fun_ext}
+use mathlib.Core.Option.{none}
+use mathlib.Core.Path.{◌≡◌, refl, sym, ap₂, ◌∙◌, fun_ext}
 use Prim.Native.Nat.{ℕ, suc, ◌+◌, ◌-◌, ◌*◌, ◌/◌, ◌%◌, ◌≤◌, ◌<◌}
 use native.Mathlib.Omega.{arith}
 use native.Mathlib.Decide.{dec_lt, dec_le}
-use borrow.Author.Tests.{eq-eqb, ne_eqb}
+use borrow.Author.Tests.{eqb-true}
 use lib.Dec.{eqb}
 use lib.ListN.{length, get_or, set, replicate, length-replicate, get_or-replicate, get_or-eq_default}
 use Rattle.words.specs.Words as Words
@@ -17,11 +17,11 @@ use Rattle.store.specs.Rows.{pairs, keys_in, rows_of, store_of, empty_store}
 use Rattle.store.specs.Questions.{numbers_right, keys_apart, rising, keys_ok, create_refusal}
 use Rattle.store.specs.Sound.{KeysGood, Sound}
 use Rattle.store.specs.Created.{fresh_bytes, Created}
-use Rattle.questions.specs.Questions.{No, number}
-use Rattle.questions.specs.Verdicts.{verdict_of}
-use Rattle.questions.specs.declared.Verdict.{Verdict}
-use Rattle.questions.specs.declared.Verdict.TheVariants.{Accepted}
-use Rattle.questions.proofs.Questions.{ask_yes, ask_no}
+use Rattle.questions.specs.Questions.{number}
+use Rattle.std.specs.Prelude.{Ok}
+use Rattle.questions.specs.Verdicts.{Verdict, verdict_of}
+use Rattle.questions.proofs.Chains.{accepted}
+use Rattle.questions.proofs.Questions.{ask_none}
 use Rattle.store.proofs.Bytes.{used_here, used_past}
 use Rattle.store.proofs.Sound.{numbers_mean}
 
@@ -110,33 +110,23 @@ module _ (P C : ℕ) where
         keys = λ p l. rw (no_rows p) refl;
       }
 
--- ---- what create leaves, at each of its answers
+-- ---- what create leaves, at each of its answers; v is the verdict on what it was given
 
-module _ (xs : List ℕ) (P C : ℕ) (r : Verdict) where
-  refused : (n : No) → create_refusal P C (length xs) ≡ some n → r ≡ verdict_of (some n) → Created xs xs P C r
-  refused n e a =
-      let never : r ≡ Accepted → ⊥ = λ q. let z : ◌≡◌ {A = ℕ} 0 1 = cc in omega arith in
-      record { answer = a ∙ ap verdict_of (sym e); bytes = λ q. absurd (never q); made = λ q. absurd (never q); kept = λ q. refl }
+module _ (xs : List ℕ) (P C : ℕ) (v : Verdict) (e : v ≡ verdict_of (create_refusal P C (length xs))) where
+  pub created_kept : (v ≡ Ok tt → ⊥) → Created xs xs P C v
+  created_kept never = record { answer = e; bytes = λ q. absurd (never q); made = λ q. absurd (never q); kept = λ q. refl }
 
-  pub created_9 : numbers_right P C ≡ false → r ≡ verdict_of (some (number 9)) → Created xs xs P C r
+  pub create_right : v ≡ Ok tt → (numbers_right P C ≡ true) × (length xs ≡ store_length P C)
   unfolding create_refusal
-  created_9 e a = refused (number 9) (ask_no (number 9) (numbers_right P C) _ e) a
+  create_right a =
+      let n = ask_none (number 9) (numbers_right P C) _ (accepted v _ e a) in
+      (n.0, eqb-true _ _ (ask_none (number 10) (eqb (length xs) (store_length P C)) none n.1).0)
 
-  pub created_10 : numbers_right P C ≡ true → (length xs ≡ store_length P C → ⊥) → r ≡ verdict_of (some (number 10)) → Created xs xs P C r
-  unfolding create_refusal
-  created_10 e n a =
-      refused (number 10) (ask_yes (number 9) (numbers_right P C) _ e
-      ∙ ask_no (number 10) (eqb (length xs) (store_length P C)) none (ne_eqb (length xs) (store_length P C) n)) a
-
-  pub created_fresh : (ys : List ℕ) → numbers_right P C ≡ true → length xs ≡ store_length P C → ys ≡ fresh_bytes P C → r ≡ verdict_of none →
-      Created xs ys P C r
-  unfolding create_refusal
-  created_fresh ys e l b a =
+  pub created_fresh : v ≡ Ok tt → (ys : List ℕ) → ys ≡ fresh_bytes P C → Created xs ys P C v
+  created_fresh a ys b =
       record {
-        answer = a ∙ ap verdict_of
-            (sym (ask_yes (number 9) (numbers_right P C) _ e
-            ∙ ask_yes (number 10) (eqb (length xs) (store_length P C)) none (eq-eqb (length xs) (store_length P C) l)));
+        answer = e;
         bytes = λ q. b;
-        made = λ q. rw b (fresh_sound P C e, fresh_store_lem P C);
+        made = λ q. rw b (fresh_sound P C (create_right a).0, fresh_store_lem P C);
         kept = λ q. absurd (q a);
       }

@@ -16,7 +16,7 @@ use Rattle.store.specs.Parts.{part_size, with_part, Holds}
 use Rattle.store.specs.Questions.{rising, keys_ok, all_in}
 use Rattle.store.specs.Rows.{Row, rows_of, store_of, keys_in, put_row, put_all, rows_from, rank_of}
 use Rattle.store.specs.Sound.{Sound, Changed, Stored}
-use Rattle.store.specs.declared.rows.Found.{Found}
+use Rattle.store.specs.Answers.{Found}
 use Rattle.store.proofs.Buffer.{holds_none, holds_counted}
 use Rattle.store.proofs.Found.{ends_at_rank}
 use Rattle.store.proofs.From.{from_drop, rising_behind, all_behind, put_last}

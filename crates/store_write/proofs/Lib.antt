@@ -1,3 +1,5 @@
 pub mod Fresh
 pub mod Merging
 pub mod Keeping
+pub mod Copied
+pub mod Pass

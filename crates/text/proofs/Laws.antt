@@ -1,15 +1,16 @@
 -- Laws of text: digits, and text put behind text.
 use mathlib.Core.Path.{◌≡◌, refl, sym, ap, subst, ◌∙◌}
 use mathlib.Core.List.{List, [], ◌∷◌, ◌++◌, append-nil, append_assoc}
-use mathlib.Core.Logic.{⊎_elim}
-use Prim.Native.Nat.{ℕ, zero, suc, ◌+◌, ◌-◌, ◌*◌, ◌/◌, ◌%◌, ◌^◌, ◌≤◌, ◌<◌}
-use native.Mathlib.Nat.{add-zero, pow-succ'}
+use Prim.Native.Nat.{ℕ, zero, suc, ◌+◌, ◌-◌, ◌/◌, ◌%◌, ◌^◌, ◌≤◌, ◌<◌}
+use native.Mathlib.Nat.{pow-succ'}
 use native.Mathlib.Decide.{dec_lt}
 use native.Mathlib.Numerals.{add-one}
 use native.Mathlib.Omega.{arith}
 use borrow.Author.Tests.{lt-ltb, le-ltb}
-use lib.ListN.{length, take, drop, set, get_or, length-append, length-set}
-use lib.Seq.{take-suc, take-suc-set, take-length, drop-set-lt, drop-drop}
+use lib.ListN.{length, take, drop, length-take, length-drop, set, length-append, length-set}
+use lib.Seq.{take-suc-set, drop-set-lt, drop-drop}
+use borrow.Rule.Slice.PartMut.{put_mid, same_len_mid}
+use Rattle.std.proofs.lemmas.Slice.{take-put_mid, drop-put_mid}
 use Rattle.text.specs.Text.{digit, digits, decimal, Appended}
 
 -- x + 1 digits are enough for x, and more change nothing
@@ -89,22 +90,19 @@ appended_byte out written byte h =
       stays = drop-set-lt (written + 1) out written byte (omega arith);
     }
 
--- a copy begins with nothing
-pub copied_none : (out src : List ℕ) (n : ℕ) → n ≤ length out → Appended out n (take 0 src) out (n + 0)
-copied_none out src n h = rw add-zero (appended_none out n h)
-
--- one byte more of src
-pub copied_more : {out out' : List ℕ} (src : List ℕ) {n i : ℕ} → i < length src → n + i < length out' →
-    Appended out n (take i src) out' (n + i)
-    → Appended out n (take (i + 1) src) (set out' (n + i) (get_or src i 0)) (n + (i + 1))
-copied_more {out} {out'} src {n} {i} l h a =
-    let e : n + (i + 1) ≡ n + i + 1 = omega arith in
-    rw (e, add-one i, take-suc src i 0 l) (appended_then a (appended_byte out' (n + i) (get_or src i 0) h))
-
--- all of src
-pub copied_all : {out out' : List ℕ} (src : List ℕ) {n i : ℕ} → i ≡ length src → Appended out n (take i src) out' (n + i) →
-    Appended out n src out' (n + i)
-copied_all {out} {out'} src {n} {i} e a = subst (λ xs. Appended out n xs out' (n + i)) (ap (λ k. take k src) e ∙ take-length src) a
+-- text written over the k bytes behind it, as many as it has
+pub appended_part : (out source : List ℕ) (n k : ℕ) → n + length source ≤ length out → k ≡ length source →
+    Appended out n source (put_mid n k out source) (n + length source)
+appended_part out source n k h e =
+    let long : length (put_mid n k out source) ≡ length out =
+    same_len_mid n k out source (sym (simp (length-take, length-drop) (omega arith))) in
+    record {
+      reach = refl;
+      room = omega (arith, long);
+      says = take-put_mid n k out source (n + length source) refl (omega arith);
+      long = long;
+      stays = drop-put_mid n k out source (n + length source) (omega arith) (omega arith) (sym e);
+    }
 
 -- one digit, and one digit behind the others
 pub number_one : {out out' : List ℕ} {n n' x : ℕ} → x < 10 → Appended out n (digit x ∷ []) out' n' → Appended out n (decimal x) out' n'

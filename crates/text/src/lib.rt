@@ -19,15 +19,13 @@ pub fn append_bytes(out: &mut [u8], written: usize, source: &[u8]) -> usize
     requires { written + length source.now ≤ length out.old }
     ensures { Appended out.old written source.now out.new result }
 {
-    let mut copied = 0;
-    while copied < source.len() {
-        out[written + copied] = source[copied];
-        copied += 1;
-    }
-    written + copied
+    let end = written + source.len();
+    out[written..end].copy_from_slice(source);
+    end
 }
 
 // A number in decimal: the digits ahead of the last are those of a tenth of it.
+#[tactic(auto, using(crate::proofs::Laws::size_one, crate::proofs::Laws::size_more, crate::proofs::Laws::number_one))]
 fn append_digits(out: &mut [u8], written: usize, number: u64) -> usize
     requires { written + length (decimal number) ≤ length out.old }
     ensures { Appended out.old written (decimal number) out.new result }
@@ -40,6 +38,7 @@ fn append_digits(out: &mut [u8], written: usize, number: u64) -> usize
 }
 
 // A number in decimal, of at most twenty digits.
+#[tactic(auto, using(crate::proofs::Laws::decimal_length, crate::proofs::Laws::number_fits))]
 pub fn append_number(out: &mut [u8], written: usize, number: u64) -> usize
     requires { written + 20 ≤ length out.old }
     ensures { Appended out.old written (decimal number) out.new result × (result ≤ written + 20) }

@@ -38,9 +38,8 @@ use Rattle.course.specs.declared.Next.{Next}
 use Rattle.course.specs.declared.Next.TheVariants.{Goes, Does, Says}
 use Rattle.course.specs.declared.Upcoming.{Upcoming}
 use Rattle.course.specs.Next.{next_at, next_in, StandsOutside}
-use Rattle.block.specs.declared.write.BlockOutcome.{BlockOutcome}
-use Rattle.block.specs.declared.write.BlockOutcome.TheVariants.{Result, NoRoom}
-use Rattle.block.specs.Through.{Ready, block_at, Through, had_room}
+use Rattle.std.specs.Prelude.{Ok, Err}
+use Rattle.block.specs.Through.{BlockOutcome, Ready, block_at, Through, had_room}
 use Rattle.block.proofs.Callers.{log_in, can_write_lem, passes_block, no_room_same, stays, same_bytes}
 use Rattle.meaning.proofs.Sense.{begin_below}
 use Rattle.contents.proofs.Equal.{only_bytes, wrote_nothing}
@@ -153,7 +152,7 @@ module _ (pack store : List ℕ) (a : Agent) (h : a.id < 2 ^ 32) (t : Turnable p
       is_block q = subst (λ (z : Turned). TurnedBy pack store a z store') (sym q) (go b refl)
         where
           go : (x : BlockOutcome) → b ≡ x → TurnedBy pack store a (behind_block (code pack store a h t) a begin b) store'
-          go (Result v) f =
+          go (Ok v) f =
               subst (λ (x : BlockOutcome). TurnedBy pack store a (behind_block (code pack store a h t) a begin x) store') (sym f)
               (record {
                 refused = λ n. false_true n (can ∙ ap had_room f);
@@ -167,7 +166,7 @@ module _ (pack store : List ℕ) (a : Agent) (h : a.id < 2 ^ 32) (t : Turnable p
                     log_is
                     ∙ passes_block store store' p lies (held a) (code pack store a h t) begin onto b logs through others slot v f;
               })
-          go NoRoom f =
+          go (Err e) f =
               subst (λ (x : BlockOutcome). TurnedBy pack store a (behind_block (code pack store a h t) a begin x) store') (sym f)
               (record {
                 refused = λ n. (refl, no_room_same store store' p lies (held a) (code pack store a h t) begin onto b logs through f);

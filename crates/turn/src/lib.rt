@@ -7,11 +7,11 @@ ghost use Rattle.store.specs.Sound.{Sound};
 ghost use Rattle.instruction.specs.Step.{place_of};
 ghost use Rattle.turn.specs.Turned.{Turnable, workflow_in, moved_to, replied, behind_block, TurnedBy};
 
-use agents::{Agent, Answer};
-use block::write::BlockOutcome;
+use agents::{Accepted, Agent, Answer};
+use block::write::NoRoom;
 use course::Next;
 use instruction::Spot;
-use store::rows::Got;
+use questions::Refusal;
 
 // What the turn of one agent answers, and the record that it leaves.
 #[derive(Clone, Copy)]
@@ -25,11 +25,7 @@ fn workflow_of(store: &[u8], id: u32) -> usize
     requires { Sound store.now }
     ensures { result ≡ workflow_in store.now id }
 {
-    let booked = book::booked_workflow(store, id);
-    match booked {
-        Got::Value(workflow) => workflow as usize,
-        Got::Absent => 0,
-    }
+    book::booked_workflow(store, id).unwrap_or(0) as usize
 }
 
 // The agent stands at another place, at this step.
@@ -39,28 +35,20 @@ fn stand_at(a: Agent, to: Spot, step: u16) -> Turned
 {
     let registers = to.registers;
     Turned {
-        answer: Answer::Moved,
+        answer: Ok(Accepted::Moved),
         agent: agents::placed(a, to.position as u16, registers, step),
     }
 }
 
 // Behind the block that opens at `begin`, by what it came to.
-fn leave_block(ops: &[u8], a: Agent, begin: Spot, outcome: BlockOutcome) -> Turned
+fn leave_block(ops: &[u8], a: Agent, begin: Spot, outcome: Result<u32, NoRoom>) -> Turned
     requires { (begin.position < length ops.now) × (length ops.now ≤ 256) × (a.step < 65535) }
     ensures { (ws : List ℕ) → result ≡ behind_block (code_of ops.now ws) a (place_of begin) outcome }
 {
     match outcome {
-        BlockOutcome::Result(value) => stand_at(
-            a,
-            course::behind_block(ops, begin, value),
-            a.step + 1,
-        ),
-        BlockOutcome::NoRoom => Turned {
-            answer: Answer::Refused {
-                question: 21,
-                workflow: 0,
-                instruction: 0,
-            },
+        Ok(value) => stand_at(a, course::behind_block(ops, begin, value), a.step + 1),
+        Err(NoRoom) => Turned {
+            answer: Err(Refusal::number(21)),
             agent: a,
         },
     }
@@ -71,7 +59,7 @@ fn reply(a: Agent, value: u32) -> Turned
     ensures { result ≡ replied a value }
 {
     Turned {
-        answer: Answer::Reply { id: a.id, value },
+        answer: Ok(Accepted::Reply { id: a.id, value }),
         agent: agents::no_agent(),
     }
 }

@@ -5,40 +5,11 @@
 ghost use Rattle.std.specs.Prelude.{◌≡◌, length};
 ghost use Rattle.std.specs.Io.{ReadsAtMost};
 
+use schedule::input::{read_full, zeros};
 use std::fs::File;
 use std::io;
-use std::io::{Read, Write};
+use std::io::Write;
 use std::rt::Files;
-
-// One byte more than the longest pack, 1 + 2 × 16 + 5 × 2,048, so that the check sees the length of a longer file.
-fn pack_buffer() -> [u8; 10_274]
-    ensures { 10274 ≡ length result }
-{
-    [0; 10_274]
-}
-
-// One byte more than the longest schedule, 6 + 24 × 64 + 2 × 1,024.
-fn schedule_buffer() -> [u8; 3_591]
-    ensures { 3591 ≡ length result }
-{
-    [0; 3_591]
-}
-
-// The input's first bytes, as many as `buf` has; the answer is how many there were.
-fn read_full<R: Read>(input: &mut R, buf: &mut [u8]) -> io::Result<usize>
-    ensures read { ReadsAtMost result buf.new }
-    ensures kept { length buf.new ≡ length buf.old }
-{
-    let mut filled = 0;
-    while filled < buf.len() {
-        let count = input.read(&mut buf[filled..])?;
-        if count == 0 {
-            break;
-        }
-        filled += count;
-    }
-    Ok(filled)
-}
 
 // Reads a file's first bytes, as many as `buf` has, and answers how many there were. A missing file counts as empty.
 fn read_file<R: Files>(files: &R, path: &str, buf: &mut [u8]) -> io::Result<usize>
@@ -52,10 +23,12 @@ fn read_file<R: Files>(files: &R, path: &str, buf: &mut [u8]) -> io::Result<usiz
 }
 
 fn main(rt: HostRuntime) -> io::Result<()> {
-    let mut pack = pack_buffer();
-    let mut schedule = schedule_buffer();
-    let mut store = schedule::run::store_buffer();
-    let mut text = schedule::run::text_buffer();
+    // One byte more than the longest pack, 1 + 2 × 16 + 5 × 2,048, so that the check sees the length of a longer file.
+    let mut pack = zeros::<10_274>();
+    // One byte more than the longest schedule, 6 + 24 × 64 + 2 × 1,024.
+    let mut schedule = zeros::<3_591>();
+    let mut store = zeros::<27_669>();
+    let mut text = zeros::<524_288>();
     let p = read_file(&rt, "pack.bin", &mut pack)?;
     let s = read_file(&rt, "schedule.bin", &mut schedule)?;
     let n = schedule::run::run(&pack[..p], &schedule[..s], &mut store, &mut text);

@@ -8,7 +8,7 @@ use native.Mathlib.Numerals.{add-one}
 use native.Mathlib.Decide.{ℕ_discrete, dec_lt}
 use native.Mathlib.Omega.{arith}
 use lib.ListN.{length, get_or, set, replicate, length-set}
-use lib.Seq.{ext_get_or, get_or-set_same, get_or-set_other}
+use lib.Seq.{ext_get_or, get_or-set_same}
 use Rattle.words.specs.Words.{le, put}
 use Rattle.words.proofs.Laws.{length_put, get_or_put, le_put, le_put_other}
 use Rattle.rules.specs.Worklist as Rules
@@ -35,31 +35,13 @@ at_in xs (suc n) i (suc k) h = at_in xs n (i + 1) k (omega arith) ∙ ap (entry_
 
 -- ── read ──
 
--- the first i of sixteen places have what the bytes have there
-pub record ReadTo (xs : List ℕ) (es : List Entry) (i : ℕ) : Type 0 where
-  pub sixteen : length es ≡ 16
-  pub each : (k : ℕ) → k < i → place_at es k ≡ entry_in xs k
-
-pub read_none : (xs : List ℕ) (es : List Entry) → length es ≡ 16 → ReadTo xs es 0
-read_none xs es l = record { sixteen = l; each = λ k h. absurd (omega arith) }
-
--- one place more
-pub read_more : (xs : List ℕ) (es : List Entry) (i : ℕ) (e : Entry) → i < 16 → e ≡ entry_in xs i → ReadTo xs es i →
-    ReadTo xs (set es i e) (i + 1)
-read_more xs es i e h q r =
-    record { sixteen = length-set es i e ∙ r.sixteen; each = λ k l. go k l (ℕ_discrete k i) }
-  where
-    go : (k : ℕ) → k < i + 1 → Dec (k ≡ i) → place_at (set es i e) k ≡ entry_in xs k
-    go k l (yes p) =
-        ap (place_at (set es i e)) p ∙ get_or-set_same es i e no_entry (omega (arith, r.sixteen)) ∙ q ∙ ap (entry_in xs) (sym p)
-    go k l (no d) = get_or-set_other es i k e no_entry d ∙ r.each k (omega arith)
-
--- all sixteen
-pub read_all : (xs : List ℕ) (es : List Entry) (i : ℕ) → 16 ≤ i → ReadTo xs es i → es ≡ (list_in xs).places
-read_all xs es i h r =
-    ext_get_or no_entry es (entries_in xs 16 0) (r.sixteen ∙ sym (length_in xs 16 0))
-    (λ k l. let l' : k < 16 = omega (arith, r.sixteen) in
-    r.each k (omega arith) ∙ sym (at_in xs 16 0 k l' ∙ ap (entry_in xs) (omega arith)))
+-- sixteen places that have what the bytes have there
+pub read_all : (xs : List ℕ) (es : List Entry) → length es ≡ 16 → ((k : ℕ) → k < 16 → place_at es k ≡ entry_in xs k) →
+    es ≡ (list_in xs).places
+read_all xs es sixteen each =
+    ext_get_or no_entry es (entries_in xs 16 0) (sixteen ∙ sym (length_in xs 16 0))
+    (λ k l. let l' : k < 16 = omega arith in
+    each k l' ∙ sym (at_in xs 16 0 k l' ∙ ap (entry_in xs) (omega arith)))
 
 -- ── written ──
 

@@ -4,25 +4,23 @@ use mathlib.Core.List.{List, [], ◌∷◌, ◌++◌}
 use mathlib.Core.Option.{none, some}
 use mathlib.Core.Path.{◌≡◌, refl, sym, ◌∙◌, ap}
 use Prim.Native.Nat.{ℕ, zero, suc, ◌+◌, ◌-◌, ◌≤◌, ◌<◌}
-use native.Mathlib.Nat.{sub-zero}
 use native.Mathlib.Decide.{dec_lt}
 use native.Mathlib.Omega.{arith}
 use borrow.Author.Tests.{lt-ltb, le-ltb, ltb-true}
 use lib.Dec.{eqb, ltb}
-use lib.ListN.{length, get_or, set, replicate, length-set}
+use lib.ListN.{length, get_or, set, replicate, take, drop, length-set, get_or-append}
+use Rattle.std.proofs.lemmas.List.{length-append, length-drop, get_or-take, get_or-drop, get_or-append_right}
 use lib.Seq.{ext_get_or, get_or-set_same, get_or-set_other}
 use Rattle.questions.specs.Basics.{if◌then◌otherwise◌}
 use Rattle.rules.specs.Worklist as Rules
 use Rattle.worklist.specs.declared.Entry.{Entry}
 use Rattle.worklist.specs.declared.Worklist.{Worklist}
 use Rattle.worklist.specs.Worklist.{mark_of, entry_of, no_entry, place_at, entries_of, worklist_of, no_worklist, Kept}
-use Rattle.worklist.specs.Worklist.{first_from, has_id, waits, moved_up, waiting_to}
-use Rattle.worklist.proofs.Places.{first_before, first_at, length_moved, moved_other, moved_at}
-use Rattle.worklist.proofs.Places.{length_waiting, waiting_other}
-use Rattle.worklist.proofs.Places as Places
+use Rattle.worklist.specs.Worklist.{has_id, waits, waiting}
+use Rattle.worklist.proofs.Places.{FirstAt}
 use Rattle.worklist.proofs.Means.{rest_from, rest_all, rest_same, rest_more, length_entries, at_entries}
-use Rattle.worklist.proofs.Means.{listed_yes, listed_no, taken_at, taken_not, without_at, without_not}
-use Rattle.worklist.proofs.Means.{waiting_at, waiting_not, took_at, took_not, all_waiting_is, right_count}
+use Rattle.worklist.proofs.Means.{taken_at, taken_not, without_at, without_not}
+use Rattle.worklist.proofs.Means.{waiting_at, waiting_not, took_at, took_not, all_waiting_is}
 
 -- a list has as many entries as it has ids
 pub length_worklist : (l : Worklist) → length (worklist_of l) ≡ l.count
@@ -101,133 +99,115 @@ can_list_full l id h = rw (le-ltb (length (worklist_of l)) 16 (omega (arith, len
 
 -- ── by the first place with an id ──
 
-module _ (l : Worklist) (id p : ℕ) (found : p ≡ first_from (has_id id) l.places (l.count - 0) 0) where
+module _ (l : Worklist) (id : ℕ) where
   abbrev es : List Entry
   es = l.places
 
-  is_first : p ≡ first_from (has_id id) es l.count 0
-  is_first = found ∙ ap (λ n. first_from (has_id id) es n 0) (sub-zero l.count)
+  -- the id stands nowhere
+  module _ (no : (k : ℕ) → k < l.count → has_id id (place_at es k) ≡ false) where
+    nowhere : (k : ℕ) → 0 ≤ k → k < 0 + l.count → has_id id (place_at es k) ≡ false
+    nowhere k q q' = no k (omega arith)
 
-  here : p < l.count → has_id id (place_at es p) ≡ true
-  here h =
-      ap (λ j. has_id id (place_at es j)) is_first
-      ∙ first_at (has_id id) es l.count 0 (omega (arith, is_first))
+    pub taken_nowhere : Rules.taken_on id (worklist_of l) ≡ false
+    taken_nowhere = ap (Rules.taken_on id) (sym (rest_all es l.count)) ∙ taken_not id es l.count 0 nowhere
 
-  before : (k : ℕ) → 0 ≤ k → k < p → has_id id (place_at es k) ≡ false
-  before k q h = first_before (has_id id) es l.count 0 k q (omega (arith, is_first))
+    pub without_nowhere : Kept l l (Rules.without id (worklist_of l))
+    without_nowhere =
+        kept_left l _ (ap (Rules.without id) (sym (rest_all es l.count)) ∙ without_not id es l.count 0 nowhere ∙ rest_all es l.count)
 
-  nowhere : l.count ≤ p → (k : ℕ) → 0 ≤ k → k < 0 + l.count → has_id id (place_at es k) ≡ false
-  nowhere h k q q' = before k q (omega arith)
+  -- it stands at p first
+  module _ (p : ℕ) (first : FirstAt (has_id id) es l.count p) where
+    before : (k : ℕ) → 0 ≤ k → k < p → has_id id (place_at es k) ≡ false
+    before k q h = first.before k h
 
-  is_listed : p < l.count → Rules.listed id (worklist_of l) ≡ true
-  is_listed h = ap (Rules.listed id) (sym (rest_all es l.count)) ∙ listed_yes id es l.count 0 (omega (arith, is_first))
+    pub taken_here : Rules.taken_on id (worklist_of l) ≡ eqb (place_at es p).mark 1
+    taken_here =
+        ap (Rules.taken_on id) (sym (rest_all es l.count))
+        ∙ taken_at id es p first.here l.count 0 (omega arith) (omega (arith, first.within)) before
 
-  not_listed : l.count ≤ p → Rules.listed id (worklist_of l) ≡ false
-  not_listed h = ap (Rules.listed id) (sym (rest_all es l.count)) ∙ listed_no id es l.count 0 (omega (arith, is_first))
+    -- fs has the entries behind it moved up by one
+    pub without_here : (fs : List Entry) → length fs ≡ length es → ((k : ℕ) → k < p → place_at fs k ≡ place_at es k) →
+        ((k : ℕ) → p ≤ k → k < l.count - 1 → place_at fs k ≡ place_at es (k + 1)) →
+        ((k : ℕ) → l.count - 1 ≤ k → place_at fs k ≡ place_at es k) →
+        Kept l (record { count = l.count - 1; places = fs }) (Rules.without id (worklist_of l))
+    without_here fs long ahead moved behind =
+        let n = l.count - 1 in
+        let h = first.within in
+        kept_by l (record { count = n; places = fs }) _
+        (sym (rest_all fs n)
+        ∙ sym (without_at id es p first.here fs n 0 (omega arith) (omega arith) before
+        (λ k q q'. ahead k q')
+        (λ k q q'. moved k q (omega arith)))
+        ∙ ap (λ j. Rules.without id (rest_from es j 0)) (omega arith)
+        ∙ ap (Rules.without id) (rest_all es l.count))
+        long
+        (λ k q. behind k q)
 
-  -- an id is listed where its first place is among those of the list
-  pub listed_is : Rules.listed id (worklist_of l) ≡ ltb p l.count
-  listed_is = go (dec_lt p l.count)
-    where
-      go : Dec (p < l.count) → Rules.listed id (worklist_of l) ≡ ltb p l.count
-      go (yes e) = is_listed e ∙ sym (lt-ltb p l.count e)
-      go (no e) = not_listed (omega arith) ∙ sym (le-ltb p l.count (omega arith))
-
+module _ (l : Worklist) (id : ℕ) where
   -- 26, of a new id
-  pub room_for_new : l.count ≤ p → Rules.can_list id (worklist_of l) ≡ true → l.count < 16
+  pub room_for_new : Rules.listed id (worklist_of l) ≡ false → Rules.can_list id (worklist_of l) ≡ true → l.count < 16
   unfolding Rules.can_list
   room_for_new h e =
       let t : ltb (length (worklist_of l)) 16 ≡ true =
-      ap (λ b. if◌then◌otherwise◌ b true (ltb (length (worklist_of l)) 16)) (sym (not_listed h)) ∙ e in
+      ap (λ b. if◌then◌otherwise◌ b true (ltb (length (worklist_of l)) 16)) (sym h) ∙ e in
       let u = ltb-true (length (worklist_of l)) 16 t in
       omega (arith, length_worklist l)
 
-  pub taken_here : p < l.count → Rules.taken_on id (worklist_of l) ≡ eqb (place_at es p).mark 1
-  taken_here h =
-      ap (Rules.taken_on id) (sym (rest_all es l.count))
-      ∙ taken_at id es p (here h) l.count 0 (omega arith) (omega arith) before
+  pub added_listed : Rules.listed id (worklist_of l) ≡ true → Kept l l (Rules.added id (worklist_of l))
+  unfolding Rules.added
+  added_listed h = kept_left l _ (rw h refl)
 
-  pub taken_nowhere : l.count ≤ p → Rules.taken_on id (worklist_of l) ≡ false
-  taken_nowhere h = ap (Rules.taken_on id) (sym (rest_all es l.count)) ∙ taken_not id es l.count 0 (nowhere h)
-
-  module _ (sixteen : length l.places ≡ 16) where
-    pub added_listed : p < l.count → Kept l l (Rules.added id (worklist_of l))
-    unfolding Rules.added
-    added_listed h = kept_left l _ (rw (is_listed h) refl)
-
-    pub added_new : l.count ≤ p → l.count < 16 →
-        Kept l (record { count = l.count + 1; places = set es l.count (record { id = id; mark = 0 }) }) (Rules.added id (worklist_of l))
-    unfolding Rules.added
-    added_new h r =
-        let n = l.count in
-        let fs = set es n (record { id = id; mark = 0 }) in
-        let same : rest_from fs n 0 ≡ worklist_of l =
-        rest_same es fs n 0 0 (λ k q. get_or-set_other es n (0 + k) (record { id = id; mark = 0 }) no_entry (λ e. omega arith))
-        ∙ rest_all es n in
-        let last : place_at fs (0 + n) ≡ record { id = id; mark = 0 } =
-        ap (place_at fs) (omega arith) ∙ get_or-set_same es n (record { id = id; mark = 0 }) no_entry (omega (arith, sixteen)) in
-        kept_by l (record { count = n + 1; places = fs }) _
-        (sym (rest_all fs (n + 1)) ∙ sym (rest_more fs n 0) ∙ rw (not_listed h) (λ t. same t ++ entry_of (last t) ∷ []))
-        (length-set es n (record { id = id; mark = 0 }))
-        (λ k q. get_or-set_other es n k (record { id = id; mark = 0 }) no_entry (λ e. omega arith))
-
-    pub without_nowhere : l.count ≤ p → Kept l l (Rules.without id (worklist_of l))
-    without_nowhere h =
-        kept_left l _
-        (ap (Rules.without id) (sym (rest_all es l.count)) ∙ without_not id es l.count 0 (nowhere h) ∙ rest_all es l.count)
-
-    pub without_here : p < l.count → l.count ≤ 16 →
-        Kept l (record { count = l.count - 1; places = moved_up es p (l.count - p - 1) }) (Rules.without id (worklist_of l))
-    without_here h r =
-        let n = l.count - 1 in
-        let m = l.count - p - 1 in
-        let fs = moved_up es p m in
-        kept_by l (record { count = n; places = fs }) _
-        (sym (rest_all fs n)
-        ∙ sym (without_at id es p (here h) fs n 0 (omega arith) (omega arith) before
-        (λ k q q'. moved_other es p m k (λ z z'. omega arith))
-        (λ k q q'. moved_at es p m k (omega (arith, sixteen)) q (omega arith)))
-        ∙ ap (λ j. Rules.without id (rest_from es j 0)) (omega arith)
-        ∙ ap (Rules.without id) (rest_all es l.count))
-        (length_moved es p m)
-        (λ k q. moved_other es p m k (λ z z'. omega arith))
+  pub added_new : Rules.listed id (worklist_of l) ≡ false → l.count < length l.places →
+      Kept l (record { count = l.count + 1; places = set l.places l.count (record { id = id; mark = 0 }) }) (Rules.added id (worklist_of l))
+  unfolding Rules.added
+  added_new h r =
+      let n = l.count in
+      let es = l.places in
+      let fs = set es n (record { id = id; mark = 0 }) in
+      let same : rest_from fs n 0 ≡ worklist_of l =
+      rest_same es fs n 0 0 (λ k q. get_or-set_other es n (0 + k) (record { id = id; mark = 0 }) no_entry (λ e. omega arith))
+      ∙ rest_all es n in
+      let last : place_at fs (0 + n) ≡ record { id = id; mark = 0 } =
+      ap (place_at fs) (omega arith) ∙ get_or-set_same es n (record { id = id; mark = 0 }) no_entry r in
+      kept_by l (record { count = n + 1; places = fs }) _
+      (sym (rest_all fs (n + 1)) ∙ sym (rest_more fs n 0) ∙ rw h (λ t. same t ++ entry_of (last t) ∷ []))
+      (length-set es n (record { id = id; mark = 0 }))
+      (λ k q. get_or-set_other es n k (record { id = id; mark = 0 }) no_entry (λ e. omega arith))
 
 -- ── by the first that waits ──
 
-module _ (l : Worklist) (p : ℕ) (found : p ≡ first_from waits l.places l.count 0) where
-  waits_before : (k : ℕ) → 0 ≤ k → k < p → waits (place_at l.places k) ≡ false
-  waits_before k q h = first_before waits l.places l.count 0 k q (omega (arith, found))
+module _ (l : Worklist) where
+  module _ (no : (k : ℕ) → k < l.count → waits (place_at l.places k) ≡ false) where
+    all_busy : (k : ℕ) → 0 ≤ k → k < 0 + l.count → waits (place_at l.places k) ≡ false
+    all_busy k q q' = no k (omega arith)
 
-  waits_here : p < l.count → waits (place_at l.places p) ≡ true
-  waits_here h = ap (λ j. waits (place_at l.places j)) found ∙ first_at waits l.places l.count 0 (omega (arith, found))
+    pub none_waits : Rules.first_waiting (worklist_of l) ≡ none
+    none_waits = ap Rules.first_waiting (sym (rest_all l.places l.count)) ∙ waiting_not l.places l.count 0 all_busy
 
-  pub none_waits : l.count ≤ p → Rules.first_waiting (worklist_of l) ≡ none
-  none_waits h =
-      ap Rules.first_waiting (sym (rest_all l.places l.count))
-      ∙ waiting_not l.places l.count 0 (λ k q q'. waits_before k q (omega arith))
+    pub took_none : Kept l l (Rules.took_first (worklist_of l))
+    took_none =
+        kept_left l _ (ap Rules.took_first (sym (rest_all l.places l.count)) ∙ took_not l.places l.count 0 all_busy ∙ rest_all l.places l.count)
 
-  pub one_waits : p < l.count → Rules.first_waiting (worklist_of l) ≡ some (place_at l.places p).id
-  one_waits h =
-      ap Rules.first_waiting (sym (rest_all l.places l.count))
-      ∙ waiting_at l.places p (waits_here h) l.count 0 (omega arith) (omega arith) waits_before
+  module _ (p : ℕ) (first : FirstAt waits l.places l.count p) where
+    waits_before : (k : ℕ) → 0 ≤ k → k < p → waits (place_at l.places k) ≡ false
+    waits_before k q h = first.before k h
 
-  module _ (sixteen : length l.places ≡ 16) where
-    pub took_none : l.count ≤ p → Kept l l (Rules.took_first (worklist_of l))
-    took_none h =
-        kept_left l _
-        (ap Rules.took_first (sym (rest_all l.places l.count))
-        ∙ took_not l.places l.count 0 (λ k q q'. waits_before k q (omega arith)) ∙ rest_all l.places l.count)
+    pub one_waits : Rules.first_waiting (worklist_of l) ≡ some (place_at l.places p).id
+    one_waits =
+        ap Rules.first_waiting (sym (rest_all l.places l.count))
+        ∙ waiting_at l.places p first.here l.count 0 (omega arith) (omega (arith, first.within)) waits_before
 
-    pub took_one : p < l.count → l.count ≤ 16 →
+    pub took_one : l.count ≤ length l.places →
         Kept l (record { count = l.count; places = set l.places p (record { id = (place_at l.places p).id; mark = 1 }) })
         (Rules.took_first (worklist_of l))
-    took_one h r =
+    took_one r =
         let marked : Entry = record { id = (place_at l.places p).id; mark = 1 } in
         let fs = set l.places p marked in
+        let h = first.within in
         kept_by l (record { count = l.count; places = fs }) _
         (sym (rest_all fs l.count)
-        ∙ sym (took_at l.places p (waits_here h) fs l.count 0 (omega arith) (omega arith) waits_before
-        (get_or-set_same l.places p marked no_entry (omega (arith, sixteen)))
+        ∙ sym (took_at l.places p first.here fs l.count 0 (omega arith) (omega arith) waits_before
+        (get_or-set_same l.places p marked no_entry (omega arith))
         (λ k d. get_or-set_other l.places p k marked no_entry d))
         ∙ ap Rules.took_first (rest_all l.places l.count))
         (length-set l.places p marked)
@@ -235,21 +215,32 @@ module _ (l : Worklist) (p : ℕ) (found : p ≡ first_from waits l.places l.cou
 
 -- ── restart ──
 
-module _ (l : Worklist) (sixteen : length l.places ≡ 16) where
-  pub restarted_right : Rules.list_right (worklist_of l) ≡ true →
-      Kept l (record { count = l.count; places = waiting_to l.places l.count }) (Rules.restarted (worklist_of l))
+module _ (l : Worklist) where
+  -- fs has the entries, each of them waiting
+  pub restarted_right : Rules.list_right (worklist_of l) ≡ true → (fs : List Entry) → length fs ≡ length l.places →
+      ((k : ℕ) → k < l.count → place_at fs k ≡ waiting (place_at l.places k)) →
+      ((k : ℕ) → l.count ≤ k → place_at fs k ≡ place_at l.places k) →
+      Kept l (record { count = l.count; places = fs }) (Rules.restarted (worklist_of l))
   unfolding Rules.restarted
-  restarted_right e =
-      let n = right_count l.places l.count e in
-      let fs = waiting_to l.places l.count in
+  restarted_right e fs long marked behind =
       kept_by l (record { count = l.count; places = fs }) _
       (rw e
       (sym (rest_all fs l.count)
-      ∙ sym (all_waiting_is l.places fs l.count 0
-      (λ k q q'. Places.waiting_at l.places l.count k (omega (arith, sixteen)) (omega arith)))
+      ∙ sym (all_waiting_is l.places fs l.count 0 (λ k q q'. marked k (omega arith)))
       ∙ ap Rules.all_waiting (rest_all l.places l.count)))
-      (length_waiting l.places l.count)
-      (λ k q. waiting_other l.places l.count k q)
+      long
+      behind
+
+  -- its entries, each marked, in front of the places behind them
+  pub restarted_front : Rules.list_right (worklist_of l) ≡ true → (front : List Entry) → l.count ≤ length l.places →
+      length front ≡ l.count → ((k : ℕ) → k < l.count → place_at front k ≡ waiting (place_at (take l.count l.places) k)) →
+      Kept l (record { count = l.count; places = front ++ drop l.count l.places }) (Rules.restarted (worklist_of l))
+  restarted_front e front h long marked =
+      restarted_right e (front ++ drop l.count l.places)
+      (omega (arith, length-append front (drop l.count l.places), length-drop l.count l.places))
+      (λ k q. get_or-append front (drop l.count l.places) no_entry k (omega arith) ∙ marked k q ∙ ap waiting (get_or-take l.count l.places k no_entry q))
+      (λ k q. get_or-append_right front (drop l.count l.places) l.count k no_entry long q
+      ∙ get_or-drop l.count l.places (k - l.count) no_entry ∙ ap (place_at l.places) (omega arith))
 
   pub restarted_wrong : Rules.list_right (worklist_of l) ≡ false → Kept l l (Rules.restarted (worklist_of l))
   unfolding Rules.restarted

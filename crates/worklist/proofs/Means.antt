@@ -1,5 +1,5 @@
 -- What the rules say of a worklist, by its places.
-use mathlib.Core.Bool.{Bool, true, false, not, ◌&&◌}
+use mathlib.Core.Bool.{Bool, true, false, not, ◌&&◌, ◌||◌}
 use mathlib.Core.List.{List, [], ◌∷◌, ◌++◌}
 use mathlib.Core.Logic.{⊎_elim}
 use mathlib.Core.Option.{none, some}
@@ -9,12 +9,16 @@ use native.Mathlib.Nat.{eq-or-lt_of_le, sub-zero}
 use native.Mathlib.Omega.{arith}
 use borrow.Author.Tests.{ne_eqb, le-leb, lt-leb, leb-true}
 use lib.Dec.{eqb, leb}
-use lib.ListN.{length, get_or}
+use lib.ListN.{length, get_or, take, drop}
+use Rattle.std.proofs.Common.{drop-cons}
+use Rattle.std.proofs.lemmas.List.{length-take-le, get_or-take}
+use Rattle.std.specs.List.{list_any}
+use Rattle.questions.specs.Basics.{if◌then◌otherwise◌}
+use native.Mathlib.Numerals.{add-one}
 use Rattle.questions.proofs.Tests.{and_left, and_false}
 use Rattle.rules.specs.Worklist as Rules
 use Rattle.worklist.specs.declared.Entry.{Entry}
-use Rattle.worklist.specs.Worklist.{mark_of, entry_of, no_entry, place_at, entries_of, first_from, has_id, waits}
-use Rattle.worklist.proofs.Places.{first_range, first_before, first_at}
+use Rattle.worklist.specs.Worklist.{mark_of, entry_of, no_entry, place_at, entries_of, has_id, waits}
 
 -- the entries at the n places from the i-th on
 unfoldable pub rest_from : (places : List Entry) (n i : ℕ) → Rules.Worklist
@@ -163,14 +167,23 @@ module _ (id : ℕ) (es : List Entry) where
       rw (b i (omega arith) (omega arith))
       (ap (λ w. entry_of (place_at es i) ∷ w) (without_not n (i + 1) (λ k q q'. b k (omega arith) (omega arith))))
 
-  -- by the first place with the id
-  pub listed_yes : (n i : ℕ) → first_from (has_id id) es n i < i + n → Rules.listed id (rest_from es n i) ≡ true
-  listed_yes n i h =
-      listed_at (first_from (has_id id) es n i) (first_at (has_id id) es n i h) n i (first_range (has_id id) es n i).0 h
-      (λ k q q'. first_before (has_id id) es n i k q q')
+either : (b c : Bool) → if◌then◌otherwise◌ b true c ≡ (b || c)
+either true c = refl
+either false c = refl
 
-  pub listed_no : (n i : ℕ) → i + n ≤ first_from (has_id id) es n i → Rules.listed id (rest_from es n i) ≡ false
-  listed_no n i h = listed_not n i (λ k q q'. first_before (has_id id) es n i k q (omega arith))
+-- an id among the n entries from i on, as the code looks for it
+pub listed_in : (id : ℕ) (es : List Entry) (n i : ℕ) → i + n ≤ length es →
+    Rules.listed id (rest_from es n i) ≡ list_any (has_id id) (take n (drop i es))
+unfolding rest_from
+listed_in id es zero i h = refl
+listed_in id es (suc n) i h =
+    rw (drop-cons es i no_entry (omega arith), listed_in id es n (i + 1) (omega arith))
+    (either (eqb id (place_at es i).id) (list_any (has_id id) (take n (drop (i + 1) es)))
+    ∙ ap (λ j. eqb id (place_at es i).id || list_any (has_id id) (take n (drop j es))) (add-one i))
+
+-- and among the first n places
+pub listed_is : (id : ℕ) (es : List Entry) (n : ℕ) → n ≤ length es → list_any (has_id id) (take n es) ≡ Rules.listed id (entries_of es n)
+listed_is id es n h = sym (listed_in id es n 0 (omega arith)) ∙ ap (Rules.listed id) (rest_all es n)
 
 -- ── the first that waits ──
 
@@ -257,18 +270,13 @@ module _ (es : List Entry) where
       (and_false
       (not (Rules.listed (place_at es i).id (rest_from es (n - (i + 1)) (i + 1))) && Rules.all_once (rest_from es (n - (i + 1)) (i + 1))))
 
-  pub right_twice : (n i : ℕ) → i < n → first_from (has_id (place_at es i).id) es (n - (i + 1)) (i + 1) < n → right_from n i ≡ false
-  right_twice n i h t =
-      right_step n i h ∙ rw (listed_yes (place_at es i).id es (n - (i + 1)) (i + 1) (omega arith)) refl
+  pub right_twice : (n i : ℕ) → i < n → Rules.listed (place_at es i).id (rest_from es (n - (i + 1)) (i + 1)) ≡ true → right_from n i ≡ false
+  right_twice n i h t = right_step n i h ∙ rw t refl
 
-  pub right_on : (n i : ℕ) → i < n → (place_at es i).mark ≤ 1 → n ≤ first_from (has_id (place_at es i).id) es (n - (i + 1)) (i + 1) →
-      right_from n i ≡ right_from n (i + 1)
+  pub right_on : (n i : ℕ) → i < n → (place_at es i).mark ≤ 1 →
+      Rules.listed (place_at es i).id (rest_from es (n - (i + 1)) (i + 1)) ≡ false → right_from n i ≡ right_from n (i + 1)
   right_on n i h m t =
-      right_step n i h
-      ∙ rw (
-        listed_no (place_at es i).id es (n - (i + 1)) (i + 1) (omega arith),
-        marked_is (place_at es i).mark ∙ le-leb (place_at es i).mark 1 m,
-      ) (unfold right_from in refl)
+      right_step n i h ∙ rw (t, marked_is (place_at es i).mark ∙ le-leb (place_at es i).mark 1 m) (unfold right_from in refl)
 
   pub right_end : (n i : ℕ) → n ≤ i → right_from n i ≡ true
   unfolding rest_from right_from
@@ -288,3 +296,18 @@ module _ (es : List Entry) where
   unfolding Rules.list_right
   right_count n e =
       let h = leb-true (length (entries_of es n)) 16 (and_left _ _ e) in omega (arith, length_entries es n)
+
+-- the first n of the places are entries enough
+entries_taken : (es : List Entry) (n : ℕ) → n ≤ length es → entries_of (take n es) (length (take n es)) ≡ entries_of es n
+entries_taken es n h =
+    let l = length-take-le n es h in
+    ap (entries_of (take n es)) l
+    ∙ sym (rest_all (take n es) n)
+    ∙ rest_same es (take n es) n 0 0 (λ k q. get_or-take n es (0 + k) no_entry (omega arith))
+    ∙ rest_all es n
+
+-- question 25, by the entries that are looked at
+pub answered : (es xs : List Entry) (n : ℕ) → n ≤ length es → n ≤ 16 → xs ≡ take n es →
+    right_from xs (length xs) 0 ≡ Rules.list_right (entries_of es n)
+answered es xs n h m e =
+    rw e (right_all (take n es) (length (take n es)) (omega (arith, length-take-le n es h)) ∙ ap Rules.list_right (entries_taken es n h))

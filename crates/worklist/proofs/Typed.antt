@@ -1,6 +1,6 @@
 -- What the type of a worklist says of it: sixteen places.
-use mathlib.Core.Path.{◌≡◌, sym, ◌∙◌}
-use mathlib.Core.List.{List, [], ◌∷◌, map}
+use mathlib.Core.Path.{◌≡◌}
+use mathlib.Core.List.{List, [], ◌∷◌}
 use Prim.Native.Nat.{ℕ, zero, suc, ◌^◌, ◌<◌}
 use native.Mathlib.Omega.{arith}
 use mir.Val.{Val}
@@ -8,7 +8,7 @@ use denote.Laws.{Is}
 use denote.Shadow.{shadow}
 use denote.Array.{each}
 use denote.Struct.Laws as LL
-use lib.ListN.{length, length-map}
+use lib.ListN.{length}
 use Rattle.worklist.specs.declared.Entry.{Entry}
 use Rattle.worklist.specs.declared.Worklist.{Worklist}
 use Rattle.worklist.specs.Worklist.{place_at}

@@ -1,7 +1,7 @@
 -- What a worklist of sixteen places means as a worklist of the rules.
-use Rattle.std.specs.Prelude.{Bool, List, [], ◌∷◌, ◌≡◌, ℕ, zero, suc, ◌+◌, ◌≤◌, eqb, length, get_or, set, replicate}
+use Rattle.std.specs.Prelude.{Bool, List, [], ◌∷◌, ◌≡◌, ℕ, zero, suc, ◌≤◌, eqb, length, get_or, replicate}
+use Rattle.std.specs.Prelude as Code
 use Rattle.std.proofs.Math.Option.{Option, none, some}
-use Rattle.questions.specs.Basics.{if◌then◌otherwise◌}
 use Rattle.rules.specs.Worklist as Rules
 use Rattle.worklist.specs.declared.Entry.{Entry}
 use Rattle.worklist.specs.declared.Worklist.{Worklist}
@@ -44,16 +44,16 @@ pub record Kept (before after : Worklist) (work : Rules.Worklist) : Type 0 where
   pub places : length after.places ≡ length before.places
   pub behind : (place : ℕ) → length work ≤ place → place_at after.places place ≡ place_at before.places place
 
+-- an answer of the code, where there may be none
+abbrev pub given : Code.Option ℕ → Option ℕ
+given Code.None = none
+given (Code.Some id) = some id
+
 -- the id that a take found, if it did
 abbrev pub found_id : Took → Option ℕ
-found_id t = if t.found then some t.id otherwise none
+found_id t = given t.id
 
--- ── Places, as the code seeks and writes them ──
-
--- the first of the n places from `from` on of which f holds, or the place behind them
-unfoldable pub first_from : (Entry → Bool) → (places : List Entry) (n from : ℕ) → ℕ
-first_from f es zero i = i
-first_from f es (suc n) i = if f (place_at es i) then i otherwise first_from f es n (i + 1)
+-- ── Entries, as the code seeks and writes them ──
 
 -- has the entry this id?
 abbrev pub has_id : (id : ℕ) → Entry → Bool
@@ -63,12 +63,6 @@ has_id id e = eqb id e.id
 abbrev pub waits : Entry → Bool
 waits e = eqb e.mark 0
 
--- the places, of which the n from `from` on have the entry of the place behind
-unfoldable pub moved_up : (places : List Entry) (from n : ℕ) → List Entry
-moved_up es i zero = es
-moved_up es i (suc n) = set (moved_up es i n) (i + n) (place_at es (i + n + 1))
-
--- the places, the first n of them marked as waiting
-unfoldable pub waiting_to : (places : List Entry) (n : ℕ) → List Entry
-waiting_to es zero = es
-waiting_to es (suc n) = set (waiting_to es n) n (record { id = (place_at es n).id; mark = 0 })
+-- the entry, marked as waiting
+abbrev pub waiting : Entry → Entry
+waiting e = record { id = e.id; mark = 0 }

@@ -8,7 +8,7 @@ use Rattle.store.specs.Rows.{rows_of, keys_in, insert_at}
 use Rattle.store.specs.Answers.{found_in}
 use Rattle.instruction.specs.Pending.{rows_in}
 use Rattle.instruction.proofs.Rows.{keys_count, values_count}
-use Rattle.block.proofs.Writes.{keys_good, some_keys, first_key, keys_rise, keys_right, log_none, written, no_room}
+use Rattle.block.proofs.Writes.{keys_good, some_keys, first_key, keys_rise, keys_right, log_none, written, left_alone}
 use Rattle.block.proofs.write.commit.Statement.{statement}
 use Rattle.block.proofs.write.commit.Tie as tie
 
@@ -77,7 +77,7 @@ commit_spec =
     let a = st.args in
     let k = lk.log_key-log.ensures in
     let q = w.insert_row-rows.ensures in
-    no_room a.store.now _ a.partition a.ran st.requires.2 a.id a.step k.1 k.2 w.insert_row-rows.result q.0
+    left_alone a.store.now _ a.partition a.ran st.requires.2 a.id a.step k.1 k.2 w.insert_row-rows.result q.0
     (rows_with_log w)
     (keys_good a.store.now a.partition st.requires.0 st.requires.1) (log_none _ a.id a.step _ k.1 k.2 st.requires.3)
     (rw c.if-put_all.false at pa.put_all.ensures)))

@@ -9,7 +9,7 @@ use Rattle.words.specs.Words.{fields}
 use Rattle.store.specs.Layout.{parts_of, cap_of, key_at}
 use Rattle.store.specs.Rows.{rows_of, keys_in}
 use Rattle.store.specs.Answers.{Searched}
-use Rattle.store.specs.declared.rows.Found.{Found}
+use Rattle.store.specs.Answers.{Found}
 use Rattle.store.proofs.Lists.{before}
 use Rattle.store.proofs.Bytes.{used_le, keys_from_lem}
 use Rattle.store.proofs.rows.find.Statement.{statement}
