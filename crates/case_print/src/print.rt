@@ -64,21 +64,15 @@ fn print_agent<W: Write>(out: &mut W, slot: usize, agent: &[u8]) -> io::Result<(
     write_line(out, &line, written)
 }
 
-fn print_entry<W: Write>(out: &mut W, entry: &[u8]) -> io::Result<()>
-    requires { 8 ≤ length entry.now }
-{
-    let mut line = [0u8; 48];
-    let written = case_lines::list_line(&mut line, entry);
-    write_line(out, &line, written)
-}
-
 // The entries of a worklist, as many as its number says, and no more than its bytes hold.
 pub fn print_list<W: Write>(out: &mut W, list: &[u8]) -> io::Result<()>
     requires { 132 ≤ length list.now }
 {
     let entries = words::read32(list, 0) as usize;
     for entry in list[4..].chunks_exact(8).take(entries) {
-        print_entry(out, entry)?;
+        let mut line = [0u8; 48];
+        let written = case_lines::list_line(&mut line, entry);
+        write_line(out, &line, written)?;
     }
     Ok(())
 }

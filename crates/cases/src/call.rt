@@ -19,19 +19,15 @@ fn export_call(
         (call_by call words) result store.new records.new answer.new }
 {
     let slot = words[0] as usize;
-    if call == 3 {
-        return host::sarthule_arrival(
+    match call {
+        3 => host::sarthule_arrival(
             pack, store, records, slot, words[1], words[2], words[3], words[4], words[5], words[6],
             answer,
-        );
+        ),
+        4 => host::sarthule_retry(pack, store, records, slot, words[1], answer),
+        5 => host::sarthule_turn(pack, store, records, slot, answer),
+        _ => host::sarthule_crash(pack, store, records, slot, answer),
     }
-    if call == 4 {
-        return host::sarthule_retry(pack, store, records, slot, words[1], answer);
-    }
-    if call == 5 {
-        return host::sarthule_turn(pack, store, records, slot, answer);
-    }
-    host::sarthule_crash(pack, store, records, slot, answer)
 }
 
 // A call on the worklist: 10 add, 11 take, 12 done.
@@ -48,13 +44,11 @@ fn list_call(
     ensures { ListExported pack.now store.now records.now list.old answer.old
         (call_by call words) result list.new answer.new }
 {
-    if call == 10 {
-        return host::sarthule_add(pack, store, records, list, words[0], answer);
+    match call {
+        10 => host::sarthule_add(pack, store, records, list, words[0], answer),
+        11 => host::sarthule_take(pack, store, records, list, answer),
+        _ => host::sarthule_done(pack, store, records, list, words[0], answer),
     }
-    if call == 11 {
-        return host::sarthule_take(pack, store, records, list, answer);
-    }
-    host::sarthule_done(pack, store, records, list, words[0], answer)
 }
 
 // A call on a store: 9 order, 13 retire, those that get records, those on the worklist, and otherwise restart.
@@ -71,22 +65,13 @@ fn store_call(
     ensures { OnStore call words pack.now store.old records.old list.old result
         store.new records.new list.new answer.new }
 {
-    if call <= 6 {
-        return export_call(pack, store, records, call, words, answer);
+    match call {
+        3..=6 => export_call(pack, store, records, call, words, answer),
+        9 => host::sarthule_order(store, answer),
+        10..=12 => list_call(pack, store, records, list, call, words, answer),
+        13 => host::sarthule_retire(pack, store, records, list, words[0], answer),
+        _ => host::sarthule_restart(records, list, answer),
     }
-    if call == 9 {
-        return host::sarthule_order(store, answer);
-    }
-    if call < 10 {
-        return host::sarthule_restart(records, list, answer);
-    }
-    if call == 13 {
-        return host::sarthule_retire(pack, store, records, list, words[0], answer);
-    }
-    if 13 < call {
-        return host::sarthule_restart(records, list, answer);
-    }
-    list_call(pack, store, records, list, call, words, answer)
 }
 
 // The call by its byte: 0 check, 1 open, 2 create, and those on a store. Its answer is what the number and the words say.
@@ -103,23 +88,11 @@ pub fn make_call(
         store.new records.new list.new }
 {
     let mut answer = [0u8; 28];
-    if call == 0 {
-        let number = host::sarthule_check(pack, &mut answer);
-        return answers::read_answer(number, &answer);
-    }
-    if call == 1 {
-        let number = host::sarthule_open(pack, words[0], &mut answer);
-        return answers::read_answer(number, &answer);
-    }
-    if call == 2 {
-        let number = host::sarthule_create(
-            store,
-            words[0] as usize,
-            words[1] as usize,
-            &mut answer,
-        );
-        return answers::read_answer(number, &answer);
-    }
-    let number = store_call(pack, store, records, list, call, words, &mut answer);
+    let number = match call {
+        0 => host::sarthule_check(pack, &mut answer),
+        1 => host::sarthule_open(pack, words[0], &mut answer),
+        2 => host::sarthule_create(store, words[0] as usize, words[1] as usize, &mut answer),
+        _ => store_call(pack, store, records, list, call, words, &mut answer),
+    };
     answers::read_answer(number, &answer)
 }
