@@ -36,6 +36,14 @@ module _ (o : Operand) (size i w : ℕ) (e : o ≡ Jump) (h : in_range o size i 
   pub target_below : target_of w < size
   target_below = ltb-true (target_of w) size (and_right (ltb (source_of w) 8 && ltb i (target_of w)) _ in_jump)
 
+-- the four questions, by their answers
+pub judged : (workflow : ℕ) (ops ws : List ℕ) (i : ℕ) (a b c d : Bool) → question4 ops i ≡ a → question5 ops ws i ≡ b →
+    question6 ops ws i ≡ c → question7 ops i ≡ d →
+    instruction_no workflow ops ws i
+    ≡ ask (no 4 workflow i) a (ask (no 5 workflow i) b (ask (no 6 workflow i) c (ask (no 7 workflow i) d none)))
+unfolding instruction_no
+judged workflow ops ws i a b c d p q r s = rw (p, q, r, s)
+
 -- the verdict on a question is that on the row, where those before it were answered yes
 module _ (workflow : ℕ) (ops ws : List ℕ) (i : ℕ) (v : Verdict) where
   abbrev Judges : Type 0

@@ -1,19 +1,20 @@
 // The code of one workflow: questions 4 to 8 put to its operation bytes and operand bytes, and the reading of an operand.
 #![tactic(auto)]
 
-ghost use Rattle.std.specs.Prelude.{◌≡◌, true, false, ◌&&◌, ◌+◌, ◌-◌, ◌*◌, ◌≤◌, ◌<◌, length, eqb};
+ghost use Rattle.std.specs.Prelude.{ℕ, ◌≡◌, true, false, ◌&&◌, ◌+◌, ◌-◌, ◌*◌, ◌≤◌, ◌<◌, length, eqb};
 ghost use Rattle.questions.specs.Basics.{if◌then◌otherwise◌, each_from};
 ghost use Rattle.operation.specs.Operations.{op_put};
-ghost use Rattle.questions.specs.Questions.{first_no};
+ghost use Rattle.std.proofs.Math.Option.{none};
+ghost use Rattle.questions.specs.Questions.{no, ask, first_no};
 ghost use Rattle.questions.specs.Verdicts.{verdict_of};
 ghost use Rattle.operation.specs.Parts.{operation_of, register_of, target_of};
 ghost use Rattle.code.specs.Layout.{word_at};
 ghost use Rattle.code.specs.Questions.{legal, in_range, register_right, inside_behind, inside_at, stands, is_no_end, lands_from, lands};
 ghost use Rattle.code.specs.Questions.{puts_before, counted};
-ghost use Rattle.code.specs.Refusal.{instruction_no, code_no};
+ghost use Rattle.code.specs.Refusal.{at_place, stopped, instruction_no, code_no};
 
 use operation::{Entry, Operand, Side};
-use questions::{Verdict, ask_at};
+use questions::{Verdict, ask_at, refused};
 
 // Is the operation 0 to B, and bit 3 clear?
 #[tactic(auto, unfolding(crate::specs::Questions::legal))]
@@ -139,44 +140,68 @@ fn puts_behind(op: u8, puts: usize) -> usize
     if op == operation::PUT { puts + 1 } else { puts }
 }
 
-// Questions 4 to 7 on an instruction: is it inside a block, and how many of the block's PUTs are before it? Outside `puts` does not count.
-// `INSIDE` is a constant, so that the side is not looked at for each instruction.
+// A question by its number alone: after a yes the rest is asked.
+#[tactic(auto, unfolding(questions::specs::Questions::ask))]
+fn ask_number(question: u8, yes: bool) -> Result<(), u8>
+    ensures { (workflow instruction : ℕ) →
+        at_place workflow instruction result ≡ verdict_of (ask (no question workflow instruction) yes none) }
+{
+    if yes { Ok(()) } else { Err(question) }
+}
+
+// Questions 4 to 7 on an instruction, the first no by its number: is it inside a block, and how many of the block's PUTs are before it?
+// Outside `puts` does not count. `INSIDE` is a constant, so that the side is not looked at for each instruction.
 fn judge<const INSIDE: bool>(
     ops: &[u8],
     operands: &[u8],
-    workflow: usize,
     index: usize,
     puts: usize,
-) -> Verdict
+) -> Result<(), u8>
     requires in_code { (index < length ops.now) × (length operands.now ≡ 4 * length ops.now) }
     requires side { inside_at ops.now index ≡ INSIDE }
     requires counted { INSIDE ≡ true → puts_before ops.now index ≡ puts }
-    ensures { result ≡ verdict_of (instruction_no workflow ops.now operands.now index) }
+    ensures { (workflow : ℕ) →
+        at_place workflow index result ≡ verdict_of (instruction_no workflow ops.now operands.now index) }
 {
     let byte = ops[index];
     let word = word_in(operands, index);
-    ask_at(4, workflow, index, is_legal(byte))?;
+    ask_number(4, is_legal(byte))?;
     let entry = operation::entry_of(byte);
     let ranged = is_ranged(entry, byte, ops.len(), index, word);
-    ask_at(5, workflow, index, ranged)?;
+    ask_number(5, ranged)?;
     let sided = is_sided::<INSIDE>(entry, ops, index, word);
-    ask_at(6, workflow, index, sided)?;
-    ask_at(7, workflow, index, is_counted::<INSIDE>(byte, puts))
+    ask_number(6, sided)?;
+    ask_number(7, is_counted::<INSIDE>(byte, puts))
+}
+
+// Where a walk stopped: the question that was answered no, and the instruction. The workflow is put to it behind the walk: a verdict with room
+// for all three, handed back through each block of a workflow, is more to copy, and takes more stack for each.
+#[derive(Clone, Copy, Debug, PartialEq, Eq)]
+struct Stop {
+    question: u8,
+    instruction: usize,
 }
 
 // Two functions that call each other: the requirement names this form. Each hands on fewer instructions than it was given.
+// What the other comes to is handed back by `?`, which copies a no alone: what is handed back whole is copied once for each block.
 // Outside a block, from instruction `first` on, until BEGIN.
 #[cycle(walk_inside_walk_outside)]
-fn walk_outside(ops: &[u8], operands: &[u8], workflow: usize, first: usize) -> Verdict
+fn walk_outside(ops: &[u8], operands: &[u8], first: usize) -> Result<(), Stop>
     requires operands_len { length operands.now ≡ 4 * length ops.now }
     requires outside { inside_at ops.now first ≡ false }
-    ensures { result ≡ verdict_of (first_no (instruction_no workflow ops.now operands.now)
+    ensures { (workflow : ℕ) → stopped workflow result ≡ verdict_of (first_no (instruction_no workflow ops.now operands.now)
         (length ops.now - first) first) }
 {
     for i in first..ops.len() {
-        judge::<false>(ops, operands, workflow, i, 0)?;
+        if let Err(question) = judge::<false>(ops, operands, i, 0) {
+            return Err(Stop {
+                question,
+                instruction: i,
+            });
+        }
         if operation::operation_of(ops[i]) == operation::BEGIN {
-            return walk_inside(ops, operands, workflow, i + 1);
+            walk_inside(ops, operands, i + 1)?;
+            return Ok(());
         }
     }
     Ok(())
@@ -184,18 +209,24 @@ fn walk_outside(ops: &[u8], operands: &[u8], workflow: usize, first: usize) -> V
 
 // Inside a block, from its first instruction on, until END.
 #[cycle(walk_inside_walk_outside)]
-fn walk_inside(ops: &[u8], operands: &[u8], workflow: usize, first: usize) -> Verdict
+fn walk_inside(ops: &[u8], operands: &[u8], first: usize) -> Result<(), Stop>
     requires operands_len { length operands.now ≡ 4 * length ops.now }
     requires begins_inside { (inside_at ops.now first ≡ true) × (puts_before ops.now first ≡ 0) }
-    ensures { result ≡ verdict_of (first_no (instruction_no workflow ops.now operands.now)
+    ensures { (workflow : ℕ) → stopped workflow result ≡ verdict_of (first_no (instruction_no workflow ops.now operands.now)
         (length ops.now - first) first) }
 {
     let mut puts = 0;
     for i in first..ops.len() {
-        judge::<true>(ops, operands, workflow, i, puts)?;
+        if let Err(question) = judge::<true>(ops, operands, i, puts) {
+            return Err(Stop {
+                question,
+                instruction: i,
+            });
+        }
         let op = operation::operation_of(ops[i]);
         if op == operation::END {
-            return walk_outside(ops, operands, workflow, i + 1);
+            walk_outside(ops, operands, i + 1)?;
+            return Ok(());
         }
         puts = puts_behind(op, puts);
     }
@@ -207,7 +238,9 @@ pub fn check_workflow(ops: &[u8], operands: &[u8], workflow: usize) -> Verdict
     requires { (1 ≤ length ops.now) × (length operands.now ≡ 4 * length ops.now) }
     ensures { result ≡ verdict_of (code_no workflow ops.now operands.now) }
 {
-    walk_outside(ops, operands, workflow, 0)?;
+    if let Err(stop) = walk_outside(ops, operands, 0) {
+        return refused(stop.question, workflow, stop.instruction);
+    }
     let last = ops.len() - 1;
     let returns = operation::operation_of(ops[last]) == operation::RETURN;
     ask_at(8, workflow, last, returns)

@@ -207,7 +207,8 @@ pub fn sarthule_restart(slots: &mut [u8], list: &mut [u8], answer: &mut [u8]) ->
     if list.len() < 132 {
         return 102;
     }
-    let mut agents = slots::read_slots(slots);
+    // Whatever records there were, they make no difference: they aren't read.
+    let mut agents = agents::no_agents();
     let mut left = worklist::read_list(list);
     runtime::restart(&mut agents, &mut left);
     slots::write_slots(slots, agents);

@@ -73,6 +73,12 @@ module _ (p : List ℕ) where
   unfolding question3
   length_asked a t e h = rw (← e) h
 
+  -- the three questions, by their answers
+  pub layout_asked : (a b c : Bool) → question1 p ≡ a → question2 p ≡ b → question3 p ≡ c →
+      layout_no p ≡ ask (number 1) a (ask (number 2) b (ask (number 3) c none))
+  unfolding layout_no
+  layout_asked a b c e f g = rw (e, f, g)
+
   -- the verdict on a question is that on the layout, where those before it were answered yes
   module _ (v : Verdict) where
     pub stops_1 : (t : Bool) (m : Refusal) → question1 p ≡ t → v ≡ verdict_of (ask (number 1) t none) → v ≡ Err m →

@@ -1,5 +1,5 @@
 -- Each call has fewer instructions ahead. Each loop: the side of the instruction that comes next, and that those before it were answered yes.
-use Rattle.std.proofs.Common.{◌≡◌, true, false, ◌-◌, ◌≤◌, length}
+use Rattle.std.proofs.Common.{ℕ, ◌≡◌, true, false, ◌-◌, ◌≤◌, length}
 use Rattle.questions.specs.Questions.{first_no}
 use Rattle.code.specs.Questions.{inside_at, puts_before}
 use Rattle.code.specs.Refusal.{instruction_no}
@@ -17,14 +17,14 @@ invariant-walk_inside-loop-i l =
       inside : inside_at l.ops l.i ≡ true;
       counted : puts_before l.ops l.i ≡ l.puts;
       few : l.puts ≤ 16;
-      ahead : first_no (instruction_no l.workflow l.ops l.operands) (length l.ops - l.fn.first) l.fn.first
-          ≡ first_no (instruction_no l.workflow l.ops l.operands) (length l.ops - l.i) l.i;
+      ahead : (workflow : ℕ) → first_no (instruction_no workflow l.ops l.operands) (length l.ops - l.fn.first) l.fn.first
+          ≡ first_no (instruction_no workflow l.ops l.operands) (length l.ops - l.i) l.i;
     }
 
 abbrev pub invariant-walk_outside-loop-i : goal.invariant-walk_outside-loop-i
 invariant-walk_outside-loop-i l =
     record {
       outside : inside_at l.ops l.i ≡ false;
-      ahead : first_no (instruction_no l.workflow l.ops l.operands) (length l.ops - l.fn.first) l.fn.first
-          ≡ first_no (instruction_no l.workflow l.ops l.operands) (length l.ops - l.i) l.i;
+      ahead : (workflow : ℕ) → first_no (instruction_no workflow l.ops l.operands) (length l.ops - l.fn.first) l.fn.first
+          ≡ first_no (instruction_no workflow l.ops l.operands) (length l.ops - l.i) l.i;
     }

@@ -1,5 +1,5 @@
 -- `host::sarthule_figures`: a buffer too short, or the figures.
-use Rattle.std.proofs.Common.{◌≡◌, refl, sym, ◌∙◌, ap, Result}
+use Rattle.std.proofs.Common.{sym, ap, Result}
 use Rattle.questions.specs.declared.Refusal.{Refusal}
 use Rattle.figures.specs.declared.Figured.{Figured}
 use Rattle.figures.specs.Answered.{verdict_in}

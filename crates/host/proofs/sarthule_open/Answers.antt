@@ -1,7 +1,6 @@
 -- `host::sarthule_open`: a buffer too short, a no, or where the parts stand.
-use Rattle.std.proofs.Common.{◌≡◌, ◌<◌, ◌*◌, refl, sym, ◌∙◌, ap, arith, Err}
+use Rattle.std.proofs.Common.{refl, arith}
 use Rattle.std.proofs.Math.Option.{none}
-use Rattle.pack.specs.Refusal.{open_refusal}
 use Rattle.pack.proofs.Workflows.{open_laid, open_below}
 use Rattle.agents.proofs.Answers.{accepted_none, refused_some}
 use Rattle.host.specs.Told.{opened_parts}

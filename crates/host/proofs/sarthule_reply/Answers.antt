@@ -1,8 +1,7 @@
 -- `host::sarthule_reply`: a buffer too short, or what is known.
-use Rattle.std.proofs.Common.{◌≡◌, ◌<◌, refl, sym, ◌∙◌, ap, arith, Ok, Err, Some, None, ℕ}
+use Rattle.std.proofs.Common.{◌≡◌, refl, sym, ◌∙◌, ap, arith, Ok, Err, Some, None, ℕ}
 use Rattle.agents.specs.Answers as AgentAnswers
 use Rattle.answers.specs.Answers as Answers
-use Rattle.runtime.specs.Known.{Known}
 use Rattle.store.specs.Answers.{Got}
 use Rattle.host.proofs.Told.{reply_short, reply_told}
 use Rattle.host.proofs.sarthule_reply.Goals as goal

@@ -21,6 +21,8 @@ returns-in-Ok c =
     (sym c.log_row.ensures ∙ c.in-Ok.is)
     ∙ ap some (sym c.value_at.ensures)) refl
 
+-- there is no such row: the block is run, and where there is room
+-- what it puts is written with its log row
 pub returns-in-Err : goal.returns-in-Err
 returns-in-Err c =
     let a = c.args in
