@@ -1,20 +1,8 @@
 -- The order of the questions to one workflow: the first no is the refusal.
-use Rattle.std.specs.Prelude.{List, ℕ, ◌-◌, length, Result, Ok, Err, ⊤}
+use Rattle.std.specs.Prelude.{List, ℕ, ◌-◌, length}
 use Rattle.std.proofs.Math.Option.{Option, none}
 use Rattle.questions.specs.Questions.{No, no, ask, or_else, first_no}
-use Rattle.questions.specs.Verdicts.{Verdict, refusal_of}
-use Rattle.code.specs.declared.Stop.{Stop}
 use Rattle.code.specs.Questions.{question4, question5, question6, question7, question8}
-
--- a no that the code has by its number alone, at its place
-abbrev pub at_place : (workflow index : ℕ) → Result ⊤ ℕ → Verdict
-at_place workflow index (Ok u) = Ok u
-at_place workflow index (Err question) = Err (refusal_of (no question workflow index))
-
--- where a walk stopped, as a no of its workflow
-abbrev pub stopped : (workflow : ℕ) → Result ⊤ Stop → Verdict
-stopped workflow (Ok u) = Ok u
-stopped workflow (Err s) = Err (refusal_of (no s.question workflow s.instruction))
 
 -- 4 to 7, put to an instruction of a workflow
 unfoldable pub instruction_no : (workflow : ℕ) (ops ws : List ℕ) (index : ℕ) → Option No

@@ -11,7 +11,8 @@ ghost use Rattle.operation.specs.Parts.{operation_of, register_of, target_of};
 ghost use Rattle.code.specs.Layout.{word_at};
 ghost use Rattle.code.specs.Questions.{legal, in_range, register_right, inside_behind, inside_at, stands, is_no_end, lands_from, lands};
 ghost use Rattle.code.specs.Questions.{puts_before, counted};
-ghost use Rattle.code.specs.Refusal.{at_place, stopped, instruction_no, code_no};
+ghost use Rattle.code.specs.Refusal.{instruction_no, code_no};
+ghost use Rattle.code.specs.Stopped.{at_place, stopped};
 
 use operation::{Entry, Operand, Side};
 use questions::{Verdict, ask_at, refused};
@@ -174,8 +175,8 @@ fn judge<const INSIDE: bool>(
     ask_number(7, is_counted::<INSIDE>(byte, puts))
 }
 
-// Where a walk stopped: the question that was answered no, and the instruction. The workflow is put to it behind the walk: a verdict with room
-// for all three, handed back through each block of a workflow, is more to copy, and takes more stack for each.
+// Where a walk stopped: the question that was answered no, and the instruction. The workflow is put to it behind the walk: a verdict, with
+// room for all three, would be handed back through each block of a workflow, and takes more to copy and more stack at each.
 #[derive(Clone, Copy, Debug, PartialEq, Eq)]
 struct Stop {
     question: u8,

@@ -31,7 +31,8 @@ value_at-workflow-requires c = (
 pub booked_request-known-requires : goal.booked_request-known-requires
 booked_request-known-requires c = (store_ok _ c.requires.0).0
 
--- what the book has of a known id is what was read, and the answer is question 18's
+-- what the book has of a known id is what was read,
+-- and the answer is question 18's
 pub returns-in-Ok : goal.returns-in-Ok
 unfolding contents_of
 returns-in-Ok c =

@@ -5,7 +5,7 @@ use Rattle.questions.specs.Verdicts.{verdict_of}
 use Rattle.questions.proofs.Chains.{accepted, first_yes, first_stop, first_done}
 use Rattle.operation.specs.Operations.{op_end, op_put}
 use Rattle.code.specs.Layout.{operation_at}
-use Rattle.code.specs.Refusal.{at_place, stopped}
+use Rattle.code.specs.Stopped.{at_place, stopped}
 use Rattle.code.proofs.Steps.{stays, stays_inside, puts_next, puts_few, turns}
 use Rattle.code.proofs.+walk_inside_walk_outside.Goals as goal
 
@@ -23,12 +23,16 @@ pub walk_inside-returns-in_err-walk_outside : goal.walk_inside-returns-in_err-wa
 walk_inside-returns-in_err-walk_outside t c w =
     let r : c.from_residual.result ≡ Err c.in_err-walk_outside.field-0.0 = search rules in
     ap (stopped w) (r ∙ sym c.in_err-walk_outside.was) ∙ c.walk_outside.ensures w
-    ∙ ap verdict_of (sym (c.loop-i.invariant.ahead w ∙ first_yes _ _ _ c.loop-i-test.true _ (c.judge.ensures w) (ap (at_place w c.loop-i.i) c.in_default.is)))
+    ∙ ap verdict_of
+    (sym (c.loop-i.invariant.ahead w
+    ∙ first_yes _ _ _ c.loop-i-test.true _ (c.judge.ensures w) (ap (at_place w c.loop-i.i) c.in_default.is)))
 
 pub walk_inside-returns-then-op-eq-END : goal.walk_inside-returns-then-op-eq-END
 walk_inside-returns-then-op-eq-END t c w =
     ap (stopped w) (sym c.in_ok-walk_outside.was) ∙ c.walk_outside.ensures w
-    ∙ ap verdict_of (sym (c.loop-i.invariant.ahead w ∙ first_yes _ _ _ c.loop-i-test.true _ (c.judge.ensures w) (ap (at_place w c.loop-i.i) c.in_default.is)))
+    ∙ ap verdict_of
+    (sym (c.loop-i.invariant.ahead w
+    ∙ first_yes _ _ _ c.loop-i-test.true _ (c.judge.ensures w) (ap (at_place w c.loop-i.i) c.in_default.is)))
 
 pub walk_inside-loop-i-preserved : goal.walk_inside-loop-i-preserved
 walk_inside-loop-i-preserved t c =
@@ -63,12 +67,16 @@ pub walk_outside-returns-in_err-walk_inside : goal.walk_outside-returns-in_err-w
 walk_outside-returns-in_err-walk_inside t c w =
     let r : c.from_residual.result ≡ Err c.in_err-walk_inside.field-0.0 = search rules in
     ap (stopped w) (r ∙ sym c.in_err-walk_inside.was) ∙ c.walk_inside.ensures w
-    ∙ ap verdict_of (sym (c.loop-i.invariant.ahead w ∙ first_yes _ _ _ c.loop-i-test.true _ (c.judge.ensures w) (ap (at_place w c.loop-i.i) c.in_default.is)))
+    ∙ ap verdict_of
+    (sym (c.loop-i.invariant.ahead w
+    ∙ first_yes _ _ _ c.loop-i-test.true _ (c.judge.ensures w) (ap (at_place w c.loop-i.i) c.in_default.is)))
 
 pub walk_outside-returns-then-operation_of-eq-BEGIN : goal.walk_outside-returns-then-operation_of-eq-BEGIN
 walk_outside-returns-then-operation_of-eq-BEGIN t c w =
     ap (stopped w) (sym c.in_ok-walk_inside.was) ∙ c.walk_inside.ensures w
-    ∙ ap verdict_of (sym (c.loop-i.invariant.ahead w ∙ first_yes _ _ _ c.loop-i-test.true _ (c.judge.ensures w) (ap (at_place w c.loop-i.i) c.in_default.is)))
+    ∙ ap verdict_of
+    (sym (c.loop-i.invariant.ahead w
+    ∙ first_yes _ _ _ c.loop-i-test.true _ (c.judge.ensures w) (ap (at_place w c.loop-i.i) c.in_default.is)))
 
 pub walk_outside-loop-i-preserved : goal.walk_outside-loop-i-preserved
 walk_outside-loop-i-preserved t c =

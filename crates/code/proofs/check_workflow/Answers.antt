@@ -3,7 +3,7 @@ use Rattle.std.proofs.Common.{refl, sym, ◌∙◌, ap, eqb}
 use Rattle.questions.specs.Verdicts.{verdict_of}
 use Rattle.questions.proofs.Chains.{first_all}
 use Rattle.code.specs.Questions.{inside_at, question8}
-use Rattle.code.specs.Refusal.{stopped}
+use Rattle.code.specs.Stopped.{stopped}
 use Rattle.code.proofs.Walked.{code_refused, code_walked}
 use Rattle.code.proofs.check_workflow.Goals as goal
 

@@ -1,7 +1,7 @@
 -- The questions' answers in order.
 use Rattle.std.proofs.Common.{rules, ◌≡◌, sym, ◌∙◌, ap}
 use Rattle.code.specs.Questions.{question4}
-use Rattle.code.specs.Refusal.{at_place}
+use Rattle.code.specs.Stopped.{at_place}
 use Rattle.code.proofs.Asked.{asked_yes}
 use Rattle.code.proofs.Judged.{stops_4, stops_5, stops_6, comes_to_7, asked_5, asked_6, asked_7, ranged_operand, no_put}
 use Rattle.code.proofs.judge.Goals as goal
