@@ -11,6 +11,8 @@ pub walk_outside-requires-clause-outside : goal.walk_outside-requires-clause-out
 unfolding inside_at
 walk_outside-requires-clause-outside c = refl
 
+-- where the walk stopped is the first no of the workflow,
+-- and question 8 is not put
 pub returns-in-Err : goal.returns-in-Err
 returns-in-Err c =
     let w = c.args.workflow in
